@@ -1,0 +1,10 @@
+pub mod Ops
+pub mod Rules
+pub mod Methods
+pub mod Floor
+pub mod Sqrt
+pub mod MulAdd
+pub mod Exp
+pub mod Ln
+pub mod Cody
+pub mod NormalDistribution

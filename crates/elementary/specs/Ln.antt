@@ -1,0 +1,60 @@
+-- Document 01's ln and powf(1/3), operation by operation. Definitions only.
+use mathlib.Core.Bool.{true, false, cond}
+use Prim.Native.Nat.{ℕ, zero, suc, _+_, _-_, _*_, _^_}
+use lib.Ieee.{Float, nan, inf, fin, binary64, low, size, minus, round, ofInt, lt, eq, ne}
+use Rattle.elementary.specs.Ops.{_⊕_, _⊖_, _⊗_, _⊘_, bits, whole, +0, half, one, two, H, L}
+use Rattle.elementary.specs.Sqrt.{inUnits}
+use Rattle.elementary.specs.Exp.{expOf}
+use Rattle.elementary.specs.Methods.{isZero}
+
+-- 1.4142135623730951
+abbrev pub SQRT-2 : Float
+SQRT-2 = bits 0x3ff6_a09e_667f_3bcd
+
+-- y = m × 2^e with 1 ≤ m < 2, for a y above 0. In units of the smallest value, 2^−1074, y is a whole number of e + 1075 binary digits.
+unfoldable pub placeOf : Float → ℕ
+unfolding inUnits size
+placeOf y = size (inUnits binary64 y) - 1
+
+unfoldable pub significandOf : Float → Float
+unfolding inUnits placeOf round
+significandOf y = round binary64 false (inUnits binary64 y) (2 ^ placeOf y)
+
+-- a place among the digits as the exponent e
+abbrev pub exponentAt : ℕ → Float
+exponentAt place = ofInt binary64 (minus place (low binary64))
+
+-- q becomes 1/(2 × i + 1) + z × q, for i from n − 1 down to 0
+unfoldable pub lnSum : ℕ → Float → Float → Float
+lnSum zero z q = q
+lnSum (suc i) z q = lnSum i z (one ⊘ whole (2 * i + 1) ⊕ z ⊗ q)
+
+-- the result for m and e, after m is halved where it is to be
+unfoldable pub lnAt : Float → Float → Float
+unfolding lnSum
+lnAt m e =
+    let f = m ⊖ one in
+    let u = f ⊘ (two ⊕ f) in
+    let z = u ⊗ u in
+    let q = lnSum 11 z (one ⊘ whole 23) in
+    e ⊗ H ⊕ (two ⊗ u ⊗ q ⊕ e ⊗ L)
+
+-- ln of a finite y above 0. m is halved where it is above √2
+unfoldable pub lnInner : Float → Float
+unfolding lnAt placeOf significandOf
+lnInner y =
+    let m = significandOf y in
+    let e = placeOf y in
+    let above = lt SQRT-2 m in
+    lnAt (cond above (half ⊗ m) m) (exponentAt (cond above (suc e) e))
+
+unfoldable pub lnOf : Float → Float
+unfolding lnInner
+lnOf y =
+    let inner = lnInner y in
+    cond (ne y y) nan (cond (lt y +0) nan (cond (eq y +0) (inf true) (cond (eq y (inf false)) (inf false) inner)))
+
+-- powf(1/3)
+unfoldable pub cubeRootOf : Float → Float
+unfolding lnOf expOf
+cubeRootOf y = let root = expOf (lnOf y ⊗ (one ⊘ whole 3)) in cond (isZero y) +0 root

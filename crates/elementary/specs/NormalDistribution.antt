@@ -1,0 +1,51 @@
+-- The normal distribution, normal_distribution.rs over document 01's rules. Definitions only.
+use mathlib.Core.Bool.{Bool, true, false, cond}
+use Prim.Native.Nat.{ℕ, zero, suc}
+use lib.Ieee.{Float, nan, inf, neg, lt, le, ne}
+use Rattle.elementary.specs.Ops.{_⊕_, _⊗_, bits, +0, half, one, two}
+use Rattle.elementary.specs.Rules.{Rules}
+use Rattle.elementary.specs.Cody.{erfcOf}
+
+abbrev pub FRAC-1-SQRT-2 : Float
+FRAC-1-SQRT-2 = bits 0x3fe6_a09e_667f_3bcd
+
+unfoldable pub cdfOf : Rules → Float → Float
+unfolding erfcOf
+cdfOf rules y = half ⊗ erfcOf rules (neg y ⊗ FRAC-1-SQRT-2)
+
+-- ---- the bisection behind the inverse, over any cdf
+
+pub record Ends : Type 0 where
+  pub lo : Float
+  pub hi : Float
+
+abbrev pub midOf : Float → Float → Float
+midOf lo hi = half ⊗ (lo ⊕ hi)
+
+-- n times the middle becomes lo if its cdf is below p, else hi
+unfoldable pub bisected : (Float → Float) → ℕ → Float → Float → Float → Ends
+bisected cdf zero p lo hi = record { lo = lo; hi = hi }
+bisected cdf (suc n) p lo hi =
+    let mid = midOf lo hi in
+    let below = lt (cdf mid) p in
+    bisected cdf n p (cond below mid lo) (cond below hi mid)
+
+-- −39 and 39
+abbrev pub lowest : Float
+lowest = neg (bits 0x4043_8000_0000_0000)
+
+abbrev pub highest : Float
+highest = bits 0x4043_8000_0000_0000
+
+-- the ends after the 64 turns
+unfoldable pub endsOf : Rules → Float → Ends
+unfolding bisected cdfOf
+endsOf rules p = bisected (cdfOf rules) 64 p lowest highest
+
+unfoldable pub inverseOf : Rules → Float → Float
+unfolding endsOf
+inverseOf rules p = let inside = endsOf rules p .hi in cond (ne p p) nan (cond (le p +0) (inf true) (cond (le one p) (inf false) inside))
+
+unfoldable pub inverseFUpperMapOf : Rules → Float → Float
+unfolding inverseOf
+inverseFUpperMapOf rules f = neg two ⊗ inverseOf rules f

@@ -1,0 +1,11 @@
+// Layer 1: elementary functions, Cody's functions and the normal distribution, each equal bit for
+// bit to its definition in specs/.
+pub mod methods; // abs, max, is_zero, powi(2), and the border between floats and bits
+pub mod floor;
+pub mod sqrt;
+mod round; // the rounding leaf: whatever packs a float from whole numbers
+pub mod exp;
+pub mod mul_add;
+pub mod ln; // ln and powf(1/3)
+pub mod cody; // cody/optimized.rs
+pub mod normal_distribution; // normal_distribution.rs
