@@ -1,11 +1,10 @@
 -- What a float's tests and its bits say of it: the NaN, the sign, the size. Assumes nothing.
-use mathlib.Core.Path.{_≡_, refl, sym, ap, _∙_, subst}
+use mathlib.Core.Path.{_≡_, refl, sym, ap, _∙_}
 use mathlib.Core.Bool.{Bool, true, false, not, cond}
 use Prim.Native.Nat.{ℕ, _+_, _*_, _%_, _^_, _<_, _≤_}
 use native.Mathlib.Omega.{arith}
-use lib.Dec.{T, leb, eqb, eqb-refl, lt→ltb, le→leb}
+use lib.Dec.{T, leb, eqb, eqb-refl, lt→ltb, le→leb, nleb→lt}
 use lib.Arith.{le→nltb, lt→nleb}
-use lib.IntN.{ℤ}
 use lib.Ieee.{Float, nan, inf, fin, binary64, up, down, ne, lt, div, neg, isNan, fits, ofBits, toBits, nanBits}
 use lib.Ieee.Fits.{neg-fits}
 use lib.Ieee.Bits.{is-true, is-false, toBits-lt, ofBits-toBits, nanBits-is, nanBits-above}
@@ -86,11 +85,17 @@ cut false b a e l = (omega arith, sym (is-false _ (lt→nleb (2 ^ 63) b (omega a
 
 module _ (x : Float) (f : T (fits binary64 x)) (n : T (not (isNan x))) where
   -- the sign is the first bit
+  pub sign-bit : signOf x ≡ leb (2 ^ 63) (toBits binary64 x)
+  sign-bit = cut (signOf x) _ _ (split x f n .0) (split x f n .1) .1
+
   pub sign-clear : toBits binary64 x < 2 ^ 63 → signOf x ≡ false
-  sign-clear h = cut (signOf x) _ _ (split x f n .0) (split x f n .1) .1 ∙ is-false _ (lt→nleb (2 ^ 63) _ h)
+  sign-clear h = sign-bit ∙ is-false _ (lt→nleb (2 ^ 63) _ h)
 
   pub sign-set : 2 ^ 63 ≤ toBits binary64 x → signOf x ≡ true
-  sign-set h = cut (signOf x) _ _ (split x f n .0) (split x f n .1) .1 ∙ is-true _ (le→leb (2 ^ 63) _ h)
+  sign-set h = sign-bit ∙ is-true _ (le→leb (2 ^ 63) _ h)
+
+  pub no-sign : signOf x ≡ false → toBits binary64 x < 2 ^ 63
+  no-sign h = nleb→lt (2 ^ 63) (toBits binary64 x) (rw (← sign-bit, h) tt)
 
   -- the other bits are abs's
   pub abs-bits : ofBits binary64 (toBits binary64 x % 2 ^ 63) ≡ absOf x

@@ -64,21 +64,19 @@ fn positive(b: u64) -> f64
     scaled(b % 0x10_0000_0000_0000 + 0x10_0000_0000_0000, e)
 }
 
+// IEEE 754's squareRoot: a zero stays itself, a NaN and whatever is below 0 give NaN.
 pub fn sqrt(x: f64) -> f64
     ensures { λ r. ⌜ r ≡ sqrtOf binary64 x ⌝ }
 {
-    if x != x {
+    if x > 0.0 {
+        let b = f64::to_bits(x);
+        if b < 0x7ff0_0000_0000_0000 {
+            return positive(b);
+        }
         return x;
     }
-    let b = f64::to_bits(x);
-    if b % 0x8000_0000_0000_0000 == 0 {
+    if x == 0.0 {
         return x;
     }
-    if b > 0x8000_0000_0000_0000 {
-        return 0.0 / 0.0;
-    }
-    if b >= 0x7ff0_0000_0000_0000 {
-        return x;
-    }
-    positive(b)
+    0.0 / 0.0
 }

@@ -1,24 +1,26 @@
 -- What `roundRoot` gives where the root's first 54 digits are known, and the bits of that. Assumes nothing.
 use mathlib.Core.Path.{_≡_, refl, sym, ap, _∙_, subst}
 use mathlib.Core.Logic.{_⊎_, inl, inr}
-use mathlib.Core.Bool.{Bool, true, false, not, cond, true≢false}
+use mathlib.Core.Bool.{true, false, not, true≢false}
 use Prim.Native.Nat.{ℕ, zero, suc, _+_, _-_, _*_, _/_, _%_, _^_, _≤_, _<_, compare, Ordering, Ordering·lt, Ordering·eq, Ordering·gt}
-use native.Mathlib.Nat.{le-trans, lt-of-not-le, not-le-of-lt, lt-of-lt-of-le, le-antisymm, mul-assoc, mul-comm, mul-left-comm, mul-one, suc-mul, pow-suc, mul-le-mul-right, mul-lt-mul-of-pos-right, mul-pos, mul-div-cancel, zero-mul, div-eq-of-lt-le, div-div-eq-div-mul}
+use native.Mathlib.Nat.{le-trans, lt-of-not-le, not-le-of-lt, lt-of-lt-of-le, le-antisymm, eq-or-lt-of-le, mul-assoc, mul-comm, mul-left-comm, suc-mul, pow-suc, mul-le-mul-right, mul-lt-mul-of-pos-right, mul-pos, zero-mul, div-eq-of-lt-le, div-div-eq-div-mul}
 use native.Mathlib.Decide.{decLe}
 use native.Mathlib.Numerals.{add-one}
 use native.Mathlib.Omega.{arith}
-use lib.Dec.{T, leb, eqb, eqb→eq, le→leb, not-T}
-use lib.Arith.{le→nltb, lt→nleb}
+use lib.Dec.{T, leb}
+use lib.Arith.{lt→nleb}
 use lib.Pow.{pow-add, pow-pos, pow-mono, shl-lt, shl-exact}
 use lib.Count.{leadingZeros, leading-top}
-use lib.Ieee.{Float, nan, inf, fin, binary64, up, down, size, nearest, odd, units, ofFields, ofBits, toBits, nanBits}
+use lib.Ieee.{Float, nan, inf, fin, binary64, up, down, size, nearest, units, ofBits, nanBits}
 use lib.Ieee.Digits.{size-lt, size-le}
 use lib.Ieee.Fits.{down-pos}
-use lib.Ieee.Exact.{HasValue, units-val, odd-sign}
-use lib.Ieee.Bits.{is-true, is-false, cond-no, ofBits-toBits, nanBits-above}
-use Rattle.elementary.specs.Sqrt.{isqrt, roundRoot, inUnits, sqrtOf}
+use lib.Ieee.Exact.{HasValue, units-val}
+use lib.Ieee.Bits.{is-false, ofBits-fits}
+use Rattle.elementary.specs.Sqrt.{isqrt, roundRoot, sqrtOf}
 use Rattle.elementary.specs.Sqrt.Nearest.{Cmp, cmp, units-of, units-fits}
 use Rattle.elementary.specs.Sqrt.Isqrt.{sq-lt, sq-suc, sq-twice, isqrt-root}
+use Rattle.elementary.proofs.Bits.{nan-pattern, no-nan-pattern}
+use Rattle.elementary.proofs.Values.{recast, value-low, value-mid, value-inf, value-packed, value-unique}
 
 -- ---- which way `nearest` goes
 by-order : (q r a b : ℕ) → (a < b → q ≡ r) → (b < a → suc q ≡ r) → (a ≡ b → ⊥) → nearest q (compare a b) ≡ r
@@ -118,31 +120,13 @@ module _ (a w h : ℕ) (lo : 2 ^ 62 ≤ a) (hi : a + 2 ^ 11 ≤ 2 ^ 64) (below :
       ∙ ap (λ (z : ℕ). rounded n (isqrt n) z) k
       ∙ rw (first-digits, pow-suc 2 h) (ap (λ (z : ℕ). units binary64 false z (suc h)) (choice w (a * 2 ^ 44) (2 ^ h) (pow-pos h) (side w (a * 2 ^ 44) below above (omega arith))))
 
--- ---- values, by their size in units of the smallest
-bits-of : (x : Float) (a : ℕ) → HasValue x false a (2 ^ 1074) → toBits binary64 x ≡ (size a - 53) * 2 ^ 52 + a / 2 ^ (size a - 53)
-unfolding toBits inUnits
-bits-of nan a h = absurd h
-bits-of (inf t) a h = absurd h
-bits-of (fin t m e) a h = rw (h .0, units-of binary64 (fin t m e) t a (refl, h .1)) (omega arith)
-
-module _ (r k : ℕ) (lo : 2 ^ 52 ≤ r) (hi : r < 2 ^ 53) (small : k < 2000) where
-  fits-in : r * 2 ^ k < 2 ^ 2098
-  fits-in = lt-of-lt-of-le (shl-lt 53 k hi) (pow-mono {i = 53 + k} {j = 2098} (omega arith))
-
-  r-size : size (r * 2 ^ k) ≡ 53 + k
-  r-size =
-      let l : 2 ^ (52 + k) ≤ r * 2 ^ k = rw pow-add (mul-le-mul-right (2 ^ k) lo) in
-      let e : suc (52 + k) ≡ 53 + k = omega arith in
-      size-is (r * 2 ^ k) (52 + k) l (rw e (shl-lt 53 k hi)) ∙ e
-
-  units-bits : toBits binary64 (units binary64 false r k) ≡ k * 2 ^ 52 + r
-  units-bits =
-      let e : size (r * 2 ^ k) - 53 ≡ k = omega (arith, r-size) in
-      bits-of (units binary64 false r k) (r * 2 ^ k) (units-val binary64 false r k fits-in)
-      ∙ rw e (ap (λ (z : ℕ). k * 2 ^ 52 + z) (mul-div-cancel r (pow-pos k)))
-
-  pub written : ofBits binary64 (k * 2 ^ 52 + r) ≡ units binary64 false r k
-  written = rw (← units-bits) (ofBits-toBits binary64 (units binary64 false r k) (units-fits binary64 r k (omega arith) fits-in))
+-- ---- the bits of a rounded root
+pub written : (r k : ℕ) → 2 ^ 52 ≤ r → r < 2 ^ 53 → k < 2000 → ofBits binary64 (k * 2 ^ 52 + r) ≡ units binary64 false r k
+written r k lo hi small =
+    let room : r * 2 ^ k < 2 ^ 2098 = lt-of-lt-of-le (shl-lt 53 k hi) (pow-mono {i = 53 + k} {j = 2098} (omega arith)) in
+    value-unique (ofBits binary64 (k * 2 ^ 52 + r)) (units binary64 false r k) false (r * 2 ^ k)
+    (ofBits-fits binary64 (k * 2 ^ 52 + r)) (units-fits binary64 r k (omega arith) room)
+    (value-packed false k r lo (omega arith) (omega arith)) (units-val binary64 false r k room)
 
 -- ---- `sqrtOf` at a finite value that is not 0
 no-zero : (u c a d : ℕ) → 0 * u * c ≡ a * d → 0 < a → 0 < d → ⊥
@@ -155,14 +139,6 @@ sqrt-positive (inf t) a h p = absurd h
 sqrt-positive (fin t zero e) a h p = absurd (no-zero (up e) (2 ^ 1074) a (down e) (h .1) p (down-pos e))
 sqrt-positive (fin true (suc m) e) a h p = absurd (true≢false (h .0))
 sqrt-positive (fin false (suc m) e) a h p = ap (λ (z : ℕ). roundRoot binary64 (z * 2 ^ 1074)) (units-of binary64 (fin false (suc m) e) false a h)
-
-pub sqrt-negative : (x : Float) (a : ℕ) → HasValue x true a (2 ^ 1074) → 0 < a → sqrtOf binary64 x ≡ nan
-unfolding sqrtOf
-sqrt-negative nan a h p = refl
-sqrt-negative (inf t) a h p = absurd h
-sqrt-negative (fin t zero e) a h p = absurd (no-zero (up e) (2 ^ 1074) a (down e) (h .1) p (down-pos e))
-sqrt-negative (fin true (suc m) e) a h p = refl
-sqrt-negative (fin false (suc m) e) a h p = absurd (true≢false (sym (h .0)))
 
 -- ---- the shift that normalises m
 module _ (m e : ℕ) (m-pos : 0 < m) (m-lt : m < 2 ^ 53) (e-lo : 1 ≤ e) (e-hi : e < 2047) where
@@ -224,9 +200,7 @@ module _ (m e : ℕ) (m-pos : 0 < m) (m-lt : m < 2 ^ 53) (e-lo : 1 ≤ e) (e-hi 
     root-in = (w-lo (m * 2 ^ s) w h a-lo a-hi below' above', w-hi (m * 2 ^ s) w h a-lo a-hi below' above')
 
     pub made-no-nan : T (not (nanBits binary64 ((e + 1031 - s) / 2 * 2 ^ 52 + (w + 1) / 2)))
-    made-no-nan =
-        let b = (e + 1031 - s) / 2 * 2 ^ 52 + (w + 1) / 2 in
-        rw (nanBits-above binary64 b) (le→nltb (2047 * 2 ^ 52) (b % 2 ^ 63) (omega (arith, root-in)))
+    made-no-nan = no-nan-pattern ((e + 1031 - s) / 2 * 2 ^ 52 + (w + 1) / 2) (omega (arith, root-in))
 
     pub made : ofBits binary64 ((e + 1031 - s) / 2 * 2 ^ 52 + (w + 1) / 2) ≡ roundRoot binary64 (m * 2 ^ (e + 1073))
     made =
@@ -235,60 +209,30 @@ module _ (m e : ℕ) (m-pos : 0 < m) (m-lt : m < 2 ^ 53) (e-lo : 1 ≤ e) (e-hi 
         (written ((w + 1) / 2) (suc h) (omega (arith, root-in)) (omega (arith, root-in)) (omega arith)
         ∙ sym (root-rounded (m * 2 ^ s) w h a-lo a-hi below' above'))
 
--- ---- a pattern's value
-fields : (b : ℕ) (s : Bool) (x t : ℕ) → leb (2 ^ 63) b ≡ s → b % 2 ^ 63 / 2 ^ 52 ≡ x → b % 2 ^ 52 ≡ t → ofBits binary64 b ≡ ofFields binary64 s x t
-unfolding ofBits
-fields b s x t p q r = rw (p, q, r)
+-- ---- `sqrtOf` at a pattern above 0
+module _ (b : ℕ) (plus : b < 2 ^ 63) where
+  no-sign : leb (2 ^ 63) b ≡ false
+  no-sign = is-false (leb (2 ^ 63) b) (lt→nleb (2 ^ 63) b plus)
 
-pub root-low : (b : ℕ) → 0 < b → b < 2 ^ 52 → sqrtOf binary64 (ofBits binary64 b) ≡ roundRoot binary64 (b * 2 ^ 1074)
-unfolding ofFields
-root-low b p l =
-    ap (λ (y : Float). sqrtOf binary64 y) (fields b false 0 b (is-false (leb (2 ^ 63) b) (lt→nleb (2 ^ 63) b (omega arith))) (omega arith) (omega arith))
-    ∙ sqrt-positive (odd 53 false b 0 1074) (b * 2 ^ 0) (odd-sign 53 false b 0 1074) (omega arith)
-    ∙ rw mul-one refl
+  pub root-low : 0 < b → b < 2 ^ 52 → sqrtOf binary64 (ofBits binary64 b) ≡ roundRoot binary64 (b * 2 ^ 1074)
+  root-low p l =
+      let same : b % 2 ^ 63 ≡ b = omega arith in
+      sqrt-positive (ofBits binary64 b) b (recast (ofBits binary64 b) (2 ^ 1074) no-sign same (value-low b (omega arith))) p
 
-pub root-mid : (b : ℕ) → 2 ^ 52 ≤ b → b < 2047 * 2 ^ 52 → sqrtOf binary64 (ofBits binary64 b) ≡ roundRoot binary64 ((b % 2 ^ 52 + 2 ^ 52) * 2 ^ (b / 2 ^ 52 + 1073))
-unfolding ofFields
-root-mid b l u =
-    let t = b % 2 ^ 52 in
-    let x = b / 2 ^ 52 - 1 in
-    let e : b % 2 ^ 63 / 2 ^ 52 ≡ suc x = omega arith in
-    let k : x + 1074 ≡ b / 2 ^ 52 + 1073 = omega arith in
-    let c : 2 ^ 52 + t ≡ t + 2 ^ 52 = omega arith in
-    ap (λ (y : Float). sqrtOf binary64 y)
-    (fields b false (suc x) t (is-false (leb (2 ^ 63) b) (lt→nleb (2 ^ 63) b (omega arith))) e refl
-    ∙ cond-no (eqb (suc x) 2047) (cond (eqb t 0) (inf false) nan) (odd 53 false (2 ^ 52 + t) x 1074) (not-T (eqb (suc x) 2047) (λ v. let i = eqb→eq (suc x) 2047 v in omega arith)))
-    ∙ sqrt-positive (odd 53 false (2 ^ 52 + t) x 1074) ((2 ^ 52 + t) * 2 ^ x) (odd-sign 53 false (2 ^ 52 + t) x 1074) (mul-pos {m = 2 ^ 52 + t} {n = 2 ^ x} (omega arith) (pow-pos x))
-    ∙ ap (λ (y : ℕ). roundRoot binary64 y) (mul-assoc (2 ^ 52 + t) (2 ^ x) (2 ^ 1074) ∙ rw (← pow-add 2 x 1074, k, c) refl)
+  pub root-mid : 2 ^ 52 ≤ b → b < 2047 * 2 ^ 52 → sqrtOf binary64 (ofBits binary64 b) ≡ roundRoot binary64 ((b % 2 ^ 52 + 2 ^ 52) * 2 ^ (b / 2 ^ 52 + 1073))
+  root-mid l u =
+      let k = b / 2 ^ 52 - 1 in
+      let m = b % 2 ^ 52 + 2 ^ 52 in
+      let same : 2 ^ 52 + b % 2 ^ 52 ≡ m = omega arith in
+      let e : k + 1074 ≡ b / 2 ^ 52 + 1073 = omega arith in
+      let v = value-mid b k (omega arith) (omega arith) in
+      sqrt-positive (ofBits binary64 b) (m * 2 ^ k) (recast (ofBits binary64 b) (2 ^ 1074) no-sign (ap (λ (z : ℕ). z * 2 ^ k) same) v) (mul-pos {m = m} {n = 2 ^ k} (omega arith) (pow-pos k))
+      ∙ ap (roundRoot binary64) (mul-assoc m (2 ^ k) (2 ^ 1074) ∙ rw (← pow-add 2 k 1074, e) refl)
 
-pub root-top : (b : ℕ) → 2047 * 2 ^ 52 ≤ b → b < 2 ^ 63 → ofBits binary64 b ≡ sqrtOf binary64 (ofBits binary64 b)
-unfolding ofFields
-root-top b l u = rw (fields b false 2047 (b % 2 ^ 52) (is-false (leb (2 ^ 63) b) (lt→nleb (2 ^ 63) b (omega arith))) (omega arith) refl) (go (eqb (b % 2 ^ 52) 0))
-  where
-    go : (t : Bool) → cond t (inf false) nan ≡ sqrtOf binary64 (cond t (inf false) nan)
-    go true = unfold sqrtOf in refl
-    go false = unfold sqrtOf in refl
-
-pub root-zero : (b : ℕ) → b < 2 ^ 64 → b % 2 ^ 63 ≡ 0 → ofBits binary64 b ≡ sqrtOf binary64 (ofBits binary64 b)
-unfolding ofBits sqrtOf
-root-zero b l z = go (decLe b 0)
-  where
-    go : Dec (b ≤ 0) → ofBits binary64 b ≡ sqrtOf binary64 (ofBits binary64 b)
-    go (yes h) = let e : b ≡ 0 = omega arith in rw e refl
-    go (no h) = let e : b ≡ 2 ^ 63 = omega arith in rw e refl
-
-pub root-negative : (b : ℕ) → 2 ^ 63 < b → b < 2 ^ 64 → sqrtOf binary64 (ofBits binary64 b) ≡ nan
-root-negative b l u =
-    ap (λ (y : Float). sqrtOf binary64 y) (fields b true (b % 2 ^ 63 / 2 ^ 52) (b % 2 ^ 52) (is-true (leb (2 ^ 63) b) (le→leb (2 ^ 63) b (omega arith))) refl refl)
-    ∙ go (b % 2 ^ 63 / 2 ^ 52) (b % 2 ^ 52) (λ h. omega arith)
-  where
-    pick : (c d : Bool) (y : Float) → sqrtOf binary64 y ≡ nan → sqrtOf binary64 (cond c (cond d (inf true) nan) y) ≡ nan
-    pick true true y h = unfold sqrtOf in refl
-    pick true false y h = unfold sqrtOf in refl
-    pick false d y h = h
-
-    go : (x t : ℕ) → (x ≡ 0 → 0 < t) → sqrtOf binary64 (ofFields binary64 true x t) ≡ nan
-    go zero t h = unfold ofFields in sqrt-negative (odd 53 true t 0 1074) (t * 2 ^ 0) (odd-sign 53 true t 0 1074) (omega (arith, h refl))
-    go (suc x) t h =
-        unfold ofFields in pick (eqb (suc x) 2047) (eqb t 0) (odd 53 true (2 ^ 52 + t) x 1074)
-        (sqrt-negative (odd 53 true (2 ^ 52 + t) x 1074) ((2 ^ 52 + t) * 2 ^ x) (odd-sign 53 true (2 ^ 52 + t) x 1074) (mul-pos {m = 2 ^ 52 + t} {n = 2 ^ x} (omega arith) (pow-pos x)))
+  pub root-top : 2047 * 2 ^ 52 ≤ b → ofBits binary64 b ≡ sqrtOf binary64 (ofBits binary64 b)
+  unfolding sqrtOf
+  root-top l = by-digits (eq-or-lt-of-le l)
+    where
+      by-digits : (2047 * 2 ^ 52 ≡ b) ⊎ (2047 * 2 ^ 52 < b) → ofBits binary64 b ≡ sqrtOf binary64 (ofBits binary64 b)
+      by-digits (inl e) = rw (value-inf b (omega arith), no-sign) refl
+      by-digits (inr g) = rw (nan-pattern b (omega arith)) refl

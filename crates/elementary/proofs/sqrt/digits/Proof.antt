@@ -1,9 +1,8 @@
 -- `root::digits` meets its contract. The invariant: s * s + 4 * r * rem is a * 2 ^ 60, and rem is less than one more digit would leave. Assumes nothing.
-use mathlib.Core.Path.{_≡_, refl}
+use mathlib.Core.Path.{_≡_}
 use mathlib.Core.Logic.{⊎-elim, inl, inr}
-use Prim.Native.Nat.{ℕ, suc, _+_, _-_, _*_, _^_, _≤_, _<_}
+use Prim.Native.Nat.{suc, _+_, _-_, _≤_}
 use native.Mathlib.Omega.{arith}
-use borrow.Author.Needs.{needs}
 use Rattle.elementary.proofs.sqrt.Walk.{Left, begun, turn, last}
 use Rattle.elementary.proofs.sqrt.digits.Statement.{statement}
 use Rattle.elementary.proofs.sqrt.digits.Tie as tie
