@@ -1,0 +1,3 @@
+-- Laws that the proofs of several modules use.
+mod Bits
+mod Values
