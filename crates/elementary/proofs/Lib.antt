@@ -1,0 +1,7 @@
+-- Laws that the proofs of more than one module use.
+mod Halves
+mod Leaf
+mod Pattern
+mod Words
+mod Sign
+mod Decode
