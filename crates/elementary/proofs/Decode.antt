@@ -2,9 +2,9 @@
 use mathlib.Core.Path.{_≡_, refl, sym, ap, _∙_, subst}
 use mathlib.Core.Bool.{Bool, true, false, not, cond, true≢false, false≢true}
 use Prim.Native.Nat.{ℕ, zero, suc, _+_, _-_, _*_, _/_, _%_, _^_, _≤_, _<_}
-use native.Mathlib.Nat.{lt-of-lt-of-le, not-le-of-lt, le-of-suc-le-suc, lt-of-not-le, mul-assoc, mul-right-comm, mul-one, lt-of-mul-lt-mul-right, le-of-mul-le-mul-right, mod-lt, lt-irrefl}
+use native.Mathlib.Nat.{lt-of-lt-of-le, not-le-of-lt, le-of-suc-le-suc, lt-of-not-le, mul-assoc, mul-right-comm, mul-one, lt-of-mul-lt-mul-right, le-of-mul-le-mul-right, mod-lt, lt-irrefl, eq-of-mul-eq-mul-right}
 use native.Mathlib.Omega.{arith}
-use lib.Dec.{T, leb, eqb}
+use lib.Dec.{T, leb, eqb, lit<}
 use lib.Pow.{pow-add, pow-pos, pow-mono, shl-lt}
 use lib.Ieee.{Float, nan, inf, fin, binary64, low, up, down, odd, ofFields, ofBits, toBits, fits, isNan, lt, neg}
 use lib.Ieee.Exact.{HasValue, odd-sign}
@@ -32,7 +32,20 @@ finite-no nan h = refl
 finite-no (inf s) h = refl
 finite-no (fin s m e) h = absurd (true≢false h)
 
--- ---- the same value over another denominator
+-- ---- the same value as another fraction
+pub same-value : (x : Float) (s : Bool) (a c b d : ℕ) → 0 < c → a * d ≡ b * c → HasValue x s a c → HasValue x s b d
+same-value nan s a c b d P e h = h
+same-value (inf t) s a c b d P e h = h
+same-value (fin t m g) s a c b d P e h = (
+  h .0,
+  eq-of-mul-eq-mul-right c P (m * up g * d) (b * down g)
+      (mul-right-comm (m * up g) d c
+      ∙ ap (λ (z : ℕ). z * d) (h .1)
+      ∙ mul-right-comm a (down g) d
+      ∙ ap (λ (z : ℕ). z * down g) e
+      ∙ mul-right-comm b c (down g)),
+)
+
 pub rescale : (x : Float) (s : Bool) (a c k : ℕ) → HasValue x s a c → HasValue x s (a * k) (c * k)
 rescale nan s a c k h = h
 rescale (inf t) s a c k h = h
@@ -78,6 +91,7 @@ module _ (x : Float) (F : T (fits binary64 x)) where
       let v : HasValue x s (t * 2 ^ 0) (2 ^ 1074) = subst (λ (y : Float). HasValue y s (t * 2 ^ 0) (2 ^ 1074)) (sym (as-fields ∙ ap (λ (g : ℕ). ofFields binary64 s g t) z ∙ low-field s t)) (odd-sign 53 s t 0 1074) in
       record {
         value = subst (λ (w : ℕ). HasValue x s w (2 ^ 1138)) (ap (λ (w : ℕ). w * 2 ^ 64) (mul-one t) ∙ sym (L .same)) (rescale x s (t * 2 ^ 0) (2 ^ 1074) (2 ^ 64) v);
+        room = L .room;
         digits = L .digits;
       }
 
@@ -104,6 +118,7 @@ module _ (x : Float) (F : T (fits binary64 x)) where
           subst (λ (z : Float). HasValue z s ((2 ^ 52 + t) * 2 ^ g) (2 ^ 1074)) (sym (y ∙ high-field s g t (subst (λ (z : Float). T (finite z)) y held))) (odd-sign 53 s (2 ^ 52 + t) g 1074) in
           record {
             value = subst (λ (w : ℕ). HasValue x s w (2 ^ 1138)) (bits g e) (rescale x s ((2 ^ 52 + t) * 2 ^ g) (2 ^ 1074) (2 ^ 64) v);
+            room = room b;
             digits = λ _. record { lead = lead t; top = under t (mod-lt b (pow-pos 52)); room = room b };
           }
         where
@@ -139,6 +154,7 @@ module _ (t z : ℕ) (h : t < 2 ^ 52) (L : Lead t z) where
   pub up-lifted : (m : ℕ) → m ≡ t * 2 ^ (z - 11) → Lifted t m (64 - (z - 11))
   up-lifted m e = record {
     same = ap (λ (w : ℕ). w * 2 ^ (64 - (z - 11))) e ∙ mul-assoc t (2 ^ (z - 11)) (2 ^ (64 - (z - 11))) ∙ ap (λ (w : ℕ). t * w) (sym (pow-add 2 (z - 11) (64 - (z - 11))) ∙ ap (λ (w : ℕ). 2 ^ w) (whole z (L .small)));
+    room = small z;
     digits = λ _. record { lead = subst (λ (w : ℕ). 2 ^ 52 ≤ w) (sym e) up-lead; top = subst (λ (w : ℕ). w < 2 ^ 53) (sym e) up-top; room = small z };
   }
     where
@@ -151,5 +167,6 @@ module _ (t z : ℕ) (h : t < 2 ^ 52) (L : Lead t z) where
 pub zero-lifted : (t : ℕ) → t ≡ 0 → Lifted t 0 64
 zero-lifted t e = record {
   same = sym (ap (λ (w : ℕ). w * 2 ^ 64) e);
+  room = lit< tt;
   digits = λ p. absurd (lt-irrefl 0 p);
 }

@@ -5,3 +5,4 @@ mod Pattern
 mod Words
 mod Sign
 mod Decode
+mod Fields

@@ -46,9 +46,11 @@ pub record Digits (m e : ℕ) : Type 0 where
 -- a finite float as a sign and m * 2 ^ e / 2 ^ 1138, with an m of 53 digits or 0
 pub record Decoded (x : Float) (s : Bool) (m e : ℕ) : Type 0 where
   pub value : HasValue x s (m * 2 ^ e) (2 ^ 1138)
+  pub room : e < 2 ^ 12
   pub digits : 0 < m → Digits m e
 
 -- the same for the digits t of a subnormal value
 pub record Lifted (t m e : ℕ) : Type 0 where
   pub same : m * 2 ^ e ≡ t * 2 ^ 64
+  pub room : e < 2 ^ 12
   pub digits : 0 < m → Digits m e

@@ -2,6 +2,7 @@
 use crate::round::Parts;
 use crate::round::Wide;
 use crate::round::any;
+use crate::round::assembled;
 use crate::round::below;
 use crate::round::finite;
 use crate::round::nonzero;
@@ -249,21 +250,6 @@ fn general(a: f64, b: f64, c: f64) -> f64
     } else {
         a * b + c
     }
-}
-
-// 2^63 for a minus.
-fn sign_bit(neg: bool) -> u64
-    ensures { λ r. ⌜ r ≡ cond neg (2 ^ 63) 0 ⌝ }
-{
-    if neg { 0x8000_0000_0000_0000 } else { 0 }
-}
-
-// ±(2^52 + t) * 2^f / 2^1075.
-fn assembled(neg: bool, f: u64, t: u64) -> f64
-    requires { ⌜ 0 < f ⌝ ∗ ⌜ f < 2047 ⌝ ∗ ⌜ t < 2 ^ 52 ⌝ }
-    ensures { λ r. ⌜ HasValue r neg ((2 ^ 52 + t) * 2 ^ (f + 1329)) (2 ^ 2404) ⌝ }
-{
-    f64::from_bits(sign_bit(neg) + (f << 52) + t)
 }
 
 // 1 where v is not 0.

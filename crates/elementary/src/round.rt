@@ -6,6 +6,7 @@ ghost use Prim.Native.Nat.{ℕ, _+_, _-_, _*_, _/_, _%_, _^_, _<_, _≤_};
 ghost use lib.Dec.{T, ltb};
 ghost use lib.Ieee as Ieee;
 ghost use lib.Ieee.{binary64, round};
+ghost use lib.Ieee.Exact.{HasValue};
 ghost use lib.Ieee.Scale as Scale;
 ghost use Rattle.elementary.specs.Round.{Cut, Halved, Any, Lead, wide, Decoded, Lifted};
 
@@ -195,4 +196,19 @@ pub(crate) fn taken_apart(x: f64) -> Parts
             e: f + 63,
         }
     }
+}
+
+// 2^63 for a minus.
+fn sign_bit(neg: bool) -> u64
+    ensures { λ r. ⌜ r ≡ cond neg (2 ^ 63) 0 ⌝ }
+{
+    if neg { 0x8000_0000_0000_0000 } else { 0 }
+}
+
+// ±(2^52 + t) * 2^f / 2^1075.
+pub(crate) fn assembled(neg: bool, f: u64, t: u64) -> f64
+    requires { ⌜ 0 < f ⌝ ∗ ⌜ f < 2047 ⌝ ∗ ⌜ t < 2 ^ 52 ⌝ }
+    ensures { λ r. ⌜ HasValue r neg ((2 ^ 52 + t) * 2 ^ (f + 1329)) (2 ^ 2404) ⌝ }
+{
+    f64::from_bits(sign_bit(neg) + (f << 52) + t)
 }
