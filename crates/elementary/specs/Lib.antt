@@ -3,6 +3,7 @@ pub mod Rules
 pub mod Methods
 pub mod Floor
 pub mod Sqrt
+pub mod Round
 pub mod MulAdd
 pub mod Exp
 pub mod Ln
