@@ -181,6 +181,23 @@ mul-side {x = fin u m e} {y = fin v n d} {s} {t} {a} {b} c C l h k =
 pub mul-at-most : {x y : Float} {a b : ℕ} (c : ℕ) → Exact c → a * b ≤ c → AtMost x a → AtMost y b → AtMost (x ⊗ y) c
 mul-at-most c C l h k = unsigned (mul-side c C l (h .side) (k .side))
 
+-- by a constant that is the fraction v / d
+pub mul-by : {x : Float} {a : ℕ} (c : Float) (v d b : ℕ) → 0 < d → HasValue c false v d → Exact b → a * v ≤ b * d → AtMost x a → AtMost (x ⊗ c) b
+unfolding mul
+mul-by {x = nan} c v d b D k B l h = absurd (h .side .sized)
+mul-by {x = inf u} c v d b D k B l h = absurd (h .side .sized)
+mul-by {x = fin u m e} nan v d b D k B l h = absurd k
+mul-by {x = fin u m e} (inf t) v d b D k B l h = absurd k
+mul-by {x = fin u m e} {a} (fin t n g) v d b D k B l h =
+    unsigned (round-side (m * up e * (n * up g)) (down e * down g) b (mul-pos (down-pos e) (down-pos g)) B (le-of-mul-le-mul-right {k = d} top D) (unlike u t))
+  where
+    top : m * up e * (n * up g) * d ≤ b * (down e * down g) * d
+    top =
+        le-trans (le-of-eq (mul-assoc (m * up e) (n * up g) d ∙ ap (λ z. m * up e * z) (k .1)))
+        (le-trans (mul-le-mul-right (v * down g) (h .side .sized .1))
+        (le-trans (le-of-eq (mul-mul-mul-comm a (down e) v (down g)))
+        (le-trans (mul-le-mul-right (down e * down g) l) (le-of-eq (mul-right-comm b d (down e * down g))))))
+
 pub half-at-most : {x : Float} (b : ℕ) → Exact b → AtMost x (b * 2) → AtMost (half ⊗ x) b
 unfolding mul ofBits
 half-at-most {x = nan} b B h = absurd (h .side .sized)
@@ -312,6 +329,16 @@ floor-side {x = nan} B h = absurd (h .sized)
 floor-side {x = inf t} B h = absurd (h .sized)
 floor-side {x = fin t m e} {s} {b} B h =
     rw (h .sized .0) (round-side (floorSize s (m * up e) (down e)) 1 b (lit< tt) B (rw mul-one (floor-size s (m * up e) (down e) b (down-pos e) (h .sized .1))) s)
+
+-- it is a whole number
+pub floor-whole : {x : Float} {b : ℕ} → b ≤ 2 ^ 53 → AtMost x b → (s : Bool) × (n : ℕ) × HasValue (floorOf binary64 x) s n 1 × (n ≤ b)
+unfolding floorOf
+floor-whole {x = nan} l h = absurd (h .side .sized)
+floor-whole {x = inf t} l h = absurd (h .side .sized)
+floor-whole {x = fin t m e} {b} l h =
+    let n = floorSize t (m * up e) (down e) in
+    let k = floor-size t (m * up e) (down e) b (down-pos e) (h .side .sized .1) in
+    (t, n, round-whole binary64 t n (le-trans k l), k)
 
 -- ---- a number that is not above 0, and one from 0 to 1: their sum is not above 1
 pub sum-low : {x y : Float} {a : ℕ} → Exact a → Side x true a → Side y false 1 → Side (x ⊕ y) true a ⊎ Side (x ⊕ y) false 1

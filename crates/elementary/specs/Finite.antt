@@ -30,7 +30,7 @@ use Rattle.elementary.specs.Order.{equal-itself}
 use Rattle.elementary.specs.Bounds.{side-finite, AtMost, Side, Over, Exact, pow-exact, small-exact, unsigned, wider, value-side, value-over, cross, no-overflow, neg-side, round-side, mul-side, mul-at-most, square-over, add-at-most, sub-at-most, add-side, add-over, div-side, floor-side, sum-low}
 
 -- ---- the constants of exp
-half-side : Side half false 1
+pub half-side : Side half false 1
 unfolding ofBits
 half-side = record { sized = (refl, lit≤ tt) }
 
