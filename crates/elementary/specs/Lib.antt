@@ -1,4 +1,7 @@
 pub mod Ops
+pub mod Order
+pub mod Powers
+pub mod Held
 pub mod Rules
 pub mod Methods
 pub mod Floor

@@ -1,0 +1,90 @@
+-- The order of finite floats is the order of the signed fractions that they equal. Assumes nothing.
+use mathlib.Core.Path.{_≡_, sym, ap, _∙_}
+use mathlib.Core.Bool.{Bool, true, false, not, _&&_, _||_}
+use Prim.Native.Nat.{ℕ, _+_, _*_, _≤_, _<_}
+use native.Mathlib.Nat.{mul-assoc, mul-comm, mul-left-comm, mul-pos, mul-le-mul-right, le-of-mul-le-mul-right, zero-mul, le-of-lt, le-of-eq, le-antisymm, le-mul-of-pos-right}
+use native.Mathlib.Omega.{arith}
+use lib.Dec.{T, ltb, eqb, ltb→lt, eqb→eq, nltb→le}
+use lib.Ieee.{Float, nan, inf, fin, up, down, below, level, le}
+use lib.Ieee.Fits.{down-pos, eq→eqb, and-i, and-l, and-r}
+use lib.Ieee.Exact.{HasValue}
+
+-- ±a is at most ±b; the two zeros are equal
+abbrev pub Le : Bool → ℕ → Bool → ℕ → Type 0
+Le false a false b = a ≤ b
+Le false a true b = (a ≡ 0) × (b ≡ 0)
+Le true a false b = T true
+Le true a true b = b ≤ a
+
+-- ---- the test says it
+or-elim : {X : Type 0} (p q : Bool) → (T p → X) → (T q → X) → T (p || q) → X
+or-elim true q f g h = f tt
+or-elim false q f g h = g h
+
+or-else : (p q : Bool) → (T (not p) → T q) → T (p || q)
+or-else true q h = tt
+or-else false q h = h tt
+
+same : (a b : ℕ) (r : Bool) → T (eqb a b && r) → a ≡ b
+same a b r h = eqb→eq a b (and-l (eqb a b) r h)
+
+test→le : (s : Bool) (a : ℕ) (t : Bool) (b : ℕ) → T (below s a t b || level s a t b) → Le s a t b
+test→le false a false b h = or-elim (ltb a b) (eqb a b && true) (λ l. le-of-lt (ltb→lt a b l)) (λ e. le-of-eq (same a b true e)) h
+test→le false a true b h =
+    let z = eqb→eq a 0 (and-r (eqb a b) (eqb a 0) h) in
+    (z, sym (same a b (eqb a 0) h) ∙ z)
+test→le true a false b h = tt
+test→le true a true b h = or-elim (ltb b a) (eqb a b && true) (λ l. le-of-lt (ltb→lt b a l)) (λ e. le-of-eq (sym (same a b true e))) h
+
+le→test : (s : Bool) (a : ℕ) (t : Bool) (b : ℕ) → Le s a t b → T (below s a t b || level s a t b)
+le→test false a false b h = or-else (ltb a b) (eqb a b && true) (λ n. and-i (eqb a b) true (eq→eqb (le-antisymm h (nltb→le a b n))) tt)
+le→test false a true b h = rw (h .0, h .1) tt
+le→test true a false b h =
+    or-else (ltb 0 (a + b)) (eqb a b && eqb a 0)
+    (λ n. let z = nltb→le 0 (a + b) n in and-i (eqb a b) (eqb a 0) (eq→eqb {a = a} {b = b} (omega arith)) (eq→eqb {a = a} {b = 0} (omega arith)))
+le→test true a true b h = or-else (ltb b a) (eqb a b && true) (λ n. and-i (eqb a b) true (eq→eqb (le-antisymm (nltb→le b a n) h)) tt)
+
+-- ---- a common factor
+grow : (s : Bool) (a : ℕ) (t : Bool) (b p : ℕ) → Le s a t b → Le s (a * p) t (b * p)
+grow false a false b p h = mul-le-mul-right p h
+grow false a true b p h = (rw (h .0) (zero-mul p), rw (h .1) (zero-mul p))
+grow true a false b p h = tt
+grow true a true b p h = mul-le-mul-right p h
+
+shrink : (s : Bool) (a : ℕ) (t : Bool) (b p : ℕ) → 0 < p → Le s (a * p) t (b * p) → Le s a t b
+shrink false a false b p l h = le-of-mul-le-mul-right h l
+shrink false a true b p l h = (omega (arith, le-mul-of-pos-right a l), omega (arith, le-mul-of-pos-right b l))
+shrink true a false b p l h = tt
+shrink true a true b p l h = le-of-mul-le-mul-right h l
+
+-- ---- the theorem, either way: x is ±a / c and y is ±b / d
+module _ (s t : Bool) (a b c d : ℕ) (c-pos : 0 < c) (d-pos : 0 < d) where
+  -- both sides, in units of the two denominators
+  left : (n D D' : ℕ) → n * c ≡ a * D → n * D' * (c * d) ≡ a * d * (D * D')
+  left n D D' h = simp (mul-assoc, mul-comm, mul-left-comm) (simp (mul-assoc, mul-comm, mul-left-comm) at (ap (λ (z : ℕ). z * (D' * d)) h))
+
+  right : (n D D' : ℕ) → n * d ≡ b * D' → n * D * (c * d) ≡ b * c * (D * D')
+  right n D D' h = simp (mul-assoc, mul-comm, mul-left-comm) (simp (mul-assoc, mul-comm, mul-left-comm) at (ap (λ (z : ℕ). z * (D * c)) h))
+
+  pub le→fractions : (x y : Float) → HasValue x s a c → HasValue y t b d → T (le x y) → Le s (a * d) t (b * c)
+  unfolding le
+  le→fractions nan y p q h = absurd p
+  le→fractions (inf u) y p q h = absurd p
+  le→fractions (fin u m e) nan p q h = absurd q
+  le→fractions (fin u m e) (inf v) p q h = absurd q
+  le→fractions (fin u m e) (fin v n g) p q h =
+      shrink s (a * d) t (b * c) (down e * down g) (mul-pos (down-pos e) (down-pos g))
+      (rw (← left (m * up e) (down e) (down g) (p .1), ← right (n * up g) (down e) (down g) (q .1), ← p .0, ← q .0)
+      (grow u (m * up e * down g) v (n * up g * down e) (c * d) (test→le u (m * up e * down g) v (n * up g * down e) h)))
+
+  pub fractions→le : (x y : Float) → HasValue x s a c → HasValue y t b d → Le s (a * d) t (b * c) → T (le x y)
+  unfolding le
+  fractions→le nan y p q h = absurd p
+  fractions→le (inf u) y p q h = absurd p
+  fractions→le (fin u m e) nan p q h = absurd q
+  fractions→le (fin u m e) (inf v) p q h = absurd q
+  fractions→le (fin u m e) (fin v n g) p q h =
+      le→test u (m * up e * down g) v (n * up g * down e)
+      (shrink u (m * up e * down g) v (n * up g * down e) (c * d) (mul-pos c-pos d-pos)
+      (rw (left (m * up e) (down e) (down g) (p .1), right (n * up g) (down e) (down g) (q .1), p .0, q .0)
+      (grow s (a * d) t (b * c) (down e * down g) h)))
