@@ -2,14 +2,17 @@
 use mathlib.Core.Path.{_≡_, refl, sym, ap, _∙_, subst}
 use mathlib.Core.Bool.{Bool, true, false, not, cond, true≢false, false≢true}
 use Prim.Native.Nat.{ℕ, zero, suc, _+_, _-_, _*_, _/_, _%_, _^_, _≤_, _<_}
-use native.Mathlib.Nat.{lt-of-lt-of-le, not-le-of-lt, le-of-suc-le-suc, lt-of-not-le, mul-assoc, mul-right-comm, mul-one, lt-of-mul-lt-mul-right, le-of-mul-le-mul-right, mod-lt, lt-irrefl, eq-of-mul-eq-mul-right}
+use native.Mathlib.Nat.{lt-of-lt-of-le, not-le-of-lt, le-of-suc-le-suc, lt-of-not-le, mul-assoc, mul-right-comm, mul-one, lt-of-mul-lt-mul-right, le-of-mul-le-mul-right, mod-lt, lt-irrefl, eq-of-mul-eq-mul-right, mul-mod-left}
 use native.Mathlib.Omega.{arith}
 use lib.Dec.{T, leb, eqb, lit<}
 use lib.Pow.{pow-add, pow-pos, pow-mono, shl-lt}
-use lib.Ieee.{Float, nan, inf, fin, binary64, low, up, down, odd, ofFields, ofBits, toBits, fits, isNan, lt, neg}
+use lib.Ieee.{Float, nan, inf, fin, binary64, low, up, down, odd, ofFields, ofBits, toBits, fits, isNan, lt, neg, size}
 use lib.Ieee.Exact.{HasValue, odd-sign}
 use lib.Ieee.Bits.{ofBits-toBits}
+use lib.Ieee.Fits.{down-pos}
+use lib.Ieee.Nearest.{div-same}
 use lib.Ieee.Scale.{finite}
+use Rattle.elementary.specs.Sqrt.{inUnits}
 use Rattle.elementary.specs.Round.{Lead, Decoded, Lifted}
 
 pub finite-no-nan : (x : Float) → T (finite x) → T (not (isNan x))
@@ -51,6 +54,32 @@ rescale nan s a c k h = h
 rescale (inf t) s a c k h = h
 rescale (fin t m e) s a c k h = (h .0, sym (mul-assoc (m * up e) c k) ∙ ap (λ (z : ℕ). z * k) (h .1) ∙ mul-right-comm a (down e) k)
 
+-- ---- a float is known by its value
+-- the number of smallest values
+pub units-of : (x : Float) (s : Bool) (a c : ℕ) → 0 < c → HasValue x s a c → inUnits binary64 x ≡ a * 2 ^ 1074 / c
+unfolding inUnits
+units-of nan s a c P h = absurd h
+units-of (inf t) s a c P h = absurd h
+units-of (fin t m e) s a c P h =
+    div-same (m * up e * 2 ^ 1074) (down e) (a * 2 ^ 1074) c (down-pos e) P
+    (mul-right-comm (m * up e) (2 ^ 1074) c ∙ ap (λ (z : ℕ). z * 2 ^ 1074) (h .1) ∙ mul-right-comm a (down e) (2 ^ 1074))
+
+-- it gives the pattern
+pattern-of : (x : Float) (s : Bool) (a c : ℕ) → HasValue x s a c
+    → toBits binary64 x ≡ cond s (2 ^ 63) 0 + (size (inUnits binary64 x) - 53) * 2 ^ 52 + inUnits binary64 x / 2 ^ (size (inUnits binary64 x) - 53)
+unfolding toBits inUnits
+pattern-of nan s a c h = absurd h
+pattern-of (inf t) s a c h = absurd h
+pattern-of (fin t m e) s a c h = ap (λ (z : Bool). cond z (2 ^ 63) 0 + (size (inUnits binary64 (fin t m e)) - 53) * 2 ^ 52 + inUnits binary64 (fin t m e) / 2 ^ (size (inUnits binary64 (fin t m e)) - 53)) (h .0)
+
+pub value-unique : (x y : Float) (s : Bool) (a c : ℕ) → 0 < c → T (fits binary64 x) → T (fits binary64 y) → HasValue x s a c → HasValue y s a c → x ≡ y
+value-unique x y s a c P p q v w =
+    sym (ofBits-toBits binary64 x p)
+    ∙ ap (ofBits binary64) (pattern-of x s a c v
+    ∙ ap (λ (n : ℕ). cond s (2 ^ 63) 0 + (size n - 53) * 2 ^ 52 + n / 2 ^ (size n - 53)) (units-of x s a c P v ∙ sym (units-of y s a c P w))
+    ∙ sym (pattern-of y s a c w))
+    ∙ ofBits-toBits binary64 y q
+
 -- ---- the fields
 low-field : (s : Bool) (t : ℕ) → ofFields binary64 s 0 t ≡ odd 53 s t 0 1074
 unfolding ofFields
@@ -91,6 +120,7 @@ module _ (x : Float) (F : T (fits binary64 x)) where
       let v : HasValue x s (t * 2 ^ 0) (2 ^ 1074) = subst (λ (y : Float). HasValue y s (t * 2 ^ 0) (2 ^ 1074)) (sym (as-fields ∙ ap (λ (g : ℕ). ofFields binary64 s g t) z ∙ low-field s t)) (odd-sign 53 s t 0 1074) in
       record {
         value = subst (λ (w : ℕ). HasValue x s w (2 ^ 1138)) (ap (λ (w : ℕ). w * 2 ^ 64) (mul-one t) ∙ sym (L .same)) (rescale x s (t * 2 ^ 0) (2 ^ 1074) (2 ^ 64) v);
+        whole = ap (λ (w : ℕ). w % 2 ^ 64) (L .same) ∙ mul-mod-left t (2 ^ 64);
         room = L .room;
         digits = L .digits;
       }
@@ -118,8 +148,9 @@ module _ (x : Float) (F : T (fits binary64 x)) where
           subst (λ (z : Float). HasValue z s ((2 ^ 52 + t) * 2 ^ g) (2 ^ 1074)) (sym (y ∙ high-field s g t (subst (λ (z : Float). T (finite z)) y held))) (odd-sign 53 s (2 ^ 52 + t) g 1074) in
           record {
             value = subst (λ (w : ℕ). HasValue x s w (2 ^ 1138)) (bits g e) (rescale x s ((2 ^ 52 + t) * 2 ^ g) (2 ^ 1074) (2 ^ 64) v);
+            whole = sym (ap (λ (w : ℕ). w % 2 ^ 64) (bits g e)) ∙ mul-mod-left ((2 ^ 52 + t) * 2 ^ g) (2 ^ 64);
             room = room b;
-            digits = λ _. record { lead = lead t; top = under t (mod-lt b (pow-pos 52)); room = room b };
+            digits = λ _. record { lead = lead t; top = under t (mod-lt b (pow-pos 52)); least = least f; room = room b };
           }
         where
           lead : (t : ℕ) → 2 ^ 52 ≤ 2 ^ 52 + t
@@ -127,6 +158,9 @@ module _ (x : Float) (F : T (fits binary64 x)) where
 
           under : (t : ℕ) → t < 2 ^ 52 → 2 ^ 52 + t < 2 ^ 53
           under t h = omega arith
+
+          least : (f : ℕ) → 12 ≤ f + 63
+          least f = omega arith
 
           room : (b : ℕ) → b % 2 ^ 63 / 2 ^ 52 + 63 < 2 ^ 12
           room b = omega arith
@@ -155,11 +189,14 @@ module _ (t z : ℕ) (h : t < 2 ^ 52) (L : Lead t z) where
   up-lifted m e = record {
     same = ap (λ (w : ℕ). w * 2 ^ (64 - (z - 11))) e ∙ mul-assoc t (2 ^ (z - 11)) (2 ^ (64 - (z - 11))) ∙ ap (λ (w : ℕ). t * w) (sym (pow-add 2 (z - 11) (64 - (z - 11))) ∙ ap (λ (w : ℕ). 2 ^ w) (whole z (L .small)));
     room = small z;
-    digits = λ _. record { lead = subst (λ (w : ℕ). 2 ^ 52 ≤ w) (sym e) up-lead; top = subst (λ (w : ℕ). w < 2 ^ 53) (sym e) up-top; room = small z };
+    digits = λ _. record { lead = subst (λ (w : ℕ). 2 ^ 52 ≤ w) (sym e) up-lead; top = subst (λ (w : ℕ). w < 2 ^ 53) (sym e) up-top; least = least z (L .small); room = small z };
   }
     where
       whole : (z : ℕ) → z < 64 → z - 11 + (64 - (z - 11)) ≡ 64
       whole z g = omega arith
+
+      least : (z : ℕ) → z < 64 → 12 ≤ 64 - (z - 11)
+      least z g = omega arith
 
       small : (z : ℕ) → 64 - (z - 11) < 2 ^ 12
       small z = omega arith

@@ -6,3 +6,4 @@ mod Words
 mod Sign
 mod Decode
 mod Fields
+mod Adding

@@ -16,36 +16,13 @@ use Rattle.elementary.specs.Round.{wide, Decoded}
 use Rattle.elementary.specs.MulAdd.Steps.{Marked, Middling, Opened}
 use Rattle.elementary.proofs.Decode.{rescale, ofBits-is, as-fields, high-value}
 use Rattle.elementary.proofs.Fields.{normal-field}
-use Rattle.elementary.proofs.mul_add.Sums.{sum-same, sum-more, sub-mul}
+use Rattle.elementary.proofs.mul_add.Sums.{sum-same, sum-more}
+use Rattle.elementary.proofs.Adding.{sub-mul, sum-value, add-at, sub-at}
 use Rattle.elementary.specs.MulAdd.{fma}
-use Rattle.elementary.proofs.mul_add.Exactly.{sum-value, sum-comm, beq-refl, beq-cases, product-form, addend-form, fma-at}
+use Rattle.elementary.proofs.mul_add.Exactly.{sum-comm, beq-refl, beq-cases, product-form, addend-form, fma-at}
 use Rattle.elementary.proofs.mul_add.Alike.{round-alike, plus-alike, minus-alike}
 
--- ---- sums and differences by their values
-pub add-at : (x y : Float) (s t : Bool) (a b d : ℕ) → 0 < d → HasValue x s a d → HasValue y t b d → add binary64 x y ≡ sum binary64 s a t b d
-unfolding add
-add-at nan y s t a b d P p q = absurd p
-add-at (inf _) y s t a b d P p q = absurd p
-add-at (fin _ m e) nan s t a b d P p q = absurd q
-add-at (fin _ m e) (inf _) s t a b d P p q = absurd q
-add-at (fin s' m e) (fin t' n g) s t a b d P p q =
-    sum-value binary64 (m * up e * down g) (n * up g * down e) (down e * down g) a b d (mul-pos (down-pos e) (down-pos g)) P
-    (mul-right-comm (m * up e) (down g) d ∙ ap (λ (z : ℕ). z * down g) (p .1) ∙ mul-assoc a (down e) (down g))
-    (mul-right-comm (n * up g) (down e) d ∙ ap (λ (z : ℕ). z * down e) (q .1) ∙ mul-assoc b (down g) (down e) ∙ ap (λ (z : ℕ). b * z) (mul-comm (down g) (down e)))
-    s' t'
-    ∙ ap (λ (z : Bool). sum binary64 z a t' b d) (p .0)
-    ∙ ap (λ (z : Bool). sum binary64 s a z b d) (q .0)
-
-neg-value : (x : Float) (s : Bool) (a d : ℕ) → HasValue x s a d → HasValue (neg x) (not s) a d
-unfolding neg
-neg-value nan s a d h = h
-neg-value (inf t) s a d h = h
-neg-value (fin t m e) s a d h = (ap not (h .0), h .1)
-
-sub-at : (x y : Float) (s t : Bool) (a b d : ℕ) → 0 < d → HasValue x s a d → HasValue y t b d → sub binary64 x y ≡ sum binary64 s a (not t) b d
-unfolding sub
-sub-at x y s t a b d P p q = add-at x (neg y) s (not t) a b d P p (neg-value y t b d q)
-
+-- ---- differences that are exact
 beq-not : (s : Bool) → Bool·beq s (not s) ≡ false
 beq-not true = refl
 beq-not false = refl

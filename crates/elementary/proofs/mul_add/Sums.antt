@@ -12,6 +12,7 @@ use lib.Ieee.{Format, round, sum}
 use lib.Ieee.Bits.{is-true, is-false}
 use Rattle.elementary.specs.Round.{Cut, Same}
 use Rattle.elementary.proofs.Leaf.{mul-mod-mul, zero-of-mul}
+use Rattle.elementary.proofs.Adding.{sub-mul}
 
 -- ---- `sum` by its cases
 pub sum-same : (f : Format) (s t : Bool) (a b c : ℕ) → Bool·beq s t ≡ true → sum f s a t b c ≡ round f s (a + b) c
@@ -69,9 +70,6 @@ module _ (f : Format) (s t : Bool) (a b c : ℕ) (e : Bool·beq s t ≡ false) w
       some a b h = omega arith
 
 -- ---- both by one unit Q
-pub sub-mul : (a b q : ℕ) → (a - b) * q ≡ a * q - b * q
-sub-mul a b q = mul-comm (a - b) q ∙ mul-sub q a b ∙ ap (λ (z : ℕ). z - q * b) (mul-comm q a) ∙ ap (λ (z : ℕ). a * q - z) (mul-comm q b)
-
 scale-pos : (v q : ℕ) → 0 < q → ltb 0 (v * q) ≡ ltb 0 v
 scale-pos zero q h = ap (λ (z : ℕ). ltb 0 z) (zero-mul q)
 scale-pos (suc v) q h = is-true (ltb 0 (suc v * q)) (lt→ltb 0 (suc v * q) (mul-pos (pos' v) h)) ∙ sym (is-true (ltb 0 (suc v)) (lt→ltb 0 (suc v) (pos' v)))
