@@ -1,4 +1,6 @@
 -- Laws that the proofs of more than one module use.
+mod Bits
+mod Values
 mod Halves
 mod Leaf
 mod Pattern

@@ -9,3 +9,7 @@ pub mod Exp
 pub mod Ln
 pub mod Cody
 pub mod NormalDistribution
+pub mod Order
+pub mod Bounds
+pub mod Finite
+pub mod Inverse
