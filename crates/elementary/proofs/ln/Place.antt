@@ -15,7 +15,8 @@ use Rattle.elementary.specs.Ops.{_⊗_, half}
 use Rattle.elementary.specs.Ln.{SQRT-2, placeOf, significandOf, exponentAt, lnAt, lnInner}
 use Rattle.elementary.specs.Round.{Decoded, Digits}
 use Rattle.elementary.proofs.Leaf.{size-of}
-use Rattle.elementary.proofs.Decode.{units-of, same-value, value-unique}
+use Rattle.elementary.proofs.Decode.{units-of, same-power, same-value}
+use Rattle.elementary.proofs.Values.{value-unique}
 
 module _ (y : Float) (s : Bool) (m i : ℕ) (D : Decoded y s m i) (G : Digits m i) where
   abbrev u : ℕ
@@ -33,13 +34,7 @@ module _ (y : Float) (s : Bool) (m i : ℕ) (D : Decoded y s m i) (G : Digits m 
       ∙ div-add-mod' (m * 2 ^ i) (2 ^ 64)
 
   further : (j k l : ℕ) → j + l ≡ i + k → u * 2 ^ (64 + k) ≡ m * 2 ^ j * 2 ^ l
-  further j k l e =
-      ap (λ (z : ℕ). u * z) (pow-add 2 64 k)
-      ∙ sym (mul-assoc u (2 ^ 64) (2 ^ k))
-      ∙ ap (λ (z : ℕ). z * 2 ^ k) raised
-      ∙ mul-assoc m (2 ^ i) (2 ^ k)
-      ∙ ap (λ (z : ℕ). m * z) (sym (pow-add 2 i k) ∙ ap (λ (z : ℕ). 2 ^ z) (sym e) ∙ pow-add 2 j l)
-      ∙ sym (mul-assoc m (2 ^ j) (2 ^ l))
+  further j k l e = ap (λ (z : ℕ). u * z) (pow-add 2 64 k) ∙ sym (mul-assoc u (2 ^ 64) (2 ^ k)) ∙ ap (λ (z : ℕ). z * 2 ^ k) raised ∙ same-power m i k j l (sym e)
 
   back : 12 ≤ i → i - 12 + 64 ≡ 52 + i
   back h = omega arith
@@ -65,10 +60,12 @@ module _ (y : Float) (s : Bool) (m i : ℕ) (D : Decoded y s m i) (G : Digits m 
       less : (n : ℕ) → suc n - 1 ≡ n
       less n = omega arith
 
-  exact : HasValue (round binary64 false u (2 ^ (i - 12))) false u (2 ^ (i - 12))
+  -- both are m * 2 ^ 1022 of the smallest values
+  exact : HasValue (round binary64 false u (2 ^ (i - 12))) false (m * 2 ^ 1022) (2 ^ 1074)
   exact =
-      round-exact binary64 false u (2 ^ (i - 12)) m 1022 (pow-pos (i - 12)) (G .top) (lt-of-lt-of-le (shl-lt 53 1022 (G .top)) (pow-mono {i = 1075} {j = 2098} (omega arith)))
-      (further 1022 1010 (i - 12) (spot (G .least)))
+      let e = further 1022 1010 (i - 12) (spot (G .least)) in
+      same-value (round binary64 false u (2 ^ (i - 12))) false u (2 ^ (i - 12)) (m * 2 ^ 1022) (2 ^ 1074) (pow-pos (i - 12)) e
+      (round-exact binary64 false u (2 ^ (i - 12)) m 1022 (pow-pos (i - 12)) (G .top) (lt-of-lt-of-le (shl-lt 53 1022 (G .top)) (pow-mono {i = 1075} {j = 2098} (omega arith))) e)
     where
       spot : 12 ≤ i → 1022 + (i - 12) ≡ i + 1010
       spot h = omega arith
@@ -76,12 +73,9 @@ module _ (y : Float) (s : Bool) (m i : ℕ) (D : Decoded y s m i) (G : Digits m 
   pub significand-is : (r : Float) → T (fits binary64 r) → HasValue r false (m * 2 ^ 2352) (2 ^ 2404) → r ≡ significandOf y
   unfolding significandOf
   significand-is r F v =
-      value-unique r (round binary64 false u (2 ^ (i - 12))) false u (2 ^ (i - 12)) (pow-pos (i - 12)) F (round-fits binary64 false u (2 ^ (i - 12)))
-      (same-value r false (m * 2 ^ 2352) (2 ^ 2404) u (2 ^ (i - 12)) (pow-pos 2404) (sym (further 2352 2340 (i - 12) (spot (G .least)))) v) exact
+      value-unique r (round binary64 false u (2 ^ (i - 12))) false (m * 2 ^ 1022) F (round-fits binary64 false u (2 ^ (i - 12)))
+      (same-value r false (m * 2 ^ 2352) (2 ^ 2404) (m * 2 ^ 1022) (2 ^ 1074) (pow-pos 2404) (same-power m 2352 1074 1022 2404 refl) v) exact
       ∙ ap (λ (z : ℕ). round binary64 false u (2 ^ z)) place-is
-    where
-      spot : 12 ≤ i → 2352 + (i - 12) ≡ i + 2340
-      spot h = omega arith
 
 -- ---- the significand is halved where it is above √2
 module _ (y m₀ m : Float) (p₀ p : ℕ) (M : m₀ ≡ significandOf y) (P : p₀ ≡ placeOf y) where

@@ -14,8 +14,7 @@ use lib.Ieee.Bits.{nanBits-above, is-true, is-false}
 use lib.Ieee.Scale.{finite}
 use Rattle.elementary.specs.Round.{wide, Decoded}
 use Rattle.elementary.specs.MulAdd.Steps.{Marked, Middling, Opened}
-use Rattle.elementary.proofs.Decode.{rescale, ofBits-is, as-fields, high-value}
-use Rattle.elementary.proofs.Fields.{normal-field}
+use Rattle.elementary.proofs.Decode.{same-power, same-value, normal-value}
 use Rattle.elementary.proofs.mul_add.Sums.{sum-same, sum-more}
 use Rattle.elementary.proofs.Adding.{sub-mul, sum-value, add-at, sub-at}
 use Rattle.elementary.specs.MulAdd.{fma}
@@ -286,29 +285,16 @@ module _ (c x y : Float) (n cn : Bool) (p m d k r : ℕ) (K : Middling k) (M : M
       over h p l g = omega arith
 
 -- ---- `opened`
-finite-value : (x : Float) (s : Bool) (a d : ℕ) → HasValue x s a d → T (finite x)
-finite-value nan s a d h = absurd h
-finite-value (inf t) s a d h = absurd h
-finite-value (fin t m e) s a d h = tt
-
 module _ (x : Float) (F : T (fits binary64 x)) where
   abbrev b : ℕ
   b = toBits binary64 x
-
-  field-finite : (f : ℕ) → b % 2 ^ 63 / 2 ^ 52 ≡ f → 0 < f → f < 2047 → T (finite x)
-  field-finite zero e p h = absurd (lt-irrefl 0 p)
-  field-finite (suc f) e p h =
-      let s = leb (2 ^ 63) b in
-      let t = b % 2 ^ 52 in
-      finite-value x s ((2 ^ 52 + t) * 2 ^ f) (2 ^ 1074)
-      (subst (λ (z : Float). HasValue z s ((2 ^ 52 + t) * 2 ^ f) (2 ^ 1074)) (sym (as-fields x F ∙ ap (λ (z : ℕ). ofFields binary64 s z t) e ∙ normal-field s f t h)) (odd-sign 53 s (2 ^ 52 + t) f 1074))
 
   pub opened-is : Opened x (leb (2 ^ 63) b) (2 ^ 52 + b % 2 ^ 52) (b % 2 ^ 63 / 2 ^ 52)
   opened-is = record {
     lead = lead (b % 2 ^ 52);
     top = top (b % 2 ^ 52) (mod-lt b (pow-pos 52));
     field = field b;
-    value = λ p h. high-value x F (λ z. no (b % 2 ^ 63 / 2 ^ 52) z p) (field-finite (b % 2 ^ 63 / 2 ^ 52) refl p h);
+    value = normal-value x F;
   }
     where
       lead : (t : ℕ) → 2 ^ 52 ≤ 2 ^ 52 + t
@@ -319,9 +305,6 @@ module _ (x : Float) (F : T (fits binary64 x)) where
 
       field : (b : ℕ) → b % 2 ^ 63 / 2 ^ 52 < 2 ^ 11
       field b = omega arith
-
-      no : (f : ℕ) → f ≡ 0 → 0 < f → ⊥
-      no f z p = omega arith
 
 -- ---- no operand is a NaN where the plain result is none
 eq-nan : (x : Float) → eq x x ≡ true → T (not (isNan x))
@@ -377,9 +360,10 @@ module _ (f h : ℕ) (l : f < h + 1075) where
   as-shifted = omega arith
 
   pub addend-value : (x : Float) (s : Bool) (m : ℕ) → Decoded x s m (h + 63) → HasValue x s (m * 2 ^ spot) (2 ^ 2404)
-  addend-value x s m A =
-      subst (λ (w : ℕ). HasValue x s w (2 ^ 2404)) (mul-assoc m (2 ^ (h + 63)) (2 ^ 1266) ∙ ap (λ (w : ℕ). m * w) (sym (pow-add 2 (h + 63) 1266) ∙ ap (λ (w : ℕ). 2 ^ w) (sym as-shifted)))
-      (subst (λ (w : ℕ). HasValue x s (m * 2 ^ (h + 63) * 2 ^ 1266) w) (sym (pow-add 2 1138 1266)) (rescale x s (m * 2 ^ (h + 63)) (2 ^ 1138) (2 ^ 1266) (A .value)))
+  addend-value x s m A = same-value x s (m * 2 ^ (h + 63)) (2 ^ 1138) (m * 2 ^ spot) (2 ^ 2404) (pow-pos 1138) (same-power m (h + 63) 2404 spot 1138 (ends as-shifted)) (A .value)
+    where
+      ends : {p : ℕ} → p ≡ h + 63 + 1266 → h + 63 + 2404 ≡ p + 1138
+      ends e = omega arith
 
   addend-is : (m : ℕ) → m * 2 ^ spot ≡ m * 2 ^ (h + 63) * (2 ^ 128 * 2 ^ 1138)
   addend-is m = ap (λ (w : ℕ). m * 2 ^ w) as-shifted ∙ ap (λ (w : ℕ). m * w) (pow-add 2 (h + 63) 1266) ∙ sym (mul-assoc m (2 ^ (h + 63)) (2 ^ 1266)) ∙ ap (λ (w : ℕ). m * 2 ^ (h + 63) * w) (pow-add 2 128 1138)
