@@ -1,9 +1,9 @@
 -- `sum`, `add` and `sub` by the values of their operands. Assumes nothing.
-use mathlib.Core.Path.{_≡_, refl, sym, ap, _∙_, subst}
-use mathlib.Core.Bool.{Bool, true, false, not, _&&_, Bool·beq, cond}
-use Prim.Native.Nat.{ℕ, suc, _+_, _-_, _*_, _^_, _≤_, _<_}
+use mathlib.Core.Path.{_≡_, sym, ap, _∙_, subst}
+use mathlib.Core.Bool.{Bool, not, _&&_, Bool·beq, cond}
+use Prim.Native.Nat.{ℕ, _+_, _-_, _*_, _<_}
 use native.Mathlib.Nat.{mul-assoc, mul-comm, mul-right-comm, mul-pos, mul-sub, mul-lt-mul-of-pos-right, lt-of-mul-lt-mul-right, add-mul}
-use lib.Dec.{T, ltb, lt→ltb, ltb→lt}
+use lib.Dec.{ltb, lt→ltb, ltb→lt}
 use lib.Ieee.{Float, nan, inf, fin, Format, binary64, up, down, round, neg, sum, add, sub}
 use lib.Ieee.Fits.{down-pos}
 use lib.Ieee.Exact.{HasValue}

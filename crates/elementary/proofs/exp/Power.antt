@@ -1,8 +1,8 @@
 -- p × 2^(e − l), rounded once: from p's value, and as a product with the float 2^(e − l). Assumes nothing.
 use mathlib.Core.Path.{_≡_, refl, sym, ap, _∙_, subst}
 use mathlib.Core.Bool.{Bool, true, false, cond}
-use Prim.Native.Nat.{ℕ, zero, suc, _+_, _-_, _*_, _^_, _≤_, _<_}
-use native.Mathlib.Nat.{mul-assoc, mul-comm, mul-left-comm, mul-pos, one-mul, zero-add, zero-mul, lt-irrefl}
+use Prim.Native.Nat.{ℕ, _+_, _-_, _*_, _^_, _≤_, _<_}
+use native.Mathlib.Nat.{mul-assoc, mul-comm, mul-left-comm, mul-pos, one-mul, zero-add, lt-irrefl}
 use native.Mathlib.Omega.{arith}
 use lib.Dec.{T, eqb, eqb→eq}
 use lib.IntN.{ℤ}

@@ -1,14 +1,13 @@
 -- What ln's tests leave over is finite and above 0. Assumes nothing.
-use mathlib.Core.Path.{_≡_, refl, sym, ap, _∙_, subst}
-use mathlib.Core.Bool.{Bool, true, false, not, true≢false}
+use mathlib.Core.Path.{_≡_, sym, ap, _∙_, subst}
+use mathlib.Core.Bool.{Bool, true, false, true≢false}
 use Prim.Native.Nat.{ℕ, zero, suc, _+_, _*_, _^_, _≤_, _<_}
 use native.Mathlib.Nat.{zero-mul, zero-lt-suc, mul-pos}
 use native.Mathlib.Omega.{arith}
 use borrow.Author.Tests.{ltb-false}
-use lib.Dec.{T, ltb, lt→ltb, ltb→lt}
+use lib.Dec.{T, lt→ltb, ltb→lt}
 use lib.Pow.{pow-pos}
-use lib.Ieee.{Float, nan, inf, fin, binary64, up, down, level, lt, eq, ne, ofBits}
-use lib.Ieee.Exact.{HasValue}
+use lib.Ieee.{Float, nan, inf, fin, up, down, level, lt, eq, ne, ofBits}
 use lib.Ieee.Positive.{positive, first-pos}
 use lib.Ieee.Fits.{up-pos}
 use Rattle.elementary.specs.Ops.{+0}

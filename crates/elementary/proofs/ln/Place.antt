@@ -1,13 +1,13 @@
 -- The place of a float's first significant digit, and its significand, from the float taken apart. Assumes nothing.
 use mathlib.Core.Path.{_≡_, refl, sym, ap, _∙_, subst}
 use mathlib.Core.Bool.{Bool, true, false, cond}
-use Prim.Native.Nat.{ℕ, zero, suc, _+_, _-_, _*_, _/_, _%_, _^_, _≤_, _<_}
-use native.Mathlib.Nat.{mul-assoc, mul-comm, mul-le-mul-right, mul-lt-mul-of-pos-right, le-of-mul-le-mul-right, lt-of-mul-lt-mul-right, mul-div-mul-right, div-add-mod', add-zero, lt-of-lt-of-le}
+use Prim.Native.Nat.{ℕ, suc, _+_, _-_, _*_, _/_, _^_, _≤_, _<_}
+use native.Mathlib.Nat.{mul-assoc, mul-le-mul-right, le-of-mul-le-mul-right, lt-of-mul-lt-mul-right, mul-div-mul-right, div-add-mod', add-zero, lt-of-lt-of-le}
 use native.Mathlib.Numerals.{add-one}
 use native.Mathlib.Omega.{arith}
-use lib.Dec.{T, lit<}
+use lib.Dec.{T}
 use lib.Pow.{pow-add, pow-pos, pow-mono, shl-lt}
-use lib.Ieee.{Float, binary64, size, round, fits, lt}
+use lib.Ieee.{Float, binary64, round, fits, lt}
 use lib.Ieee.Exact.{HasValue, round-exact}
 use lib.Ieee.Fits.{round-fits}
 use Rattle.elementary.specs.Sqrt.{inUnits}

@@ -6,7 +6,7 @@ use native.Mathlib.Nat.{zero-lt-suc}
 use native.Mathlib.Omega.{arith}
 use lib.Dec.{T, leb, ltb, le→leb, leb→le, nleb→lt, ltb→lt, nltb→le}
 use lib.IntN.{pos, negsuc}
-use lib.Ieee.{Float, binary64, inFloat, minus, round, ofInt, ofBits, sub, sum}
+use lib.Ieee.{Float, binary64, inFloat, minus, round, ofInt, ofBits, sum}
 use lib.Ieee.Back.{round-whole}
 use lib.Ieee.Exact.{HasValue}
 use Rattle.elementary.specs.Ops.{_⊕_, _⊖_, _⊗_, _⊘_, one, whole}

@@ -1,24 +1,21 @@
 -- The machine's sums and differences of floats that are made from their fields. Assumes nothing.
 use mathlib.Core.Path.{_≡_, refl, sym, ap, _∙_, subst}
-use mathlib.Core.Logic.{_⊎_, inl, inr}
-use mathlib.Core.Bool.{Bool, true, false, not, cond, _&&_, Bool·beq, true≢false, false≢true}
-use Prim.Native.Nat.{ℕ, zero, suc, _+_, _-_, _*_, _/_, _%_, _^_, _≤_, _<_}
-use native.Mathlib.Nat.{le-trans, le-of-eq, lt-of-lt-of-le, lt-irrefl, mod-lt, mul-le-mul, mul-assoc, mul-comm, mul-left-comm, mul-right-comm, mul-pos, mul-lt-mul-of-pos-right, add-mul, add-comm}
+use mathlib.Core.Logic.{inl, inr}
+use mathlib.Core.Bool.{Bool, true, false, not, Bool·beq, true≢false, false≢true}
+use Prim.Native.Nat.{ℕ, _+_, _-_, _*_, _/_, _%_, _^_, _≤_, _<_}
+use native.Mathlib.Nat.{lt-of-lt-of-le, mod-lt, mul-le-mul, mul-assoc, mul-comm, mul-left-comm, mul-lt-mul-of-pos-right, add-mul, add-comm}
 use native.Mathlib.Omega.{arith}
-use lib.Dec.{T, leb, ltb, eqb, eqb→eq, le→leb, leb→le, ltb→lt, not-T}
+use lib.Dec.{T, leb}
 use lib.Pow.{pow-add, pow-pos, pow-mono, shl-lt}
-use lib.Ieee.{Float, nan, inf, fin, binary64, low, up, down, odd, ofFields, ofBits, toBits, fits, nanBits, isNan, eq, add, sub, mul, neg, sum, round, unlike}
-use lib.Ieee.Fits.{down-pos}
-use lib.Ieee.Exact.{HasValue, odd-sign, round-exact}
-use lib.Ieee.Bits.{nanBits-above, is-true, is-false}
-use lib.Ieee.Scale.{finite}
+use lib.Ieee.{Float, nan, inf, fin, binary64, low, toBits, fits, isNan, eq, add, sub, mul, sum, round, unlike}
+use lib.Ieee.Exact.{HasValue, round-exact}
 use Rattle.elementary.specs.Round.{wide, Decoded}
 use Rattle.elementary.specs.MulAdd.Steps.{Marked, Middling, Opened}
 use Rattle.elementary.proofs.Decode.{same-power, same-value, normal-value}
 use Rattle.elementary.proofs.mul_add.Sums.{sum-same, sum-more}
-use Rattle.elementary.proofs.Adding.{sub-mul, sum-value, add-at, sub-at}
+use Rattle.elementary.proofs.Adding.{sub-mul, add-at, sub-at}
 use Rattle.elementary.specs.MulAdd.{fma}
-use Rattle.elementary.proofs.mul_add.Exactly.{sum-comm, beq-refl, beq-cases, product-form, addend-form, fma-at}
+use Rattle.elementary.proofs.mul_add.Exactly.{sum-comm, beq-refl, beq-cases, product-form, fma-at}
 use Rattle.elementary.proofs.mul_add.Alike.{round-alike, plus-alike, minus-alike}
 
 -- ---- differences that are exact

@@ -1,9 +1,6 @@
 -- `ln::exponent` meets its contract: both numbers are whole and small. Assumes nothing.
-use mathlib.Core.Path.{ap, _∙_}
-use Prim.Native.Nat.{_≤_, _^_}
 use native.Mathlib.Omega.{arith}
 use lib.Dec.{lit≤}
-use Rattle.elementary.specs.Ops.{_⊖_, whole}
 use Rattle.elementary.proofs.ln.Turns.{counted, difference, unit}
 use Rattle.elementary.proofs.ln.exponent.Statement.{statement}
 use Rattle.elementary.proofs.ln.exponent.Tie as tie

@@ -2,10 +2,8 @@
 use mathlib.Core.Path.{_≡_, sym, ap, _∙_, subst}
 use mathlib.Core.Logic.{⊎-elim}
 use Prim.Native.Nat.{ℕ, _+_, _-_, _*_, _^_, _≤_, _<_}
-use native.Mathlib.Numerals.{add-one}
 use native.Mathlib.Omega.{arith}
 use lib.Dec.{T, lit<}
-use lib.Ieee.{Float, binary64, fits}
 use lib.Ieee.Exact.{HasValue}
 use lib.Ieee.Positive.{positive-finite}
 use Rattle.elementary.specs.Round.{Digits}

@@ -1,9 +1,6 @@
 -- `ln::series` meets its contract. The loop's invariant: q is the sum after the turns down to i. Assumes nothing.
-use mathlib.Core.Path.{ap}
-use Prim.Native.Nat.{_≤_, _^_}
+use Prim.Native.Nat.{_≤_}
 use native.Mathlib.Omega.{arith}
-use lib.Ieee.{Float}
-use Rattle.elementary.specs.Ln.{lnSum}
 use Rattle.elementary.proofs.ln.Turns.{counted, first, Down, turned, done}
 use Rattle.elementary.proofs.ln.series.Statement.{statement}
 use Rattle.elementary.proofs.ln.series.Tie as tie
