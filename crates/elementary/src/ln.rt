@@ -1,4 +1,8 @@
 // ln and powf(1/3).
+use crate::exp::H;
+use crate::exp::L;
+use crate::exp::exp;
+use crate::methods::is_zero;
 use crate::round::assembled;
 use crate::round::taken_apart;
 ghost use mathlib.Core.Path.{_≡_};
@@ -6,14 +10,9 @@ ghost use Prim.Native.Nat.{_≤_, _<_, _^_};
 ghost use lib.Dec.{T};
 ghost use lib.Ieee.Positive as Positive;
 ghost use Rattle.elementary.specs.Ops.{_⊘_, one, whole};
-ghost use Rattle.elementary.specs.Ln.{exponentAt, lnSum, lnAt, lnInner, lnOf};
+ghost use Rattle.elementary.specs.Ln.{exponentAt, lnSum, lnAt, lnInner, lnOf, cubeRootOf};
 
 const SQRT_2: f64 = 1.4142135623730951;
-
-// ln 2 in two parts, H with 20 zero digits at its end.
-const H: f64 = 0.6931471803691238;
-
-const L: f64 = 1.9082149292705877e-10;
 
 // The sum of the series in z: 1/1 + z/3 + z^2/5 and so on to z^11/23.
 fn series(z: f64) -> f64
@@ -78,4 +77,14 @@ pub fn ln(y: f64) -> f64
         return 1.0 / 0.0;
     }
     positive(y)
+}
+
+// powf(1/3): +0 for a zero.
+pub fn powf_1_3(y: f64) -> f64
+    ensures { λ r. ⌜ r ≡ cubeRootOf y ⌝ }
+{
+    if is_zero(y) {
+        return 0.0;
+    }
+    exp(ln(y) * (1.0 / 3.0))
 }
