@@ -1,0 +1,19 @@
+-- What a case of an answer says: document 01's number, 0 where there is none, and the value. Definitions only.
+use Prim.Native.Nat.{ℕ}
+use lib.Ieee.{Float, nan}
+use Rattle.prices.specs.declared.answer.Answer.{Answer}
+use Rattle.prices.specs.declared.answer.Answer.the-variants.{Value, Refused}
+
+abbrev pub numberOf : Answer → ℕ
+numberOf (Value v) = 0
+numberOf (Refused n) = n
+
+-- a refusal has none; NaN stands for it
+abbrev pub valueOf : Answer → Float
+valueOf (Value v) = v
+valueOf (Refused n) = nan
+
+-- A refusal passes up from an inner call; a value goes on.
+abbrev pub next : Answer → (Float → Answer) → Answer
+next (Value v) f = f v
+next (Refused n) f = Refused n

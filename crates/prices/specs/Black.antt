@@ -1,0 +1,207 @@
+-- black.rs, operation by operation, and `black` of mod.rs. Definitions only.
+use mathlib.Core.Bool.{Bool, true, false, not, cond, _&&_, _||_}
+use Prim.Native.Nat.{ℕ, zero, suc, _+_, _*_}
+use lib.Ieee.{Float, binary64, neg, lt, le}
+use Rattle.elementary.specs.Ops.{_⊕_, _⊖_, _⊗_, _⊘_, bits, whole, +0, half, one, two}
+use Rattle.elementary.specs.Rules.{Rules}
+use Rattle.elementary.specs.Methods.{absOf, maxOf}
+use Rattle.elementary.specs.Sqrt.{sqrtOf}
+use Rattle.elementary.specs.MulAdd.{fma}
+use Rattle.elementary.specs.Exp.{expOf}
+use Rattle.elementary.specs.Ln.{lnOf}
+use Rattle.elementary.specs.Cody.{erfcOf, erfcxOf}
+use Rattle.elementary.specs.NormalDistribution.{FRAC-1-SQRT-2}
+use Rattle.prices.specs.declared.inputs.OptionType.{OptionType}
+use Rattle.prices.specs.declared.inputs.OptionType.the-variants.{Call, Put}
+use Rattle.prices.specs.declared.answer.Answer.{Answer}
+use Rattle.prices.specs.declared.answer.Answer.the-variants.{Value, Refused}
+use Rattle.prices.specs.Inputs.{negated, times}
+use Rattle.prices.specs.Answers.{next}
+use Rattle.prices.specs.Intrinsic.{intrinsicOf}
+use Rattle.prices.specs.Vega.{SQRT-2PI, ONE-OVER-SQRT-TWO-PI}
+
+-- −10, for H_LARGE and for ASYMPTOTIC_EXPANSION_ACCURACY_THRESHOLD
+abbrev pub H-LARGE : Float
+H-LARGE = bits 0xc024_0000_0000_0000
+
+-- 2 × 0.10566243270259357
+abbrev pub SMALL-T : Float
+SMALL-T = bits 0x3fcb_0cb1_74df_99c8
+
+-- 0.46875
+abbrev pub CODYS-THRESHOLD : Float
+CODYS-THRESHOLD = bits 0x3fde_0000_0000_0000
+
+-- −FRAC_1_SQRT_2
+abbrev pub MINUS-FRAC : Float
+MINUS-FRAC = bits 0xbfe6_a09e_667f_3bcd
+
+abbrev pub mulAdd : Float → Float → Float → Float
+mulAdd a b c = fma binary64 a b c
+
+-- ---- the three regions
+
+-- (−0.5 × (h² + t²)).exp()
+abbrev pub bell : Float → Float → Float
+bell h t = expOf (neg half ⊗ (h ⊗ h ⊕ t ⊗ t))
+
+unfoldable pub codysOf : Rules → Float → Float → Float
+codysOf rules x s =
+    let h = x ⊘ s in
+    let t = half ⊗ s in
+    let q1 = MINUS-FRAC ⊗ (h ⊕ t) in
+    let q2 = MINUS-FRAC ⊗ (h ⊖ t) in
+    let first-erfc = expOf (half ⊗ x) ⊗ erfcOf rules q1 in
+    let second-erfc = expOf (neg half ⊗ x) ⊗ erfcOf rules q2 in
+    let both-erfc = first-erfc ⊖ second-erfc in
+    let second-erfcx = first-erfc ⊖ bell h t ⊗ erfcxOf q2 in
+    let first-erfcx = bell h t ⊗ erfcxOf q1 ⊖ second-erfc in
+    let both-erfcx = bell h t ⊗ (erfcxOf q1 ⊖ erfcxOf q2) in
+    let two-b = cond (lt q1 CODYS-THRESHOLD) (cond (lt q2 CODYS-THRESHOLD) both-erfc second-erfcx) (cond (lt q2 CODYS-THRESHOLD) first-erfcx both-erfcx) in
+    maxOf (half ⊗ two-b) +0
+
+-- The terms of the Taylor sum. Each is a Horner sum in h² whose coefficients are themselves a × p + q, all fused.
+abbrev pub firstTurn : Float → Float → ℕ → Float
+firstTurn a h2 c = mulAdd a (h2 ⊕ whole c) (neg one)
+
+abbrev pub turn : Float → Float → Float → ℕ → ℕ → Float
+turn a h2 sum p q = mulAdd h2 sum (mulAdd a (whole p) (neg (whole q)))
+
+unfoldable pub term1 : Float → Float → Float
+term1 a h2 = firstTurn a h2 3 ⊘ whole 6
+
+unfoldable pub term2 : Float → Float → Float
+term2 a h2 = turn a h2 (firstTurn a h2 10) 15 7 ⊘ whole 120
+
+unfoldable pub term3 : Float → Float → Float
+term3 a h2 = turn a h2 (turn a h2 (firstTurn a h2 21) 105 18) 105 57 ⊘ whole 5040
+
+unfoldable pub term4 : Float → Float → Float
+term4 a h2 = turn a h2 (turn a h2 (turn a h2 (firstTurn a h2 36) 378 33) 1260 285) 945 561 ⊘ whole 362880
+
+unfoldable pub term5 : Float → Float → Float
+term5 a h2 = turn a h2 (turn a h2 (turn a h2 (turn a h2 (firstTurn a h2 55) 990 52) 6930 840) 17325 4680) 10395 6555 ⊘ whole 39916800
+
+unfoldable pub term6 : Float → Float → Float
+term6 a h2 =
+    turn a h2 (turn a h2 (turn a h2 (turn a h2 (turn a h2 (firstTurn a h2 78) 2145 75) 25740 1926) 135135 20370) 270270 82845) 135135 89055 ⊘ whole 6227020800
+
+-- the sum over the powers of t², from the smallest term
+unfoldable pub taylorOf : Float → Float → Float → Float
+taylorOf a h2 t2 =
+    let t4 = t2 ⊗ t2 in
+    let t6 = t4 ⊗ t2 in
+    let t8 = t4 ⊗ t4 in
+    let t10 = t6 ⊗ t4 in
+    let t12 = t6 ⊗ t6 in
+    mulAdd a one
+    (mulAdd (term1 a h2) t2
+    (mulAdd (term2 a h2) t4
+    (mulAdd (term3 a h2) t6
+    (mulAdd (term4 a h2) t8
+    (mulAdd (term5 a h2) t10 (term6 a h2 ⊗ t12))))))
+
+unfoldable pub smallTInner : Float → Float → Float
+smallTInner h t =
+    let t2 = t ⊗ t in
+    let h2 = h ⊗ h in
+    let a = one ⊕ h ⊗ (half ⊗ SQRT-2PI) ⊗ erfcxOf (MINUS-FRAC ⊗ h) in
+    let y-diff = two ⊗ t ⊗ taylorOf a h2 t2 in
+    let exp-term = expOf (neg half ⊗ (h2 ⊕ t2)) in
+    maxOf (ONE-OVER-SQRT-TWO-PI ⊗ exp-term ⊗ y-diff) +0
+
+unfoldable pub smallTOf : Float → Float → Answer
+smallTOf h t = let inner = smallTInner h t in cond (le SMALL-T t) (Refused 8) (Value inner)
+
+-- y after n turns from i, with the sign of the next term: the sum gets ± the term, which is then multiplied by z² over (2 i + 2) (2 i + 3).
+-- The Rust also carries a factorial through the turns, which nothing reads.
+unfoldable pub seriesTurns : ℕ → ℕ → Float → Float → Float → Float → Float
+seriesTurns zero i z2 y sign term = y
+seriesTurns (suc n) i z2 y sign term =
+    let factor = (two ⊗ whole i ⊕ two) ⊗ (two ⊗ whole i ⊕ whole 3) in
+    seriesTurns n (suc i) z2 (y ⊕ sign ⊗ term) (neg sign) (term ⊗ (z2 ⊘ factor))
+
+-- Y(z): 1/z − 1/z³ + 3/z⁵ and the 15 terms of i from 3 to 17
+unfoldable pub seriesOf : Float → Float
+seriesOf z =
+    let z2 = z ⊗ z in
+    let y = one ⊘ z ⊖ one ⊘ (z2 ⊗ z) ⊕ whole 3 ⊘ (z2 ⊗ z2 ⊗ z) in
+    let term = one ⊘ (whole 15 ⊗ z2 ⊗ z2 ⊗ z) in
+    seriesTurns 15 3 z2 y (neg one) term
+
+unfoldable pub asymptoticInner : Float → Float → Float
+asymptoticInner h t =
+    let exp-term = expOf (mulAdd (neg half) (h ⊗ h) (neg half ⊗ t ⊗ t)) in
+    absOf (exp-term ⊗ (seriesOf (h ⊕ t) ⊖ seriesOf (h ⊖ t)) ⊘ SQRT-2PI)
+
+unfoldable pub asymptoticOf : Float → Float → Answer
+asymptoticOf h t =
+    let inner = asymptoticInner h t in
+    cond (lt H-LARGE h || le (absOf h ⊖ absOf H-LARGE ⊕ SMALL-T) t) (Refused 7) (Value inner)
+
+unfoldable pub usingErfcxOf : Float → Float → Float
+usingErfcxOf h t = maxOf (half ⊗ bell h t ⊗ (erfcxOf (MINUS-FRAC ⊗ (h ⊕ t)) ⊖ erfcxOf (MINUS-FRAC ⊗ (h ⊖ t)))) +0
+
+-- ---- the price
+
+-- out of the money: the region of x and s
+unfoldable pub regionOf : Rules → Float → Float → Answer
+regionOf rules x s =
+    let asymptotic = asymptoticOf (x ⊘ s) (half ⊗ s) in
+    let small-t = smallTOf (x ⊘ s) (half ⊗ s) in
+    let codys = Value (codysOf rules x s) in
+    cond (lt x (s ⊗ H-LARGE) && lt (half ⊗ s ⊗ s ⊕ x) (s ⊗ (SMALL-T ⊕ H-LARGE))) asymptotic
+    (cond (lt (half ⊗ s) SMALL-T) small-t codys)
+
+-- out of the money. DENORMALISATION_CUTOFF is 0, and stands where the Rust has it
+unfoldable pub outOfTheMoney : Rules → Float → Float → Answer
+outOfTheMoney rules x s =
+    let region = regionOf rules x s in
+    let intrinsic = Value (intrinsicOf x Call) in
+    cond (le s (absOf x ⊗ +0)) intrinsic region
+
+-- In the money the price is the intrinsic value and the price at −x, which is out of the money: the rule calls itself once, and the depth falls.
+unfoldable pub callAt : ℕ → Rules → Float → Float → Answer
+callAt zero rules x s = outOfTheMoney rules x s
+callAt (suc depth) rules x s =
+    let mapped = next (callAt depth rules (neg x) s) (λ b. Value (intrinsicOf x Call ⊕ b)) in
+    let direct = outOfTheMoney rules x s in
+    cond (lt +0 x) mapped direct
+
+abbrev pub callOf : Rules → Float → Float → Answer
+callOf = callAt 1
+
+unfoldable pub normalisedBlackOf : Rules → Float → Float → OptionType → Answer
+normalisedBlackOf rules x s kind = callOf rules (times kind x) s
+
+-- ---- black
+
+-- a positive normal finite number
+abbrev pub isPositiveNormal : Float → Bool
+isPositiveNormal x = le (bits 0x0010_0000_0000_0000) x && le x (bits 0x7fef_ffff_ffff_ffff)
+
+abbrev pub isFinite : Float → Bool
+isFinite x = le (neg (bits 0x7fef_ffff_ffff_ffff)) x && le x (bits 0x7fef_ffff_ffff_ffff)
+
+-- `black` after its refusals, out of the money
+unfoldable pub priceOf : Rules → Float → Float → Float → Float → OptionType → Answer
+priceOf rules forward strike sigma expiry kind =
+    let intrinsic = maxOf (times kind (forward ⊖ strike)) +0 in
+    next (normalisedBlackOf rules (lnOf (forward ⊘ strike)) (sigma ⊗ sqrtOf binary64 expiry) kind)
+    (λ b. Value (maxOf intrinsic (sqrtOf binary64 forward ⊗ sqrtOf binary64 strike ⊗ b)))
+
+-- in the money mapped to out of the money, once
+unfoldable pub blackAt : ℕ → Rules → Float → Float → Float → Float → OptionType → Answer
+blackAt zero rules forward strike sigma expiry kind = priceOf rules forward strike sigma expiry kind
+blackAt (suc depth) rules forward strike sigma expiry kind =
+    let signed-diff = times kind (forward ⊖ strike) in
+    let mapped = next (blackAt depth rules forward strike sigma expiry (negated kind)) (λ b. Value (maxOf signed-diff +0 ⊕ b)) in
+    let direct = priceOf rules forward strike sigma expiry kind in
+    cond (lt +0 signed-diff) mapped direct
+
+unfoldable pub blackOf : Rules → Float → Float → Float → Float → OptionType → Answer
+blackOf rules forward strike sigma expiry kind =
+    let price = blackAt 1 rules forward strike sigma expiry kind in
+    cond (isPositiveNormal forward)
+    (cond (isPositiveNormal strike) (cond (isFinite sigma) (cond (isPositiveNormal expiry) price (Refused 4)) (Refused 5)) (Refused 3))
+    (Refused 2)

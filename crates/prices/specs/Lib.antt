@@ -1,0 +1,7 @@
+-- Definitions, by the file of the Rust that they follow.
+pub mod Inputs
+pub mod Answers
+pub mod Intrinsic
+pub mod Vega
+pub mod Black
+pub mod RationalCubic

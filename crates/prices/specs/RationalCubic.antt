@@ -1,0 +1,91 @@
+-- rational_cubic.rs, operation by operation. Definitions only.
+use mathlib.Core.Bool.{Bool, true, false, not, cond, _&&_, _||_}
+use lib.Ieee.{Float, binary64, neg, lt, le, eq, inf}
+use Rattle.elementary.specs.Ops.{_⊕_, _⊖_, _⊗_, _⊘_, bits, whole, +0, half, one, MAX}
+use Rattle.elementary.specs.Methods.{absOf, maxOf, isZero}
+use Rattle.prices.specs.declared.rational_cubic.Side.{Side}
+use Rattle.prices.specs.declared.rational_cubic.Side.the-variants.{Left, Right}
+use Rattle.prices.specs.declared.answer.Answer.{Answer}
+use Rattle.prices.specs.declared.answer.Answer.the-variants.{Value, Refused}
+use Rattle.prices.specs.Black.{mulAdd}
+
+-- −(1 − 1.4901161193847656e-8), 2 / EPSILON², f64::EPSILON, and f64::MIN, which is −f64::MAX
+abbrev pub MINIMUM : Float
+MINIMUM = bits 0xbfef_ffff_f800_0000
+
+abbrev pub MAXIMUM : Float
+MAXIMUM = bits 0x4680_0000_0000_0000
+
+abbrev pub EPSILON : Float
+EPSILON = bits 0x3cb0_0000_0000_0000
+
+abbrev pub MIN : Float
+MIN = neg MAX
+
+abbrev pub isInfinite : Float → Bool
+isInfinite x = eq (absOf x) (inf false)
+
+-- ---- the interpolation
+unfoldable pub curveOf : Float → Float → Float → Float → Float → Float → Float → Float
+curveOf h t y-l y-r d-l d-r r =
+    let omt = one ⊖ t in
+    let t2 = t ⊗ t in
+    let omt2 = omt ⊗ omt in
+    let numerator = y-r ⊗ t2 ⊗ t ⊕ (r ⊗ y-r ⊖ h ⊗ d-r) ⊗ t2 ⊗ omt ⊕ (r ⊗ y-l ⊕ h ⊗ d-l) ⊗ t ⊗ omt2 ⊕ y-l ⊗ omt2 ⊗ omt in
+    let denominator = one ⊕ (r ⊖ whole 3) ⊗ t ⊗ omt in
+    let straight = mulAdd y-r t (y-l ⊗ omt) in
+    let curved = numerator ⊘ denominator in
+    cond (lt r MAXIMUM) curved straight
+
+unfoldable pub interpolationOf : Float → Float → Float → Float → Float → Float → Float → Float → Answer
+interpolationOf x x-l x-r y-l y-r d-l d-r r =
+    let h = x-r ⊖ x-l in
+    let curve = curveOf h ((x ⊖ x-l) ⊘ h) y-l y-r d-l d-r r in
+    let middle = half ⊗ (y-l ⊕ y-r) in
+    cond (isInfinite x || (isInfinite x-l || isInfinite x-r)) (Refused 6) (cond (le (absOf h) EPSILON) (Value middle) (Value curve))
+
+-- ---- the control parameters
+abbrev pub isMonotonic : Float → Float → Float → Bool
+isMonotonic d-l d-r s = le +0 (d-l ⊗ s) && le +0 (d-r ⊗ s)
+
+abbrev pub isConvex : Float → Float → Float → Bool
+isConvex d-l d-r s = le d-l s && le s d-r
+
+abbrev pub isConcave : Float → Float → Float → Bool
+isConcave d-l d-r s = le s d-l && le d-r s
+
+-- r1, by what was found of the slopes
+abbrev pub monotonicParameter : Bool → Float → Float → Float → Bool → Float
+monotonicParameter monotonic d-l d-r s prefer =
+    cond monotonic (cond (isZero s) (cond prefer MAXIMUM MIN) ((d-r ⊕ d-l) ⊘ s)) MIN
+
+-- r2
+abbrev pub shapeParameter : Bool → Bool → Float → Float → Float → Bool → Float
+shapeParameter curved monotonic d-l d-r s prefer =
+    let width = d-r ⊖ d-l in
+    let right = d-r ⊖ s in
+    let left = s ⊖ d-l in
+    cond (curved && (not (isZero left) && not (isZero right))) (maxOf (absOf (width ⊘ right)) (absOf (width ⊘ left)))
+    (cond (monotonic && prefer) MAXIMUM MIN)
+
+unfoldable pub minimumParameterOf : Float → Float → Float → Bool → Float
+minimumParameterOf d-l d-r s prefer =
+    let monotonic = isMonotonic d-l d-r s in
+    let curved = isConvex d-l d-r s || isConcave d-l d-r s in
+    cond (monotonic || curved) (maxOf MINIMUM (maxOf (monotonicParameter monotonic d-l d-r s prefer) (shapeParameter curved monotonic d-l d-r s prefer))) MINIMUM
+
+abbrev pub sideOf : Side → Float → Float → Float → Float
+sideOf Left slope d-l d-r = slope ⊖ d-l
+sideOf Right slope d-l d-r = d-r ⊖ slope
+
+unfoldable pub controlParameterOf : Float → Float → Float → Float → Float → Float → Float → Side → Float
+controlParameterOf x-l x-r y-l y-r d-l d-r second-derivative side =
+    let h = x-r ⊖ x-l in
+    let numerator = half ⊗ mulAdd second-derivative h (d-r ⊖ d-l) in
+    let denominator = sideOf side ((y-r ⊖ y-l) ⊘ h) d-l d-r in
+    cond (isZero numerator) +0
+    (cond (isZero denominator || isInfinite denominator) (cond (lt +0 numerator) MAXIMUM MINIMUM) (numerator ⊘ denominator))
+
+unfoldable pub convexParameterOf : Float → Float → Float → Float → Float → Float → Float → Bool → Side → Float
+convexParameterOf x-l x-r y-l y-r d-l d-r second-derivative prefer side =
+    maxOf (controlParameterOf x-l x-r y-l y-r d-l d-r second-derivative side) (minimumParameterOf d-l d-r ((y-r ⊖ y-l) ⊘ (x-r ⊖ x-l)) prefer)

@@ -1,0 +1,28 @@
+-- `normalised_vega` of so_rational.rs, operation by operation. Definitions only.
+use mathlib.Core.Bool.{true, false, cond, _||_}
+use lib.Ieee.{Float, neg, le}
+use Rattle.elementary.specs.Ops.{_⊕_, _⊗_, _⊘_, bits, +0, half, one}
+use Rattle.elementary.specs.Methods.{absOf, squareOf}
+use Rattle.elementary.specs.Exp.{expOf}
+
+-- 2.5066282746310002 and 1 over it, as the Rust rounds it
+abbrev pub SQRT-2PI : Float
+SQRT-2PI = bits 0x4004_0d93_1ff6_2705
+
+abbrev pub ONE-OVER-SQRT-TWO-PI : Float
+ONE-OVER-SQRT-TWO-PI = bits 0x3fd9_8845_33d4_3651
+
+-- 1.4916681462400413e-154
+abbrev pub SQRT-DBL-MIN : Float
+SQRT-DBL-MIN = bits 0x2000_0000_0000_0000
+
+-- 0.125
+abbrev pub eighth : Float
+eighth = bits 0x3fc0_0000_0000_0000
+
+unfoldable pub vegaOf : Float → Float → Float
+vegaOf x s =
+    let ax = absOf x in
+    let at-the-money = ONE-OVER-SQRT-TWO-PI ⊗ expOf (neg eighth ⊗ s ⊗ s) in
+    let elsewhere = ONE-OVER-SQRT-TWO-PI ⊗ expOf (neg half ⊗ (squareOf (x ⊘ s) ⊕ squareOf (half ⊗ s))) in
+    cond (le ax +0) at-the-money (cond (le s +0 || le s (ax ⊗ SQRT-DBL-MIN)) +0 elsewhere)

@@ -1,0 +1,8 @@
+// Layer 2: intrinsic value, vega, the Black price and the rational cubic, each equal bit for bit to
+// its definition in specs/.
+pub mod inputs; // `OptionType` of inputs.rs
+pub mod answer; // what may be refused
+pub mod intrinsic; // intrinsic.rs
+pub mod vega; // `normalised_vega` of so_rational.rs
+pub mod black; // black.rs, and `black` of mod.rs
+pub mod rational_cubic; // rational_cubic.rs

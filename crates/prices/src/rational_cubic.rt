@@ -1,0 +1,5 @@
+// The rational cubic.
+pub enum Side {
+    Left,
+    Right,
+}
