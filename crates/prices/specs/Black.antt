@@ -45,46 +45,60 @@ mulAdd a b c = fma binary64 a b c
 abbrev pub bell : Float → Float → Float
 bell h t = expOf (neg half ⊗ (h ⊗ h ⊕ t ⊗ t))
 
+abbrev pub firstErfc : Rules → Float → Float → Float
+firstErfc rules x q1 = expOf (half ⊗ x) ⊗ erfcOf rules q1
+
+abbrev pub secondErfc : Rules → Float → Float → Float
+secondErfc rules x q2 = expOf (neg half ⊗ x) ⊗ erfcOf rules q2
+
+-- twice the price, with erfcx in place of erfc from Cody's threshold on
+unfoldable pub twoB : Rules → Float → Float → Float → Float → Float → Float
+twoB rules x h t q1 q2 =
+    let both-erfc = firstErfc rules x q1 ⊖ secondErfc rules x q2 in
+    let second-erfcx = firstErfc rules x q1 ⊖ bell h t ⊗ erfcxOf q2 in
+    let first-erfcx = bell h t ⊗ erfcxOf q1 ⊖ secondErfc rules x q2 in
+    let both-erfcx = bell h t ⊗ (erfcxOf q1 ⊖ erfcxOf q2) in
+    cond (lt q1 CODYS-THRESHOLD) (cond (lt q2 CODYS-THRESHOLD) both-erfc second-erfcx) (cond (lt q2 CODYS-THRESHOLD) first-erfcx both-erfcx)
+
+-- optimal use of Cody's functions
 unfoldable pub codysOf : Rules → Float → Float → Float
 codysOf rules x s =
     let h = x ⊘ s in
     let t = half ⊗ s in
-    let q1 = MINUS-FRAC ⊗ (h ⊕ t) in
-    let q2 = MINUS-FRAC ⊗ (h ⊖ t) in
-    let first-erfc = expOf (half ⊗ x) ⊗ erfcOf rules q1 in
-    let second-erfc = expOf (neg half ⊗ x) ⊗ erfcOf rules q2 in
-    let both-erfc = first-erfc ⊖ second-erfc in
-    let second-erfcx = first-erfc ⊖ bell h t ⊗ erfcxOf q2 in
-    let first-erfcx = bell h t ⊗ erfcxOf q1 ⊖ second-erfc in
-    let both-erfcx = bell h t ⊗ (erfcxOf q1 ⊖ erfcxOf q2) in
-    let two-b = cond (lt q1 CODYS-THRESHOLD) (cond (lt q2 CODYS-THRESHOLD) both-erfc second-erfcx) (cond (lt q2 CODYS-THRESHOLD) first-erfcx both-erfcx) in
-    maxOf (half ⊗ two-b) +0
+    maxOf (half ⊗ twoB rules x h t (MINUS-FRAC ⊗ (h ⊕ t)) (MINUS-FRAC ⊗ (h ⊖ t))) +0
 
 -- The terms of the Taylor sum. Each is a Horner sum in h² whose coefficients are themselves a × p + q, all fused.
-abbrev pub firstTurn : Float → Float → ℕ → Float
-firstTurn a h2 c = mulAdd a (h2 ⊕ whole c) (neg one)
+abbrev pub firstBy : Float → Float → Float → Float
+firstBy a h2 c = mulAdd a (h2 ⊕ c) (neg one)
 
+abbrev pub turnBy : Float → Float → Float → Float → Float → Float
+turnBy a h2 sum p q = mulAdd h2 sum (mulAdd a p q)
+
+abbrev pub first : Float → Float → ℕ → Float
+first a h2 c = firstBy a h2 (whole c)
+
+-- q is taken off
 abbrev pub turn : Float → Float → Float → ℕ → ℕ → Float
-turn a h2 sum p q = mulAdd h2 sum (mulAdd a (whole p) (neg (whole q)))
+turn a h2 sum p q = turnBy a h2 sum (whole p) (neg (whole q))
 
 unfoldable pub term1 : Float → Float → Float
-term1 a h2 = firstTurn a h2 3 ⊘ whole 6
+term1 a h2 = first a h2 3 ⊘ whole 6
 
 unfoldable pub term2 : Float → Float → Float
-term2 a h2 = turn a h2 (firstTurn a h2 10) 15 7 ⊘ whole 120
+term2 a h2 = turn a h2 (first a h2 10) 15 7 ⊘ whole 120
 
 unfoldable pub term3 : Float → Float → Float
-term3 a h2 = turn a h2 (turn a h2 (firstTurn a h2 21) 105 18) 105 57 ⊘ whole 5040
+term3 a h2 = turn a h2 (turn a h2 (first a h2 21) 105 18) 105 57 ⊘ whole 5040
 
 unfoldable pub term4 : Float → Float → Float
-term4 a h2 = turn a h2 (turn a h2 (turn a h2 (firstTurn a h2 36) 378 33) 1260 285) 945 561 ⊘ whole 362880
+term4 a h2 = turn a h2 (turn a h2 (turn a h2 (first a h2 36) 378 33) 1260 285) 945 561 ⊘ whole 362880
 
 unfoldable pub term5 : Float → Float → Float
-term5 a h2 = turn a h2 (turn a h2 (turn a h2 (turn a h2 (firstTurn a h2 55) 990 52) 6930 840) 17325 4680) 10395 6555 ⊘ whole 39916800
+term5 a h2 = turn a h2 (turn a h2 (turn a h2 (turn a h2 (first a h2 55) 990 52) 6930 840) 17325 4680) 10395 6555 ⊘ whole 39916800
 
 unfoldable pub term6 : Float → Float → Float
 term6 a h2 =
-    turn a h2 (turn a h2 (turn a h2 (turn a h2 (turn a h2 (firstTurn a h2 78) 2145 75) 25740 1926) 135135 20370) 270270 82845) 135135 89055 ⊘ whole 6227020800
+    turn a h2 (turn a h2 (turn a h2 (turn a h2 (turn a h2 (first a h2 78) 2145 75) 25740 1926) 135135 20370) 270270 82845) 135135 89055 ⊘ whole 6227020800
 
 -- the sum over the powers of t², from the smallest term
 unfoldable pub taylorOf : Float → Float → Float → Float

@@ -1,1 +1,230 @@
-// black
+// The normalised Black price: black.rs, line by line, and `black` of mod.rs.
+use crate::answer::Answer;
+use crate::inputs::OptionType;
+use crate::intrinsic::normalised_intrinsic;
+use elementary::cody::erfc;
+use elementary::cody::erfcx;
+use elementary::exp::exp;
+use elementary::ln::ln;
+use elementary::methods::abs;
+use elementary::methods::max;
+use elementary::mul_add::mul_add;
+use elementary::sqrt::sqrt;
+ghost use mathlib.Core.Path.{_≡_};
+ghost use Prim.Native.Nat.{ℕ, _≤_};
+ghost use lib.Ieee.{neg};
+ghost use Rattle.elementary.specs.Rules.{rules-0};
+ghost use Rattle.elementary.specs.Ops.{one};
+ghost use Rattle.prices.specs.Black.{bell as bellOf, turnBy, firstBy, term1 as term1Of, term2 as term2Of, term3 as term3Of, term4 as term4Of, term5 as term5Of, term6 as term6Of, taylorOf, smallTInner, smallTOf, seriesTurns, seriesOf, asymptoticInner, asymptoticOf, usingErfcxOf, firstErfc, secondErfc, twoB, codysOf, regionOf, outOfTheMoney, callAt, callOf, normalisedBlackOf, isPositiveNormal, isFinite, priceOf, blackAt, blackOf};
+
+// The threshold of the asymptotic expansion, and H_LARGE.
+const H_LARGE: f64 = -10.0;
+
+const CODYS_THRESHOLD: f64 = 0.46875;
+// Twice the sixteenth root of f64::EPSILON.
+const SMALL_T: f64 = 0.21132486540518713;
+
+const MINUS_FRAC_1_SQRT_2: f64 = -0.7071067811865476;
+
+const SQRT_2PI: f64 = 2.5066282746310002;
+
+const ONE_OVER_SQRT_TWO_PI: f64 = 0.3989422804014327;
+
+// exp(−(h² + t²) / 2).
+fn bell(h: f64, t: f64) -> f64
+    ensures { λ r. ⌜ r ≡ bellOf h t ⌝ }
+{
+    exp(-0.5 * (h * h + t * t))
+}
+
+// ---- optimal use of Cody's functions
+
+fn first_erfc(x: f64, q1: f64) -> f64
+    ensures { λ r. ⌜ r ≡ firstErfc rules-0 x q1 ⌝ }
+{
+    exp(0.5 * x) * erfc(q1)
+}
+
+fn second_erfc(x: f64, q2: f64) -> f64
+    ensures { λ r. ⌜ r ≡ secondErfc rules-0 x q2 ⌝ }
+{
+    exp(-0.5 * x) * erfc(q2)
+}
+
+fn two_b(x: f64, h: f64, t: f64, q1: f64, q2: f64) -> f64
+    ensures { λ r. ⌜ r ≡ twoB rules-0 x h t q1 q2 ⌝ }
+{
+    if q1 < CODYS_THRESHOLD {
+        if q2 < CODYS_THRESHOLD {
+            return first_erfc(x, q1) - second_erfc(x, q2);
+        }
+        return first_erfc(x, q1) - bell(h, t) * erfcx(q2);
+    }
+    if q2 < CODYS_THRESHOLD {
+        return bell(h, t) * erfcx(q1) - second_erfc(x, q2);
+    }
+    bell(h, t) * (erfcx(q1) - erfcx(q2))
+}
+
+pub fn normalised_black_call_with_optimal_use_of_codys_functions(x: f64, s: f64) -> f64
+    ensures { λ r. ⌜ r ≡ codysOf rules-0 x s ⌝ }
+{
+    let h = x / s;
+    let t = 0.5 * s;
+    let q1 = MINUS_FRAC_1_SQRT_2 * (h + t);
+    let q2 = MINUS_FRAC_1_SQRT_2 * (h - t);
+    max(0.5 * two_b(x, h, t, q1, q2), 0.0)
+}
+
+// ---- the Taylor sum for a small t
+
+fn first(a: f64, h2: f64, c: f64) -> f64
+    ensures { λ r. ⌜ r ≡ firstBy a h2 c ⌝ }
+{
+    mul_add(a, h2 + c, -1.0)
+}
+
+fn turn(a: f64, h2: f64, sum: f64, p: f64, q: f64) -> f64
+    ensures { λ r. ⌜ r ≡ turnBy a h2 sum p q ⌝ }
+{
+    mul_add(h2, sum, mul_add(a, p, q))
+}
+
+fn term1(a: f64, h2: f64) -> f64
+    ensures { λ r. ⌜ r ≡ term1Of a h2 ⌝ }
+{
+    first(a, h2, 3.0) / 6.0
+}
+
+fn term2(a: f64, h2: f64) -> f64
+    ensures { λ r. ⌜ r ≡ term2Of a h2 ⌝ }
+{
+    turn(a, h2, first(a, h2, 10.0), 15.0, -7.0) / 120.0
+}
+
+fn term3(a: f64, h2: f64) -> f64
+    ensures { λ r. ⌜ r ≡ term3Of a h2 ⌝ }
+{
+    let sum = turn(a, h2, first(a, h2, 21.0), 105.0, -18.0);
+    turn(a, h2, sum, 105.0, -57.0) / 5040.0
+}
+
+fn term4(a: f64, h2: f64) -> f64
+    ensures { λ r. ⌜ r ≡ term4Of a h2 ⌝ }
+{
+    let sum = turn(a, h2, first(a, h2, 36.0), 378.0, -33.0);
+    let sum = turn(a, h2, sum, 1260.0, -285.0);
+    turn(a, h2, sum, 945.0, -561.0) / 362880.0
+}
+
+fn term5(a: f64, h2: f64) -> f64
+    ensures { λ r. ⌜ r ≡ term5Of a h2 ⌝ }
+{
+    let sum = turn(a, h2, first(a, h2, 55.0), 990.0, -52.0);
+    let sum = turn(a, h2, sum, 6930.0, -840.0);
+    let sum = turn(a, h2, sum, 17325.0, -4680.0);
+    turn(a, h2, sum, 10395.0, -6555.0) / 39916800.0
+}
+
+fn term6(a: f64, h2: f64) -> f64
+    ensures { λ r. ⌜ r ≡ term6Of a h2 ⌝ }
+{
+    let sum = turn(a, h2, first(a, h2, 78.0), 2145.0, -75.0);
+    let sum = turn(a, h2, sum, 25740.0, -1926.0);
+    let sum = turn(a, h2, sum, 135135.0, -20370.0);
+    let sum = turn(a, h2, sum, 270270.0, -82845.0);
+    turn(a, h2, sum, 135135.0, -89055.0) / 6227020800.0
+}
+
+// The terms by the powers of t², from the smallest.
+fn taylor(a: f64, h2: f64, t2: f64) -> f64
+    ensures { λ r. ⌜ r ≡ taylorOf a h2 t2 ⌝ }
+{
+    let t4 = t2 * t2;
+    let t6 = t4 * t2;
+    let t8 = t4 * t4;
+    let t10 = t6 * t4;
+    let t12 = t6 * t6;
+    let sum = mul_add(term5(a, h2), t10, term6(a, h2) * t12);
+    let sum = mul_add(term4(a, h2), t8, sum);
+    let sum = mul_add(term3(a, h2), t6, sum);
+    let sum = mul_add(term2(a, h2), t4, sum);
+    let sum = mul_add(term1(a, h2), t2, sum);
+    mul_add(a, 1.0, sum)
+}
+
+fn small_t(h: f64, t: f64) -> f64
+    ensures { λ r. ⌜ r ≡ smallTInner h t ⌝ }
+{
+    let t2 = t * t;
+    let h2 = h * h;
+    let a = 1.0 + h * (0.5 * SQRT_2PI) * erfcx(MINUS_FRAC_1_SQRT_2 * h);
+    let y_diff = 2.0 * t * taylor(a, h2, t2);
+    let exp_term = exp(-0.5 * (h2 + t2));
+    max(ONE_OVER_SQRT_TWO_PI * exp_term * y_diff, 0.0)
+}
+
+pub fn small_t_expansion_of_normalised_black_call(h: f64, t: f64) -> Answer
+    ensures { λ r. ⌜ r ≡ smallTOf h t ⌝ }
+{
+    if t >= SMALL_T {
+        return Answer::Refused(8);
+    }
+    Answer::Value(small_t(h, t))
+}
+
+// ---- the asymptotic sum
+
+// The 15 terms after 3/z⁵, which are not the paper's.
+fn series_turns(z2: f64, start: f64, first: f64) -> f64
+    ensures { λ r. ⌜ r ≡ seriesTurns 15 3 z2 start (neg one) first ⌝ }
+{
+    let mut y = start;
+    let mut sign = -1.0;
+    let mut term = first;
+    let mut i: u64 = 3;
+    while i <= 17 {
+        y = y + sign * term;
+        sign = -sign;
+        let i_f64 = i as f64;
+        let factor = (2.0 * i_f64 + 2.0) * (2.0 * i_f64 + 3.0);
+        term = term * (z2 / factor);
+        i += 1;
+    }
+    y
+}
+
+fn series(z: f64) -> f64
+    ensures { λ r. ⌜ r ≡ seriesOf z ⌝ }
+{
+    let z2 = z * z;
+    let y = 1.0 / z - 1.0 / (z2 * z) + 3.0 / (z2 * z2 * z);
+    series_turns(z2, y, 1.0 / (15.0 * z2 * z2 * z))
+}
+
+fn asymptotic(h: f64, t: f64) -> f64
+    ensures { λ r. ⌜ r ≡ asymptoticInner h t ⌝ }
+{
+    let diff_y = series(h + t) - series(h - t);
+    let exp_term = exp(mul_add(-0.5, h * h, -0.5 * t * t));
+    abs(exp_term * diff_y / SQRT_2PI)
+}
+
+pub fn asymptotic_expansion_of_normalised_black_call(h: f64, t: f64) -> Answer
+    ensures { λ r. ⌜ r ≡ asymptoticOf h t ⌝ }
+{
+    if h > H_LARGE {
+        return Answer::Refused(7);
+    }
+    if t >= abs(h) - abs(H_LARGE) + SMALL_T {
+        return Answer::Refused(7);
+    }
+    Answer::Value(asymptotic(h, t))
+}
+
+pub fn normalised_black_call_using_erfcx(h: f64, t: f64) -> f64
+    ensures { λ r. ⌜ r ≡ usingErfcxOf h t ⌝ }
+{
+    let difference = erfcx(MINUS_FRAC_1_SQRT_2 * (h + t)) - erfcx(MINUS_FRAC_1_SQRT_2 * (h - t));
+    max(0.5 * bell(h, t) * difference, 0.0)
+}

@@ -1,0 +1,16 @@
+-- `black::term1` meets its contract. Assumes nothing.
+use lib.Ieee.{ofBits, ofInt}
+use Rattle.prices.specs.Black.{term1}
+use borrow.Author.Needs.{needs}
+use Rattle.prices.proofs.black.term1.Statement.{statement}
+use Rattle.prices.proofs.black.term1.Tie as tie
+
+first-requires : tie.Need-first-requires
+first-requires c κs = search needs
+
+returns : tie.Need-returns
+unfolding term1 ofBits ofInt
+returns c = rw (c .first .ensures)
+
+pub term1-spec : {M : Type 1} → statement M
+term1-spec = tie.close (tie.spec first-requires returns)
