@@ -1,36 +1,31 @@
+-- `black::asymptotic_expansion_of_normalised_black_call` meets its contract: each way out is the arm that the tests leave. Assumes nothing.
+use Rattle.prices.specs.Black.{asymptoticOf}
 use borrow.Author.Needs.{needs}
 use Rattle.prices.proofs.black.asymptotic_expansion_of_normalised_black_call.Statement.{
   statement,
 }
 use Rattle.prices.proofs.black.asymptotic_expansion_of_normalised_black_call.Tie as tie
-use Rattle.prices.proofs.black.asymptotic_expansion_of_normalised_black_call.Reads as reads
-use Rattle.prices.proofs.black.asymptotic_expansion_of_normalised_black_call.Lts as lts
-use Rattle.elementary.proofs.methods.abs.Reads as abs-reads
-use Rattle.prices.proofs.black.asymptotic.Reads as asymptotic-reads
 
--- src/black.rt:217:9
 returns : tie.Need-returns
-returns c = ?
+unfolding asymptoticOf
+returns c = rw (c .if1 .taken)
 
--- src/black.rt:219:13
 abs-requires : tie.Need-abs-requires
 abs-requires c κs = search needs
 
--- src/black.rt:219:22
 abs-requires-2 : tie.Need-abs-requires-2
 abs-requires-2 c κs = search needs
 
--- src/black.rt:220:9
 returns-2 : tie.Need-returns-2
-returns-2 c = ?
+unfolding asymptoticOf
+returns-2 c = rw (c .before .before .before .if1 .left, ← c .before .abs2 .ensures, ← c .before .before .abs .ensures, c .if2 .taken)
 
--- src/black.rt:222:19
 asymptotic-requires : tie.Need-asymptotic-requires
 asymptotic-requires c κs = search needs
 
--- src/black.rt:213:1
 returns-3 : tie.Need-returns-3
-returns-3 c = ?
+unfolding asymptoticOf
+returns-3 c = rw (c .asymptotic .ensures, c .before .before .before .before .if1 .left, ← c .before .before .abs2 .ensures, ← c .before .before .before .abs .ensures, c .before .if2 .left)
 
 pub asymptotic-expansion-of-normalised-black-call-spec : {M : Type 1} → statement M
 asymptotic-expansion-of-normalised-black-call-spec =

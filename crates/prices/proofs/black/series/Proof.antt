@@ -1,17 +1,16 @@
+-- `black::series` meets its contract. Assumes nothing.
+use lib.Ieee.{ofBits, ofInt}
+use Rattle.prices.specs.Black.{seriesOf}
 use borrow.Author.Needs.{needs}
 use Rattle.prices.proofs.black.series.Statement.{statement}
 use Rattle.prices.proofs.black.series.Tie as tie
-use Rattle.prices.proofs.black.series.Reads as reads
-use Rattle.prices.proofs.black.series.Lts as lts
-use Rattle.prices.proofs.black.series_turns.Reads as series-turns-reads
 
--- src/black.rt:202:5
 series-turns-requires : tie.Need-series-turns-requires
 series-turns-requires c κs = search needs
 
--- src/black.rt:197:1
 returns : tie.Need-returns
-returns c = ?
+unfolding seriesOf ofBits ofInt
+returns c = c .series-turns .ensures
 
 pub series-spec : {M : Type 1} → statement M
 series-spec = tie.close (tie.spec series-turns-requires returns)

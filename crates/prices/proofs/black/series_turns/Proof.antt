@@ -1,37 +1,63 @@
+-- `black::series_turns` meets its contract: before turn i, the turns from 3 on are those from i on with the present sum, sign and term. Assumes nothing.
+use mathlib.Core.Path.{_≡_, refl, sym, _∙_}
+use Prim.Native.Nat.{ℕ, zero, suc, _+_, _-_, _^_, _≤_, _<_}
+use native.Mathlib.Numerals.{add-one}
+use native.Mathlib.Omega.{arith}
+use borrow.Author.Needs.{needs}
+use lib.Dec.{T, le→leb}
+use lib.IntN.{pos}
+use lib.Ieee.{Float, binary64, neg, ofBits, ofInt, inFloat}
+use Rattle.elementary.specs.Ops.{_⊕_, _⊗_, _⊘_, whole, one, two}
+use Rattle.prices.specs.Black.{seriesTurns}
 use Rattle.prices.proofs.black.series_turns.Statement.{statement}
 use Rattle.prices.proofs.black.series_turns.Tie as tie
-use Rattle.prices.proofs.black.series_turns.Reads as reads
-use Rattle.prices.proofs.black.series_turns.Lts as lts
+
+abbrev factor : ℕ → Float
+factor i = (two ⊗ whole i ⊕ two) ⊗ (two ⊗ whole i ⊕ ofBits binary64 0x4008_0000_0000_0000)
+
+-- what is left before turn i
+record Left (z2 start first y sign term : Float) (i : ℕ) : Type 0 where
+  bound : i ≤ 18
+  rest : seriesTurns 15 3 z2 start (neg one) first ≡ seriesTurns (18 - i) i z2 y sign term
+
+turned : (z2 start first y sign term : Float) (i : ℕ) → i ≤ 17 → Left z2 start first y sign term i
+    → Left z2 start first (y ⊕ sign ⊗ term) (neg sign) (term ⊗ (z2 ⊘ factor i)) (i + 1)
+unfolding seriesTurns ofBits ofInt
+turned z2 start first y sign term i l h =
+    let k : 18 - i ≡ suc (18 - (i + 1)) = omega arith in
+    record { bound = omega arith; rest = rw (add-one i) (rw (k, add-one i) at (h .rest)) }
+
+done : (z2 start first y sign term : Float) (i : ℕ) → 17 < i → Left z2 start first y sign term i → y ≡ seriesTurns 15 3 z2 start (neg one) first
+unfolding seriesTurns
+done z2 start first y sign term i l h = let k : 18 - i ≡ 0 = omega arith in sym (rw k at (h .rest))
+
+fits : (i : ℕ) → i ≤ 17 → T (inFloat binary64 (pos i))
+unfolding inFloat
+fits i l = le→leb i (2 ^ 53) (omega arith)
 
 abbrev Inv-loop : tie.InvT-loop
-Inv-loop z2 start first y₀ sign₀ term₀ i₀ y sign term i = ?
+Inv-loop z2 start first y₀ sign₀ term₀ i₀ y sign term i = Left z2 start first y sign term i
 
 abbrev μ-loop : tie.MeasureT-loop
-μ-loop z2 start first y₀ sign₀ term₀ i₀ y sign term i = ?
+μ-loop z2 start first y₀ sign₀ term₀ i₀ y sign term i = 18 - i
 
--- src/black.rt:186:5
 loop-holds : tie.Need-loop-holds Inv-loop μ-loop
-loop-holds c = ?
+loop-holds c = record { bound = omega arith; rest = refl }
 
--- src/black.rt:189:21
 int-to-float-i-f64 : tie.Need-int-to-float-i-f64 Inv-loop μ-loop
-int-to-float-i-f64 c = ?
+int-to-float-i-f64 c = fits _ (c .before .loop-test .taken)
 
--- src/black.rt:192:9
 add-i : tie.Need-add-i Inv-loop μ-loop
-add-i c = ?
+add-i c = search needs
 
--- src/black.rt:186:5
 loop-less : tie.Need-loop-less Inv-loop μ-loop
-loop-less c = ?
+loop-less c = omega arith
 
--- src/black.rt:186:5
 loop-again : tie.Need-loop-again Inv-loop μ-loop
-loop-again c = ?
+loop-again c = turned _ _ _ _ _ _ _ (c .before .loop-test .taken) (c .before .before .loop .inv)
 
--- src/black.rt:179:1
 returns : tie.Need-returns Inv-loop μ-loop
-returns c = ?
+returns c = done _ _ _ _ _ _ _ (c .loop-test .left) (c .before .loop .inv)
 
 pub series-turns-spec : {M : Type 1} → statement M
 series-turns-spec =
