@@ -12,8 +12,3 @@ numberOf (Refused n) = n
 abbrev pub valueOf : Answer → Float
 valueOf (Value v) = v
 valueOf (Refused n) = nan
-
--- A refusal passes up from an inner call; a value goes on.
-abbrev pub next : Answer → (Float → Answer) → Answer
-next (Value v) f = f v
-next (Refused n) f = Refused n

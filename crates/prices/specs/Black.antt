@@ -16,7 +16,6 @@ use Rattle.prices.specs.declared.inputs.OptionType.the-variants.{Call, P
 use Rattle.prices.specs.declared.answer.Answer.{Answer}
 use Rattle.prices.specs.declared.answer.Answer.the-variants.{Value, Refused}
 use Rattle.prices.specs.Inputs.{negated, times}
-use Rattle.prices.specs.Answers.{next}
 use Rattle.prices.specs.Intrinsic.{intrinsicOf}
 use Rattle.prices.specs.Vega.{SQRT-2PI, ONE-OVER-SQRT-TWO-PI}
 
@@ -158,14 +157,17 @@ usingErfcxOf h t = maxOf (half ⊗ bell h t ⊗ (erfcxOf (MINUS-FRAC ⊗ (h ⊕ 
 
 -- ---- the price
 
--- out of the money: the region of x and s
+-- h below −10 and t small, told without a division by s
+abbrev pub isAsymptotic : Float → Float → Bool
+isAsymptotic x s = lt x (s ⊗ H-LARGE) && lt (half ⊗ s ⊗ s ⊕ x) (s ⊗ (SMALL-T ⊕ H-LARGE))
+
+-- the region of x and s
 unfoldable pub regionOf : Rules → Float → Float → Answer
 regionOf rules x s =
     let asymptotic = asymptoticOf (x ⊘ s) (half ⊗ s) in
     let small-t = smallTOf (x ⊘ s) (half ⊗ s) in
     let codys = Value (codysOf rules x s) in
-    cond (lt x (s ⊗ H-LARGE) && lt (half ⊗ s ⊗ s ⊕ x) (s ⊗ (SMALL-T ⊕ H-LARGE))) asymptotic
-    (cond (lt (half ⊗ s) SMALL-T) small-t codys)
+    cond (isAsymptotic x s) asymptotic (cond (lt (half ⊗ s) SMALL-T) small-t codys)
 
 -- out of the money. DENORMALISATION_CUTOFF is 0, and stands where the Rust has it
 unfoldable pub outOfTheMoney : Rules → Float → Float → Answer
@@ -174,11 +176,16 @@ outOfTheMoney rules x s =
     let intrinsic = Value (intrinsicOf x Call) in
     cond (le s (absOf x ⊗ +0)) intrinsic region
 
+-- a value with an amount added; a refusal passes up
+abbrev pub added : Float → Answer → Answer
+added amount (Value b) = Value (amount ⊕ b)
+added amount (Refused n) = Refused n
+
 -- In the money the price is the intrinsic value and the price at −x, which is out of the money: the rule calls itself once, and the depth falls.
 unfoldable pub callAt : ℕ → Rules → Float → Float → Answer
 callAt zero rules x s = outOfTheMoney rules x s
 callAt (suc depth) rules x s =
-    let mapped = next (callAt depth rules (neg x) s) (λ b. Value (intrinsicOf x Call ⊕ b)) in
+    let mapped = added (intrinsicOf x Call) (callAt depth rules (neg x) s) in
     let direct = outOfTheMoney rules x s in
     cond (lt +0 x) mapped direct
 
@@ -197,19 +204,24 @@ isPositiveNormal x = le (bits 0x0010_0000_0000_0000) x && le x (bits 0x7fef_ffff
 abbrev pub isFinite : Float → Bool
 isFinite x = le (neg (bits 0x7fef_ffff_ffff_ffff)) x && le x (bits 0x7fef_ffff_ffff_ffff)
 
+-- the greater of an amount and a multiple of a value; a refusal passes up
+abbrev pub scaledUp : Float → Float → Answer → Answer
+scaledUp amount factor (Value b) = Value (maxOf amount (factor ⊗ b))
+scaledUp amount factor (Refused n) = Refused n
+
 -- `black` after its refusals, out of the money
 unfoldable pub priceOf : Rules → Float → Float → Float → Float → OptionType → Answer
 priceOf rules forward strike sigma expiry kind =
     let intrinsic = maxOf (times kind (forward ⊖ strike)) +0 in
-    next (normalisedBlackOf rules (lnOf (forward ⊘ strike)) (sigma ⊗ sqrtOf binary64 expiry) kind)
-    (λ b. Value (maxOf intrinsic (sqrtOf binary64 forward ⊗ sqrtOf binary64 strike ⊗ b)))
+    let factor = sqrtOf binary64 forward ⊗ sqrtOf binary64 strike in
+    scaledUp intrinsic factor (normalisedBlackOf rules (lnOf (forward ⊘ strike)) (sigma ⊗ sqrtOf binary64 expiry) kind)
 
 -- in the money mapped to out of the money, once
 unfoldable pub blackAt : ℕ → Rules → Float → Float → Float → Float → OptionType → Answer
 blackAt zero rules forward strike sigma expiry kind = priceOf rules forward strike sigma expiry kind
 blackAt (suc depth) rules forward strike sigma expiry kind =
     let signed-diff = times kind (forward ⊖ strike) in
-    let mapped = next (blackAt depth rules forward strike sigma expiry (negated kind)) (λ b. Value (maxOf signed-diff +0 ⊕ b)) in
+    let mapped = added (maxOf signed-diff +0) (blackAt depth rules forward strike sigma expiry (negated kind)) in
     let direct = priceOf rules forward strike sigma expiry kind in
     cond (lt +0 signed-diff) mapped direct
 

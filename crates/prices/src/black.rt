@@ -15,7 +15,7 @@ ghost use Prim.Native.Nat.{ℕ, _≤_};
 ghost use lib.Ieee.{neg};
 ghost use Rattle.elementary.specs.Rules.{rules-0};
 ghost use Rattle.elementary.specs.Ops.{one};
-ghost use Rattle.prices.specs.Black.{bell as bellOf, turnBy, firstBy, term1 as term1Of, term2 as term2Of, term3 as term3Of, term4 as term4Of, term5 as term5Of, term6 as term6Of, taylorOf, smallTInner, smallTOf, seriesTurns, seriesOf, asymptoticInner, asymptoticOf, usingErfcxOf, firstErfc, secondErfc, twoB, codysOf, regionOf, outOfTheMoney, callAt, callOf, normalisedBlackOf, isPositiveNormal, isFinite, priceOf, blackAt, blackOf};
+ghost use Rattle.prices.specs.Black.{bell as bellOf, turnBy, firstBy, term1 as term1Of, term2 as term2Of, term3 as term3Of, term4 as term4Of, term5 as term5Of, term6 as term6Of, taylorOf, smallTInner, smallTOf, seriesTurns, seriesOf, asymptoticInner, asymptoticOf, usingErfcxOf, firstErfc, secondErfc, twoB, codysOf, isAsymptotic, regionOf, outOfTheMoney, added, callAt, callOf, normalisedBlackOf, isPositiveNormal, isFinite, scaledUp, priceOf, blackAt, blackOf};
 
 // The threshold of the asymptotic expansion, and H_LARGE.
 const H_LARGE: f64 = -10.0;
@@ -227,4 +227,178 @@ pub fn normalised_black_call_using_erfcx(h: f64, t: f64) -> f64
 {
     let difference = erfcx(MINUS_FRAC_1_SQRT_2 * (h + t)) - erfcx(MINUS_FRAC_1_SQRT_2 * (h - t));
     max(0.5 * bell(h, t) * difference, 0.0)
+}
+
+// ---- the price
+
+// Whether the asymptotic expansion serves: h below −10 and t small, told without a division by s.
+fn is_asymptotic(x: f64, s: f64) -> bool
+    ensures { λ r. ⌜ r ≡ isAsymptotic x s ⌝ }
+{
+    if x < s * H_LARGE {
+        0.5 * s * s + x < s * (SMALL_T + H_LARGE)
+    } else {
+        false
+    }
+}
+
+fn region(x: f64, s: f64) -> Answer
+    ensures { λ r. ⌜ r ≡ regionOf rules-0 x s ⌝ }
+{
+    if is_asymptotic(x, s) {
+        return asymptotic_expansion_of_normalised_black_call(x / s, 0.5 * s);
+    }
+    if 0.5 * s < SMALL_T {
+        return small_t_expansion_of_normalised_black_call(x / s, 0.5 * s);
+    }
+    Answer::Value(normalised_black_call_with_optimal_use_of_codys_functions(x, s))
+}
+
+// Where sigma is 0 or below, the intrinsic value.
+fn out_of_the_money(x: f64, s: f64) -> Answer
+    ensures { λ r. ⌜ r ≡ outOfTheMoney rules-0 x s ⌝ }
+{
+    if s <= abs(x) * 0.0 {
+        return Answer::Value(normalised_intrinsic(x, OptionType::Call));
+    }
+    region(x, s)
+}
+
+// A value with an amount added; a refusal passes up.
+fn plus(amount: f64, price: Answer) -> Answer
+    ensures { λ r. ⌜ r ≡ added amount price ⌝ }
+{
+    match price {
+        Answer::Value(b) => Answer::Value(amount + b),
+        Answer::Refused(n) => Answer::Refused(n),
+    }
+}
+
+// In the money the price at −x is out of the money: the call to itself is made once.
+fn call_at(depth: u64, x: f64, s: f64) -> Answer
+    ensures { λ r. ⌜ r ≡ callAt depth rules-0 x s ⌝ }
+{
+    if depth == 0 {
+        return out_of_the_money(x, s);
+    }
+    if x > 0.0 {
+        let intrinsic = normalised_intrinsic(x, OptionType::Call);
+        return plus(intrinsic, call_at(depth - 1, -x, s));
+    }
+    out_of_the_money(x, s)
+}
+
+pub fn normalised_black_call(x: f64, s: f64) -> Answer
+    ensures { λ r. ⌜ r ≡ callOf rules-0 x s ⌝ }
+{
+    call_at(1, x, s)
+}
+
+pub fn normalised_black(x: f64, s: f64, option_type: OptionType) -> Answer
+    ensures { λ r. ⌜ r ≡ normalisedBlackOf rules-0 x s «option_type» ⌝ }
+{
+    normalised_black_call(option_type.times(x), s)
+}
+
+// ---- black
+
+fn is_positive_normal(x: f64) -> bool
+    ensures { λ r. ⌜ r ≡ isPositiveNormal x ⌝ }
+{
+    if x >= 2.2250738585072014e-308 {
+        x <= 1.7976931348623157e308
+    } else {
+        false
+    }
+}
+
+fn is_finite(x: f64) -> bool
+    ensures { λ r. ⌜ r ≡ isFinite x ⌝ }
+{
+    if x >= -1.7976931348623157e308 {
+        x <= 1.7976931348623157e308
+    } else {
+        false
+    }
+}
+
+// The greater of an amount and a multiple of a value; a refusal passes up.
+fn at_least(amount: f64, factor: f64, price: Answer) -> Answer
+    ensures { λ r. ⌜ r ≡ scaledUp amount factor price ⌝ }
+{
+    match price {
+        Answer::Value(b) => Answer::Value(max(amount, factor * b)),
+        Answer::Refused(n) => Answer::Refused(n),
+    }
+}
+
+fn price(forward: f64, strike: f64, sigma: f64, expiry: f64, option_type: OptionType) -> Answer
+    ensures { λ r. ⌜ r ≡ priceOf rules-0 forward strike sigma expiry «option_type» ⌝ }
+{
+    let intrinsic = max(option_type.times(forward - strike), 0.0);
+    let factor = sqrt(forward) * sqrt(strike);
+    let x = ln(forward / strike);
+    at_least(
+        intrinsic,
+        factor,
+        normalised_black(x, sigma * sqrt(expiry), option_type),
+    )
+}
+
+// In the money is mapped to out of the money, once.
+fn black_at(
+    depth: u64,
+    forward: f64,
+    strike: f64,
+    sigma: f64,
+    expiry: f64,
+    option_type: OptionType,
+) -> Answer
+    ensures { λ r. ⌜ r ≡ blackAt depth rules-0 forward strike sigma expiry «option_type» ⌝ }
+{
+    if depth == 0 {
+        return price(forward, strike, sigma, expiry, option_type);
+    }
+    let signed_diff = option_type.times(forward - strike);
+    if signed_diff > 0.0 {
+        let intrinsic = max(signed_diff, 0.0);
+        return plus(
+            intrinsic,
+            black_at(depth - 1, forward, strike, sigma, expiry, option_type.neg()),
+        );
+    }
+    price(forward, strike, sigma, expiry, option_type)
+}
+
+// The Black price, or 2, 3, 5, 4 for an input that has none, or 7 where the roundings at the
+// asymptotic region's edge disagree.
+pub fn black(
+    forward_price: f64,
+    strike_price: f64,
+    sigma: f64,
+    time_to_maturity: f64,
+    option_type: OptionType,
+) -> Answer
+    ensures { λ r. ⌜ r ≡ blackOf rules-0 «forward_price» «strike_price» sigma «time_to_maturity» «option_type» ⌝ }
+{
+    if is_positive_normal(forward_price) {
+        if is_positive_normal(strike_price) {
+            if is_finite(sigma) {
+                if is_positive_normal(time_to_maturity) {
+                    return black_at(
+                        1,
+                        forward_price,
+                        strike_price,
+                        sigma,
+                        time_to_maturity,
+                        option_type,
+                    );
+                }
+                return Answer::Refused(4);
+            }
+            return Answer::Refused(5);
+        }
+        return Answer::Refused(3);
+    }
+    Answer::Refused(2)
 }

@@ -1,0 +1,2 @@
+-- Laws that the proofs of black use.
+mod Depth

@@ -1,0 +1,48 @@
+-- `black::price` meets its contract: each call is its definition. Assumes nothing.
+use mathlib.Core.Path.{_∙_}
+use Rattle.prices.specs.Black.{priceOf}
+use borrow.Author.Needs.{needs}
+use Rattle.prices.proofs.black.price.Statement.{statement}
+use Rattle.prices.proofs.black.price.Tie as tie
+
+times-requires : tie.Need-times-requires
+times-requires c κs = search needs
+
+max-requires : tie.Need-max-requires
+max-requires c κs = search needs
+
+sqrt-requires : tie.Need-sqrt-requires
+sqrt-requires c κs = search needs
+
+sqrt-requires-2 : tie.Need-sqrt-requires-2
+sqrt-requires-2 c κs = search needs
+
+ln-requires : tie.Need-ln-requires
+ln-requires c κs = search needs
+
+sqrt-requires-3 : tie.Need-sqrt-requires-3
+sqrt-requires-3 c κs = search needs
+
+normalised-black-requires : tie.Need-normalised-black-requires
+normalised-black-requires c κs = search needs
+
+at-least-requires : tie.Need-at-least-requires
+at-least-requires c κs = search needs
+
+returns : tie.Need-returns
+unfolding priceOf
+returns c = c .at-least .ensures ∙ rw (c .before .normalised-black .ensures, c .before .before .sqrt3 .ensures, c .before .before .before .ln .ensures, c .before .before .before .before .sqrt2 .ensures, c .before .before .before .before .before .sqrt .ensures, c .before .before .before .before .before .before .max .ensures, c .before .before .before .before .before .before .before .times .ensures)
+
+pub price-spec : {M : Type 1} → statement M
+price-spec =
+    tie.close
+    (tie.spec
+    times-requires
+    max-requires
+    sqrt-requires
+    sqrt-requires-2
+    ln-requires
+    sqrt-requires-3
+    normalised-black-requires
+    at-least-requires
+    returns)
