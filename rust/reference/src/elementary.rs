@@ -1,6 +1,9 @@
 //! Document 01's elementary functions, written from its text alone, with the machine's square root, floor and fused
 //! multiply-add.
 
+// The constants stand as document 01 writes them.
+#![allow(clippy::approx_constant, clippy::excessive_precision)]
+
 /// ln 2 in two parts.
 const H: f64 = f64::from_bits(0x3FE6_2E42_FEE0_0000);
 const L: f64 = f64::from_bits(0x3DEA_39EF_3579_3C76);
