@@ -92,12 +92,7 @@ const FILES: [File; 6] = [
     },
 ];
 
-const INPUTS: File = File {
-    path: "src/inputs.rs",
-    module: "inputs",
-    methods: [0; 12],
-    names: [0, 0, 0, 0, 1],
-};
+const INPUTS: File = File { path: "src/inputs.rs", module: "inputs", methods: [0; 12], names: [0, 0, 0, 0, 1] };
 
 const MOD: File = File {
     path: "src/lets_be_rational/mod.rs",

@@ -80,7 +80,8 @@ impl Run {
     fn in_parts(&self, parts: u64, part: impl Fn(u64) -> Found + Sync) -> Found {
         let part = &part;
         let mut all: Vec<(u64, Found)> = thread::scope(|scope| {
-            let start = |t| scope.spawn(move || (t..parts).step_by(self.threads as usize).map(|i| (i, part(i))).collect());
+            let start =
+                |t| scope.spawn(move || (t..parts).step_by(self.threads as usize).map(|i| (i, part(i))).collect());
             let started: Vec<thread::ScopedJoinHandle<Vec<_>>> = (0..self.threads).map(start).collect();
             started.into_iter().flat_map(|t| t.join().expect("a comparison doesn't panic")).collect()
         });

@@ -54,13 +54,13 @@ pub const POINTS: [f64; 58] = [
     745.1332191019411,
     746.0,
     1e8,
-    4503599627370495.5,   // 2^52 less a half
-    4503599627370496.0,   // 2^52
-    9007199254740992.0,   // 2^53
-    9223372036854775808.0, // 2^63
+    4503599627370495.5,          // 2^52 less a half
+    4503599627370496.0,          // 2^52
+    9007199254740992.0,          // 2^53
+    9223372036854775808.0,       // 2^63
     1.340_780_792_994_259_6e154, // √ of the largest
-    9.9792015476736e291,  // 2^970, half a unit of the largest
-    8.98846567431158e307, // 2^1023
+    9.9792015476736e291,         // 2^970, half a unit of the largest
+    8.98846567431158e307,        // 2^1023
     f64::MAX,
 ];
 
@@ -87,10 +87,7 @@ pub fn moved(bits: u64, steps: i64) -> u64 {
 
 /// The points with their neighbours by up to `steps` units, of both signs, with the infinities and NaNs.
 pub fn edges(steps: i64) -> Vec<u64> {
-    let mut sizes: Vec<u64> = POINTS
-        .iter()
-        .flat_map(|x| (-steps..=steps).map(|k| moved(x.to_bits(), k)))
-        .collect();
+    let mut sizes: Vec<u64> = POINTS.iter().flat_map(|x| (-steps..=steps).map(|k| moved(x.to_bits(), k))).collect();
     sizes.push(INFINITY);
     with_signs(sizes)
 }
@@ -98,9 +95,7 @@ pub fn edges(steps: i64) -> Vec<u64> {
 /// The multiples of 1/16 to 64 and their neighbours: where the smoothened exponentials and floor take their next value.
 pub fn sixteenths() -> Vec<u64> {
     let multiples = (0..1024).map(|k| f64::from(k) / 16.0);
-    let sizes = multiples
-        .flat_map(|x| (-1..=1).map(move |k| moved(x.to_bits(), k)))
-        .collect();
+    let sizes = multiples.flat_map(|x| (-1..=1).map(move |k| moved(x.to_bits(), k))).collect();
     with_signs(sizes)
 }
 

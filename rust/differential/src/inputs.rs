@@ -258,8 +258,13 @@ fn overflow(words: &mut Words) -> Arguments {
     let exponent = (a.to_bits() >> 52 & 2047) as i64 - 1023;
     if words.below(2) == 0 {
         let target = words.between(1021, 1024);
-        let b = between_powers(words, target - exponent, target - exponent + 1);
-        let c = between_powers(words, 960, 1023);
+        let b = between_powers(words, target - exponent, target - exponent);
+        // Mostly of the other sign than the product.
+        let c = if words.below(4) == 0 {
+            between_powers(words, 960, 1023)
+        } else {
+            between_powers(words, 1022, 1023).copysign(-a * b.signum())
+        };
         return [a.to_bits(), b.to_bits(), c.to_bits()];
     }
     // Largest plus about half a unit.
@@ -279,4 +284,47 @@ fn apart(words: &mut Words, most: i64) -> Arguments {
     let distance = words.between(-most, most);
     let c = between_powers(words, exponent + distance, exponent + distance);
     [a.to_bits(), b.to_bits(), c.to_bits()]
+}
+
+#[cfg(test)]
+mod tests {
+    use super::*;
+
+    /// How many of 100 000 inputs for mul_add have the property.
+    fn count(property: impl Fn(f64, f64, f64) -> bool) -> u32 {
+        let mut words = Words::new(1, "mul_add", 0);
+        (0..100_000).map(|_| fused(&mut words).map(f64::from_bits)).filter(|&[a, b, c]| property(a, b, c)).count()
+            as u32
+    }
+
+    /// The inputs tell one rounding from two, and reach every kind of result.
+    #[test]
+    fn fused_inputs_reach_every_kind() {
+        let twice = |a: f64, b: f64, c: f64| a * b + c;
+        assert!(count(|a, b, c| a.mul_add(b, c).to_bits() != twice(a, b, c).to_bits()) > 10_000);
+        assert!(count(|a, b, c| a.mul_add(b, c).is_subnormal()) > 10_000);
+        assert!(
+            count(|a, b, c| a.is_finite() && b.is_finite() && c.is_finite() && a.mul_add(b, c).is_infinite()) > 2_000
+        );
+        assert!(
+            count(|a, b, c| (a * b).is_infinite() && a.is_finite() && b.is_finite() && a.mul_add(b, c).is_finite())
+                > 200
+        );
+        assert!(count(|a, b, c| c != 0.0 && a * b != 0.0 && a.mul_add(b, c) == 0.0) > 200);
+    }
+
+    /// Probabilities lie between 0 and 1, but for the few that are to be refused.
+    #[test]
+    fn probabilities() {
+        let mut words = Words::new(1, "inverse_normal_cdf", 0);
+        let inside = (0..10_000).map(|_| f64::from_bits(probability(&mut words))).filter(|p| *p > 0.0 && *p < 1.0);
+        assert!(inside.count() > 8_500);
+    }
+
+    #[test]
+    fn moving_stops_at_zero_and_infinity() {
+        assert_eq!(moved(1, -3), 0);
+        assert_eq!(moved(SIGN | 1, -3), SIGN);
+        assert_eq!(f64::from_bits(moved(f64::MAX.to_bits(), 9)), f64::INFINITY);
+    }
 }

@@ -84,7 +84,8 @@ pub fn rounded(significand: u128, exponent: i64) -> f64 {
         if cut > 128 {
             return 0.0;
         }
-        let (whole, rest) = if cut == 128 { (0, significand) } else { (significand >> cut, significand & ((1 << cut) - 1)) };
+        let (whole, rest) =
+            if cut == 128 { (0, significand) } else { (significand >> cut, significand & ((1 << cut) - 1)) };
         let half = 1_u128 << (cut - 1);
         whole + u128::from(rest > half || rest == half && whole % 2 == 1)
     };
