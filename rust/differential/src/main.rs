@@ -3,10 +3,12 @@
 //! The last line of a run is `N compared, M differences`. Exit status: 0 no difference; 1 a difference, the first ones in
 //! the lines above; 2 bad usage; 3 the Rust's source wasn't at hand when this was built, and nothing was compared.
 
+mod accuracy;
 mod compare;
 mod edges;
 mod functions;
 mod inputs;
+mod samples;
 mod words;
 
 use compare::{Found, Run};
@@ -14,12 +16,15 @@ use functions::{Function, FUNCTIONS};
 use std::{env, process::exit, thread};
 
 const USAGE: &str = "usage: differential [--quick] [--function NAME] [--inputs N] [--seed N] [--threads N]
+       differential --samples | --accuracy < TABLE
 
   --quick          fewer random inputs: under a minute, for the gate
   --function NAME  this function alone
   --inputs N       random inputs of each function (default 10000000)
   --seed N         other random inputs (default 1)
-  --threads N      default: as many as the machine has processors";
+  --threads N      default: as many as the machine has processors
+  --samples        writes the list that crates/samples replays, answers of the Rust, to standard output
+  --accuracy       measures document 01's rules over a table of rust/accuracy/table.py on standard input";
 
 const INPUTS: u64 = 10_000_000;
 const QUICK: u64 = 1_000_000;
@@ -27,6 +32,8 @@ const QUICK: u64 = 1_000_000;
 /// What the command line asks for.
 struct Wanted {
     quick: bool,
+    samples: bool,
+    accuracy: bool,
     function: Option<String>,
     inputs: Option<u64>,
     seed: u64,
@@ -44,11 +51,14 @@ fn number(word: Option<String>) -> u64 {
 
 fn wanted() -> Wanted {
     let threads = thread::available_parallelism().map_or(1, |n| n.get() as u64);
-    let mut wanted = Wanted { quick: false, function: None, inputs: None, seed: 1, threads };
+    let mut wanted =
+        Wanted { quick: false, samples: false, accuracy: false, function: None, inputs: None, seed: 1, threads };
     let mut words = env::args().skip(1);
     while let Some(word) = words.next() {
         match word.as_str() {
             "--quick" => wanted.quick = true,
+            "--samples" => wanted.samples = true,
+            "--accuracy" => wanted.accuracy = true,
             "--function" => wanted.function = words.next(),
             "--inputs" => wanted.inputs = Some(number(words.next())),
             "--seed" => wanted.seed = number(words.next()),
@@ -89,6 +99,13 @@ fn main() {
         println!("no Rust source: comparison not run");
         exit(3);
     };
+    if wanted.accuracy {
+        exit(if accuracy::report() { 0 } else { 2 });
+    }
+    if wanted.samples {
+        samples::write();
+        exit(0);
+    }
     println!("Rust source {source}, seed {}", wanted.seed);
     let (mut compared, mut different) = (0, 0);
     for function in wanted.functions() {
