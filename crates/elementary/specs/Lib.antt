@@ -3,8 +3,13 @@ pub mod Rules
 pub mod Methods
 pub mod Floor
 pub mod Sqrt
+pub mod Round
 pub mod MulAdd
 pub mod Exp
 pub mod Ln
 pub mod Cody
 pub mod NormalDistribution
+pub mod Order
+pub mod Bounds
+pub mod Finite
+pub mod Inverse

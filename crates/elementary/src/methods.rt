@@ -2,7 +2,7 @@
 ghost use mathlib.Core.Path.{_≡_};
 ghost use lib.Ieee as Ieee;
 ghost use lib.Ieee.{binary64};
-ghost use Rattle.elementary.specs.Methods.{isZero, squareOf};
+ghost use Rattle.elementary.specs.Methods.{absOf, maxOf, isZero, squareOf};
 
 // Equal to 0.
 pub fn is_zero(x: f64) -> bool
@@ -16,4 +16,58 @@ pub fn powi_2(y: f64) -> f64
     ensures { λ r. ⌜ r ≡ squareOf y ⌝ }
 {
     y * y
+}
+
+// abs clears the sign.
+pub fn abs(x: f64) -> f64
+    ensures { λ r. ⌜ r ≡ absOf x ⌝ }
+{
+    if x != x {
+        return x;
+    }
+    f64::from_bits(f64::to_bits(x) % 0x8000_0000_0000_0000)
+}
+
+// The greater; the other one if one is NaN; of two zeros of unequal sign +0. Where one is greater,
+// two comparisons decide.
+pub fn max(a: f64, b: f64) -> f64
+    ensures { λ r. ⌜ r ≡ maxOf a b ⌝ }
+{
+    if a < b {
+        return b;
+    }
+    if b < a {
+        return a;
+    }
+    if a != a {
+        return b;
+    }
+    if b != b {
+        return a;
+    }
+    if f64::to_bits(a) < 0x8000_0000_0000_0000 {
+        a
+    } else {
+        b
+    }
+}
+
+// The bits of x, 7FF8000000000000 at a NaN. Floats become bits here and nowhere else.
+pub fn bits_of(x: f64) -> u64
+    ensures { λ r. ⌜ r ≡ Ieee.toBits binary64 x ⌝ }
+{
+    if x != x {
+        return 0x7ff8_0000_0000_0000;
+    }
+    f64::to_bits(x)
+}
+
+// The float with the bits b. Bits become floats here and nowhere else.
+pub fn float_of(b: u64) -> f64
+    ensures { λ r. ⌜ r ≡ Ieee.ofBits binary64 b ⌝ }
+{
+    if b % 0x8000_0000_0000_0000 > 0x7ff0_0000_0000_0000 {
+        return 0.0 / 0.0;
+    }
+    f64::from_bits(b)
 }

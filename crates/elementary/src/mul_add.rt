@@ -1,1 +1,427 @@
-// mul_add
+// IEEE 754's fusedMultiplyAdd in integer arithmetic.
+use crate::round::Parts;
+use crate::round::Wide;
+use crate::round::any;
+use crate::round::assembled;
+use crate::round::below;
+use crate::round::finite;
+use crate::round::nonzero;
+use crate::round::raised;
+use crate::round::rounded_exact;
+use crate::round::rounded_signed;
+use crate::round::shifted;
+use crate::round::taken_apart;
+ghost use mathlib.Core.Path.{_≡_};
+ghost use mathlib.Core.Bool.{true, not, cond, _&&_};
+ghost use Prim.Native.Nat.{_+_, _-_, _*_, _/_, _%_, _^_, _<_, _≤_};
+ghost use lib.Dec.{T, leb};
+ghost use lib.Ieee as Ieee;
+ghost use lib.Ieee.{binary64, round, sum};
+ghost use lib.Ieee.Exact.{HasValue};
+ghost use lib.Ieee.Scale as Scale;
+ghost use Rattle.elementary.specs.Round.{wide, Same, Digits};
+ghost use Rattle.elementary.specs.MulAdd.{fma};
+ghost use Rattle.elementary.specs.MulAdd.Steps.{Near, Far, Ordered, Both, Marked, Clear, Joined, Opened, Apart, Turned};
+
+// The product of two numbers of at most 53 digits.
+fn product(a: u64, b: u64) -> Wide
+    requires { ⌜ a < 2 ^ 53 ⌝ ∗ ⌜ b < 2 ^ 53 ⌝ }
+    ensures { λ r. ⌜ wide (r .hi) (r .lo) ≡ a * b ⌝ }
+{
+    let a1 = a >> 32;
+    let a0 = a % 0x1_0000_0000;
+    let b1 = b >> 32;
+    let b0 = b % 0x1_0000_0000;
+    let low = a0 * b0;
+    let mid = a1 * b0 + a0 * b1 + (low >> 32);
+    Wide {
+        hi: a1 * b1 + (mid >> 32),
+        lo: (mid << 32) + low % 0x1_0000_0000,
+    }
+}
+
+fn add_wide(ah: u64, al: u64, bh: u64, bl: u64) -> Wide
+    requires { ⌜ wide ah al + wide bh bl < 2 ^ 128 ⌝ }
+    ensures { λ r. ⌜ wide (r .hi) (r .lo) ≡ wide ah al + wide bh bl ⌝ }
+{
+    if al <= u64::MAX - bl {
+        Wide {
+            hi: ah + bh,
+            lo: al + bl,
+        }
+    } else {
+        Wide {
+            hi: ah + bh + 1,
+            lo: al - (u64::MAX - bl) - 1,
+        }
+    }
+}
+
+fn sub_wide(ah: u64, al: u64, bh: u64, bl: u64) -> Wide
+    requires { ⌜ wide bh bl ≤ wide ah al ⌝ }
+    ensures { λ r. ⌜ wide (r .hi) (r .lo) ≡ wide ah al - wide bh bl ⌝ }
+{
+    if bl <= al {
+        Wide {
+            hi: ah - bh,
+            lo: al - bl,
+        }
+    } else {
+        Wide {
+            hi: ah - bh - 1,
+            lo: al + (u64::MAX - bl) + 1,
+        }
+    }
+}
+
+fn less_one(ah: u64, al: u64) -> Wide
+    requires { ⌜ 0 < wide ah al ⌝ }
+    ensures { λ r. ⌜ wide (r .hi) (r .lo) ≡ wide ah al - 1 ⌝ }
+{
+    if al == 0 {
+        Wide {
+            hi: ah - 1,
+            lo: u64::MAX,
+        }
+    } else {
+        Wide { hi: ah, lo: al - 1 }
+    }
+}
+
+// Whether a is at least b.
+fn covers(ah: u64, al: u64, bh: u64, bl: u64) -> bool
+    ensures { λ r. ⌜ r ≡ leb (wide bh bl) (wide ah al) ⌝ }
+{
+    if ah == bh { bl <= al } else { bh < ah }
+}
+
+// v * 2^d.
+fn left_wide(vh: u64, vl: u64, d: u64) -> Wide
+    requires { ⌜ d < 64 ⌝ ∗ ⌜ wide vh vl * 2 ^ d < 2 ^ 128 ⌝ }
+    ensures { λ r. ⌜ wide (r .hi) (r .lo) ≡ wide vh vl * 2 ^ d ⌝ }
+{
+    let up = shifted(vl, 64 - d);
+    Wide {
+        hi: raised(vh, d) + up,
+        lo: vl << d,
+    }
+}
+
+// v / 2^d.
+fn right_wide(vh: u64, vl: u64, d: u64) -> Wide
+    requires { ⌜ 0 < d ⌝ }
+    ensures { λ r. ⌜ wide (r .hi) (r .lo) ≡ wide vh vl / 2 ^ d ⌝ }
+{
+    if d < 64 {
+        Wide {
+            hi: vh >> d,
+            lo: (vh << (64 - d)) + (vl >> d),
+        }
+    } else {
+        let lo = shifted(vh, d - 64);
+        Wide { hi: 0, lo: lo }
+    }
+}
+
+// 0 just where `right_wide` drops nothing.
+fn lost(vh: u64, vl: u64, d: u64) -> u64
+    ensures { λ r. ⌜ Same r (wide vh vl % 2 ^ d) ⌝ }
+{
+    if d < 64 {
+        below(vl, d)
+    } else {
+        any(vl, below(vh, d - 64))
+    }
+}
+
+fn both(a: bool, b: bool) -> bool
+    ensures { λ r. ⌜ r ≡ (a && b) ⌝ }
+{
+    if a { b } else { false }
+}
+
+// ±l * 2^(e + d) + ±s * 2^e, for a small d.
+fn sum_near(ln: bool, lh: u64, ll: u64, sn: bool, sh: u64, sl: u64, d: u64, e: u64) -> f64
+    requires { ⌜ Near lh ll sh sl d e ⌝ }
+    ensures { λ r. ⌜ r ≡ sum binary64 ln (wide lh ll * 2 ^ (e + d)) sn (wide sh sl * 2 ^ e) (2 ^ 2404) ⌝ }
+{
+    let x = left_wide(lh, ll, d);
+    if ln == sn {
+        let v = add_wide(x.hi, x.lo, sh, sl);
+        return rounded_exact(ln, v.hi, v.lo, e);
+    }
+    if covers(sh, sl, x.hi, x.lo) {
+        let v = sub_wide(sh, sl, x.hi, x.lo);
+        rounded_exact(both(sn, nonzero(v.hi, v.lo)), v.hi, v.lo, e)
+    } else {
+        let v = sub_wide(x.hi, x.lo, sh, sl);
+        rounded_exact(ln, v.hi, v.lo, e)
+    }
+}
+
+// ±l * 2^e + ±s * 2^(e - d), for a d that is not small.
+fn sum_far(ln: bool, lh: u64, ll: u64, sn: bool, sh: u64, sl: u64, d: u64, e: u64) -> f64
+    requires { ⌜ Far lh ll sh sl d e ⌝ }
+    ensures { λ r. ⌜ r ≡ sum binary64 ln (wide lh ll * 2 ^ e) sn (wide sh sl * 2 ^ (e - d)) (2 ^ 2404) ⌝ }
+{
+    let y = right_wide(sh, sl, d);
+    let x = lost(sh, sl, d);
+    if ln == sn {
+        let v = add_wide(lh, ll, y.hi, y.lo);
+        return rounded_signed(ln, v.hi, v.lo, x, e);
+    }
+    let v = sub_wide(lh, ll, y.hi, y.lo);
+    if x == 0 {
+        rounded_signed(ln, v.hi, v.lo, 0, e)
+    } else {
+        let w = less_one(v.hi, v.lo);
+        rounded_signed(ln, w.hi, w.lo, x, e)
+    }
+}
+
+// ±l * 2^le + ±s * 2^se, for an se that is not above le.
+fn sum_ordered(ln: bool, lh: u64, ll: u64, le: u64, sn: bool, sh: u64, sl: u64, se: u64) -> f64
+    requires { ⌜ Ordered lh ll le sh sl se ⌝ }
+    ensures { λ r. ⌜ r ≡ sum binary64 ln (wide lh ll * 2 ^ le) sn (wide sh sl * 2 ^ se) (2 ^ 2404) ⌝ }
+{
+    let d = le - se;
+    if d <= 20 {
+        sum_near(ln, lh, ll, sn, sh, sl, d, se)
+    } else {
+        sum_far(ln, lh, ll, sn, sh, sl, d, le)
+    }
+}
+
+// ±a * 2^ae + ±b * 2^be.
+fn sum_wide(an: bool, ah: u64, al: u64, ae: u64, bn: bool, bh: u64, bl: u64, be: u64) -> f64
+    requires { ⌜ Both ah al ae bh bl be ⌝ }
+    ensures { λ r. ⌜ r ≡ sum binary64 an (wide ah al * 2 ^ ae) bn (wide bh bl * 2 ^ be) (2 ^ 2404) ⌝ }
+{
+    if be <= ae {
+        sum_ordered(an, ah, al, ae, bn, bh, bl, be)
+    } else {
+        sum_ordered(bn, bh, bl, be, an, ah, al, ae)
+    }
+}
+
+// The sum of a product and an addend, none of them 0, rounded once.
+fn fused(n: bool, am: u64, ae: u64, bm: u64, be: u64, cn: bool, cm: u64, ce: u64) -> f64
+    requires { ⌜ Digits am ae ⌝ ∗ ⌜ Digits bm be ⌝ ∗ ⌜ Digits cm ce ⌝ }
+    ensures { λ r. ⌜ r ≡ sum binary64 n (am * bm * 2 ^ (ae + be + 128)) cn (cm * 2 ^ 52 * 2 ^ (ce + 1214)) (2 ^ 2404) ⌝ }
+{
+    let p = product(am, bm);
+    sum_wide(
+        n,
+        p.hi,
+        p.lo,
+        ae + be + 128,
+        cn,
+        cm >> 12,
+        cm << 52,
+        ce + 1214,
+    )
+}
+
+fn fused_finite(a: f64, b: f64, c: f64) -> f64
+    requires { ⌜ T (Scale.finite a) ⌝ ∗ ⌜ T (Scale.finite b) ⌝ ∗ ⌜ T (Scale.finite c) ⌝ }
+    ensures { λ r. ⌜ r ≡ fma binary64 a b c ⌝ }
+{
+    let p = taken_apart(a);
+    let q = taken_apart(b);
+    let r = taken_apart(c);
+    if p.m == 0 {
+        return a * b + c;
+    }
+    if q.m == 0 {
+        return a * b + c;
+    }
+    if r.m == 0 {
+        return a * b;
+    }
+    fused(p.neg != q.neg, p.m, p.e, q.m, q.e, r.neg, r.m, r.e)
+}
+
+// `mul_add` for any operands.
+fn general(a: f64, b: f64, c: f64) -> f64
+    ensures { λ r. ⌜ r ≡ fma binary64 a b c ⌝ }
+{
+    if both(finite(a), finite(b)) {
+        if finite(c) { fused_finite(a, b, c) } else { c }
+    } else {
+        a * b + c
+    }
+}
+
+// 1 where v is not 0.
+fn mark(v: u64) -> u64
+    ensures { λ r. ⌜ r < 2 ⌝ ∗ ⌜ Same r v ⌝ }
+{
+    if v == 0 { 0 } else { 1 }
+}
+
+// v without its 13 lowest digits, and a last digit that is 1 where they are not 0.
+fn marked(v: u64) -> u64
+    ensures { λ r. ⌜ r < 2 ^ 52 ⌝ ∗ ⌜ Marked 13 v r ⌝ }
+{
+    (v >> 13) * 2 + mark(v % 0x2000)
+}
+
+// The same for two words and their 55 lowest digits.
+fn marked_wide(hi: u64, lo: u64) -> u64
+    requires { ⌜ hi < 2 ^ 42 ⌝ }
+    ensures { λ r. ⌜ r < 2 ^ 52 ⌝ ∗ ⌜ Marked 55 (wide hi lo) r ⌝ }
+{
+    ((hi << 9) + (lo >> 55)) * 2 + mark(lo % 0x80_0000_0000_0000)
+}
+
+// The float nearest to ±((hi - 2^51) * 2^64 + lo) * 2^(k + 254) / 2^2404. A sum of two floats that
+// has the same leading digits, and the same mark for what lies below them, is rounded by the machine.
+fn placed(neg: bool, hi: u64, lo: u64, k: u64) -> f64
+    requires { ⌜ Clear hi k ⌝ }
+    ensures { λ r. ⌜ (2 ^ 51 ≤ hi → r ≡ round binary64 neg (wide (hi - 2 ^ 51) lo * 2 ^ (k + 254)) (2 ^ 2404)) ⌝
+        ∗ ⌜ (hi < 2 ^ 51 → r ≡ round binary64 (not neg) (((2 ^ 51 - hi) * 2 ^ 64 - lo) * 2 ^ (k + 254)) (2 ^ 2404)) ⌝ ∗ ⌜ lo < 2 ^ 64 ⌝ }
+{
+    let u = assembled(neg, k - 1011, hi) - assembled(neg, k - 1011, 0x8_0000_0000_0001);
+    u + assembled(neg, k - 1063, marked(lo))
+}
+
+// A result, where there is one.
+struct Tried {
+    done: bool,
+    value: f64,
+}
+
+// Whether (hi - 2^51) * 2^64 is far enough from 0.
+fn clear(hi: u64) -> bool
+    ensures { λ r. ⌜ (r ≡ true → Apart hi) ⌝ }
+{
+    if hi < 0x8_0000_0000_0008 {
+        hi < 0x7_ffff_ffff_fff8
+    } else {
+        true
+    }
+}
+
+// 2^115 + p, or 2^115 - p - 1.
+fn turned(neg: bool, ph: u64, pl: u64) -> Wide
+    requires { ⌜ ph < 2 ^ 42 ⌝ }
+    ensures { λ r. ⌜ Turned neg (wide ph pl) (wide (r .hi) (r .lo)) ⌝ }
+{
+    if neg {
+        Wide {
+            hi: 0x7_ffff_ffff_ffff - ph,
+            lo: u64::MAX - pl,
+        }
+    } else {
+        Wide {
+            hi: 0x8_0000_0000_0000 + ph,
+            lo: pl,
+        }
+    }
+}
+
+fn one_if(t: bool) -> u64
+    ensures { λ r. ⌜ r ≡ cond t 1 0 ⌝ }
+{
+    if t { 1 } else { 0 }
+}
+
+// ±p * 2^(k + 254) + ±m * 2^(k + 254 + d), for a d that is not large. The last digit of
+// m * 2^d is free for the 1 that `turned` leaves out.
+fn near(n: bool, ph: u64, pl: u64, cn: bool, m: u64, d: u64, k: u64) -> Tried
+    requires { ⌜ Joined ph pl m d k ⌝ ∗ ⌜ 0 < d ⌝ ∗ ⌜ d < 62 ⌝ }
+    ensures { λ r. ⌜ (r .done ≡ true → r .value ≡ sum binary64 n (wide ph pl * 2 ^ (k + 254)) cn (m * 2 ^ (k + 254 + d)) (2 ^ 2404)) ⌝ }
+{
+    let x = left_wide(0, m, d);
+    let y = turned(n != cn, ph, pl);
+    let v = add_wide(y.hi, y.lo, x.hi, x.lo + one_if(n != cn));
+    if clear(v.hi) {
+        let r = placed(cn, v.hi, v.lo, k);
+        Tried {
+            done: true,
+            value: r,
+        }
+    } else {
+        Tried {
+            done: false,
+            value: 0.0,
+        }
+    }
+}
+
+// c, which is ±m * 2^(k + 254 + d), and ±p * 2^(k + 254), for a large d.
+fn beyond(n: bool, ph: u64, pl: u64, c: f64, cn: bool, m: u64, d: u64, k: u64) -> f64
+    requires { ⌜ Joined ph pl m d k ⌝ ∗ ⌜ 62 ≤ d ⌝ ∗ ⌜ HasValue c cn (m * 2 ^ (k + 254 + d)) (2 ^ 2404) ⌝ }
+    ensures { λ r. ⌜ r ≡ sum binary64 n (wide ph pl * 2 ^ (k + 254)) cn (m * 2 ^ (k + 254 + d)) (2 ^ 2404) ⌝ }
+{
+    let v = assembled(n, k - 1021, marked_wide(ph, pl)) - assembled(n, k - 1021, 0);
+    c + v
+}
+
+// The fields of a float, with the leading digit of a normal one.
+fn opened(x: f64) -> Parts
+    requires { ⌜ T (not (Ieee.isNan x)) ⌝ }
+    ensures { λ r. ⌜ Opened x (r .neg) (r .m) (r .e) ⌝ }
+{
+    let b = f64::to_bits(x);
+    Parts {
+        neg: b >= 0x8000_0000_0000_0000,
+        m: 0x10_0000_0000_0000 + b % 0x10_0000_0000_0000,
+        e: b % 0x8000_0000_0000_0000 / 0x10_0000_0000_0000,
+    }
+}
+
+// Whether an exponent's field is a middling one.
+fn middling(f: u64) -> bool
+    ensures { λ r. ⌜ (r ≡ true → 768 ≤ f) ⌝ ∗ ⌜ (r ≡ true → f < 1280) ⌝ }
+{
+    if f < 768 { false } else { f < 1280 }
+}
+
+// `mul_add`, where the factors are middling and the addend is not much smaller than the product.
+fn quick(a: f64, b: f64, c: f64) -> Tried
+    requires { ⌜ T (not (Ieee.isNan a)) ⌝ ∗ ⌜ T (not (Ieee.isNan b)) ⌝ ∗ ⌜ T (not (Ieee.isNan c)) ⌝ }
+    ensures { λ r. ⌜ (r .done ≡ true → r .value ≡ fma binary64 a b c) ⌝ }
+{
+    let p = opened(a);
+    if middling(p.e) {
+        let q = opened(b);
+        if middling(q.e) {
+            let r = opened(c);
+            let k = p.e + q.e;
+            let e = r.e + 1075;
+            if k < e {
+                let d = e - k;
+                let w = product(p.m, q.m);
+                let n = p.neg != q.neg;
+                if d < 62 {
+                    return near(n, w.hi, w.lo, r.neg, r.m, d, k);
+                }
+                if r.e < 2047 {
+                    let v = beyond(n, w.hi, w.lo, c, r.neg, r.m, d, k);
+                    return Tried {
+                        done: true,
+                        value: v,
+                    };
+                }
+            }
+        }
+    }
+    Tried {
+        done: false,
+        value: 0.0,
+    }
+}
+
+// a * b + c, rounded once: IEEE 754's fusedMultiplyAdd.
+pub fn mul_add(a: f64, b: f64, c: f64) -> f64
+    ensures { λ r. ⌜ r ≡ fma binary64 a b c ⌝ }
+{
+    let t = a * b + c;
+    if t == t {
+        let q = quick(a, b, c);
+        if q.done { q.value } else { general(a, b, c) }
+    } else {
+        general(a, b, c)
+    }
+}

@@ -1,0 +1,2 @@
+-- Laws that the proofs of exp use.
+mod Power

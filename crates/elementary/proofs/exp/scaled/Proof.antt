@@ -1,0 +1,44 @@
+-- `exp::scaled` meets its contract: the product with a float that is a power of two is rounded once. Assumes nothing.
+use Prim.Native.Nat.{_≤_}
+use native.Mathlib.Omega.{arith}
+use lib.Ieee.{binary64}
+use Rattle.elementary.proofs.exp.Power as power
+use borrow.Author.Needs.{needs}
+use Rattle.elementary.proofs.exp.scaled.Statement.{statement}
+use Rattle.elementary.proofs.exp.scaled.Tie as tie
+
+far-requires : tie.Need-far-requires
+far-requires c κs = search needs
+
+returns : tie.Need-returns
+returns c = search needs
+
+far-requires-2 : tie.Need-far-requires-2
+far-requires-2 c κs = search needs
+
+returns-2 : tie.Need-returns-2
+returns-2 c = search needs
+
+sub-assembled : tie.Need-sub-assembled
+sub-assembled c = search needs
+
+assembled-requires : tie.Need-assembled-requires
+assembled-requires c κs = search needs
+
+returns-3 : tie.Need-returns-3
+returns-3 c =
+    let a = c .before .before .before in
+    power.mul-power binary64 (a .args .p) (c .assembled .result) (a .args .e) 2048
+    (power.field-power (c .assembled .result) (a .args .e) (omega arith) (c .assembled .ensures))
+
+pub scaled-spec : {M : Type 1} → statement M
+scaled-spec =
+    tie.close
+    (tie.spec
+    far-requires
+    returns
+    far-requires-2
+    returns-2
+    sub-assembled
+    assembled-requires
+    returns-3)

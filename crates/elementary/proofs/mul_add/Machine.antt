@@ -1,0 +1,421 @@
+-- The machine's sums and differences of floats that are made from their fields. Assumes nothing.
+use mathlib.Core.Path.{_≡_, refl, sym, ap, _∙_, subst}
+use mathlib.Core.Logic.{_⊎_, inl, inr}
+use mathlib.Core.Bool.{Bool, true, false, not, cond, _&&_, Bool·beq, true≢false, false≢true}
+use Prim.Native.Nat.{ℕ, zero, suc, _+_, _-_, _*_, _/_, _%_, _^_, _≤_, _<_}
+use native.Mathlib.Nat.{le-trans, le-of-eq, lt-of-lt-of-le, lt-irrefl, mod-lt, mul-le-mul, mul-assoc, mul-comm, mul-left-comm, mul-right-comm, mul-pos, mul-lt-mul-of-pos-right, add-mul, add-comm}
+use native.Mathlib.Omega.{arith}
+use lib.Dec.{T, leb, ltb, eqb, eqb→eq, le→leb, leb→le, ltb→lt, not-T}
+use lib.Pow.{pow-add, pow-pos, pow-mono, shl-lt}
+use lib.Ieee.{Float, nan, inf, fin, binary64, low, up, down, odd, ofFields, ofBits, toBits, fits, nanBits, isNan, eq, add, sub, mul, neg, sum, round, unlike}
+use lib.Ieee.Fits.{down-pos}
+use lib.Ieee.Exact.{HasValue, odd-sign, round-exact}
+use lib.Ieee.Bits.{nanBits-above, is-true, is-false}
+use lib.Ieee.Scale.{finite}
+use Rattle.elementary.specs.Round.{wide, Decoded}
+use Rattle.elementary.specs.MulAdd.Steps.{Marked, Middling, Opened}
+use Rattle.elementary.proofs.Decode.{rescale, ofBits-is, as-fields, high-value}
+use Rattle.elementary.proofs.Fields.{normal-field}
+use Rattle.elementary.proofs.mul_add.Sums.{sum-same, sum-more, sub-mul}
+use Rattle.elementary.specs.MulAdd.{fma}
+use Rattle.elementary.proofs.mul_add.Exactly.{sum-value, sum-comm, beq-refl, beq-cases, product-form, addend-form, fma-at}
+use Rattle.elementary.proofs.mul_add.Alike.{round-alike, plus-alike, minus-alike}
+
+-- ---- sums and differences by their values
+pub add-at : (x y : Float) (s t : Bool) (a b d : ℕ) → 0 < d → HasValue x s a d → HasValue y t b d → add binary64 x y ≡ sum binary64 s a t b d
+unfolding add
+add-at nan y s t a b d P p q = absurd p
+add-at (inf _) y s t a b d P p q = absurd p
+add-at (fin _ m e) nan s t a b d P p q = absurd q
+add-at (fin _ m e) (inf _) s t a b d P p q = absurd q
+add-at (fin s' m e) (fin t' n g) s t a b d P p q =
+    sum-value binary64 (m * up e * down g) (n * up g * down e) (down e * down g) a b d (mul-pos (down-pos e) (down-pos g)) P
+    (mul-right-comm (m * up e) (down g) d ∙ ap (λ (z : ℕ). z * down g) (p .1) ∙ mul-assoc a (down e) (down g))
+    (mul-right-comm (n * up g) (down e) d ∙ ap (λ (z : ℕ). z * down e) (q .1) ∙ mul-assoc b (down g) (down e) ∙ ap (λ (z : ℕ). b * z) (mul-comm (down g) (down e)))
+    s' t'
+    ∙ ap (λ (z : Bool). sum binary64 z a t' b d) (p .0)
+    ∙ ap (λ (z : Bool). sum binary64 s a z b d) (q .0)
+
+neg-value : (x : Float) (s : Bool) (a d : ℕ) → HasValue x s a d → HasValue (neg x) (not s) a d
+unfolding neg
+neg-value nan s a d h = h
+neg-value (inf t) s a d h = h
+neg-value (fin t m e) s a d h = (ap not (h .0), h .1)
+
+sub-at : (x y : Float) (s t : Bool) (a b d : ℕ) → 0 < d → HasValue x s a d → HasValue y t b d → sub binary64 x y ≡ sum binary64 s a (not t) b d
+unfolding sub
+sub-at x y s t a b d P p q = add-at x (neg y) s (not t) a b d P p (neg-value y t b d q)
+
+beq-not : (s : Bool) → Bool·beq s (not s) ≡ false
+beq-not true = refl
+beq-not false = refl
+
+not-beq : (s : Bool) → Bool·beq (not s) s ≡ false
+not-beq true = refl
+not-beq false = refl
+
+pub exact : (s : Bool) (q e : ℕ) → q < 2 ^ 53 → 1330 ≤ e → e ≤ 3375 → HasValue (round binary64 s (q * 2 ^ e) (2 ^ 2404)) s (q * 2 ^ e) (2 ^ 2404)
+exact s q e Q lo hi =
+    round-exact binary64 s (q * 2 ^ e) (2 ^ 2404) q (e - 1330) (pow-pos 2404) Q (lt-of-lt-of-le (shl-lt 53 (e - 1330) Q) (pow-mono (room e hi)))
+    (ap (λ (z : ℕ). q * 2 ^ z * 2 ^ 1074) (back e lo)
+    ∙ ap (λ (z : ℕ). q * z * 2 ^ 1074) (pow-add 2 (e - 1330) 1330)
+    ∙ turn q (2 ^ (e - 1330)) (2 ^ 1330) (2 ^ 1074)
+    ∙ ap (λ (z : ℕ). q * 2 ^ (e - 1330) * z) (sym (pow-add 2 1330 1074)))
+  where
+    room : (e : ℕ) → e ≤ 3375 → 53 + (e - 1330) ≤ 2098
+    room e h = omega arith
+
+    back : (e : ℕ) → 1330 ≤ e → e ≡ e - 1330 + 1330
+    back e h = omega arith
+
+    turn : (a x y z : ℕ) → a * (x * y) * z ≡ a * x * (y * z)
+    turn a x y z = simp (mul-assoc, mul-comm, mul-left-comm)
+
+module _ (x y : Float) (s : Bool) (a b e : ℕ) (lo : 1330 ≤ e) (hi : e ≤ 3375) (p : HasValue x s (a * 2 ^ e) (2 ^ 2404)) (q : HasValue y s (b * 2 ^ e) (2 ^ 2404)) where
+  pub sub-up : b < a → a - b < 2 ^ 53 → HasValue (sub binary64 x y) s ((a - b) * 2 ^ e) (2 ^ 2404)
+  sub-up l u =
+      subst (λ (z : Float). HasValue z s ((a - b) * 2 ^ e) (2 ^ 2404))
+      (sym (sub-at x y s s (a * 2 ^ e) (b * 2 ^ e) (2 ^ 2404) (pow-pos 2404) p q
+      ∙ sum-more binary64 s (not s) (a * 2 ^ e) (b * 2 ^ e) (2 ^ 2404) (beq-not s) (mul-lt-mul-of-pos-right l (pow-pos e))
+      ∙ ap (λ (z : ℕ). round binary64 s z (2 ^ 2404)) (sym (sub-mul a b (2 ^ e)))))
+      (exact s (a - b) e u lo hi)
+
+  pub sub-down : a < b → b - a < 2 ^ 53 → HasValue (sub binary64 x y) (not s) ((b - a) * 2 ^ e) (2 ^ 2404)
+  sub-down l u =
+      subst (λ (z : Float). HasValue z (not s) ((b - a) * 2 ^ e) (2 ^ 2404))
+      (sym (sub-at x y s s (a * 2 ^ e) (b * 2 ^ e) (2 ^ 2404) (pow-pos 2404) p q
+      ∙ sum-comm binary64 s (not s) (a * 2 ^ e) (b * 2 ^ e) (2 ^ 2404)
+      ∙ sum-more binary64 (not s) s (b * 2 ^ e) (a * 2 ^ e) (2 ^ 2404) (not-beq s) (mul-lt-mul-of-pos-right l (pow-pos e))
+      ∙ ap (λ (z : ℕ). round binary64 (not s) z (2 ^ 2404)) (sym (sub-mul b a (2 ^ e)))))
+      (exact (not s) (b - a) e u lo hi)
+
+pub shift : (q u j : ℕ) → q * 2 ^ (u + j) ≡ q * 2 ^ j * 2 ^ u
+shift q u j = ap (λ (z : ℕ). q * z) (pow-add 2 u j ∙ mul-comm (2 ^ u) (2 ^ j)) ∙ sym (mul-assoc q (2 ^ j) (2 ^ u))
+
+-- ---- `placed`
+module _ (x y z : Float) (s : Bool) (hi lo m k : ℕ) (K : Middling k) (M : Marked 13 lo m) (L : lo < 2 ^ 64) (N : m < 2 ^ 52) (H : hi < 2 ^ 52)
+    (p : HasValue x s ((2 ^ 52 + hi) * 2 ^ (k - 1011 + 1329)) (2 ^ 2404)) (q : HasValue y s ((2 ^ 52 + 0x8_0000_0000_0001) * 2 ^ (k - 1011 + 1329)) (2 ^ 2404))
+    (r : HasValue z s ((2 ^ 52 + m) * 2 ^ (k - 1063 + 1329)) (2 ^ 2404)) where
+  abbrev u : ℕ
+  u = k + 254
+
+  upper : (k : ℕ) → 1536 ≤ k → k - 1011 + 1329 ≡ k + 254 + 64
+  upper k h = omega arith
+
+  lower : (k : ℕ) → 1536 ≤ k → k - 1063 + 1329 ≡ k + 254 + 12
+  lower k h = omega arith
+
+  least : (k : ℕ) → 1536 ≤ k → 1330 ≤ k + 254
+  least k h = omega arith
+
+  least' : (k : ℕ) → 1536 ≤ k → 1330 ≤ k + 254 + 64
+  least' k h = omega arith
+
+  most : (k : ℕ) → k < 2559 → k + 254 + 64 ≤ 3375
+  most k h = omega arith
+
+  p' : HasValue x s ((2 ^ 52 + hi) * 2 ^ (u + 64)) (2 ^ 2404)
+  p' = subst (λ (w : ℕ). HasValue x s ((2 ^ 52 + hi) * 2 ^ w) (2 ^ 2404)) (upper k (K .low)) p
+
+  q' : HasValue y s ((2 ^ 52 + 0x8_0000_0000_0001) * 2 ^ (u + 64)) (2 ^ 2404)
+  q' = subst (λ (w : ℕ). HasValue y s ((2 ^ 52 + 0x8_0000_0000_0001) * 2 ^ w) (2 ^ 2404)) (upper k (K .low)) q
+
+  r' : HasValue z s ((2 ^ 52 + m) * 2 ^ (u + 12)) (2 ^ 2404)
+  r' = subst (λ (w : ℕ). HasValue z s ((2 ^ 52 + m) * 2 ^ w) (2 ^ 2404)) (lower k (K .low)) r
+
+  pub placed-up : 2 ^ 51 + 8 ≤ hi → add binary64 (sub binary64 x y) z ≡ round binary64 s (wide (hi - 2 ^ 51) lo * 2 ^ (k + 254)) (2 ^ 2404)
+  placed-up g =
+      let d = 2 ^ 52 + hi - (2 ^ 52 + 0x8_0000_0000_0001) in
+      let t = 2 ^ 52 + m in
+      let h = (hi - 2 ^ 51) * 2 ^ 51 in
+      add-at (sub binary64 x y) z s s (d * 2 ^ (u + 64)) (t * 2 ^ (u + 12)) (2 ^ 2404) (pow-pos 2404) (sub-up x y s (2 ^ 52 + hi) (2 ^ 52 + 0x8_0000_0000_0001) (u + 64) (least' k (K .low)) (most k (K .high)) p' q' (above hi g) (small hi H)) r'
+      ∙ sum-same binary64 s s (d * 2 ^ (u + 64)) (t * 2 ^ (u + 12)) (2 ^ 2404) (beq-refl s)
+      ∙ ap (λ (w : ℕ). round binary64 s (w + t * 2 ^ (u + 12)) (2 ^ 2404)) (shift d u 64)
+      ∙ ap (λ (w : ℕ). round binary64 s (d * 2 ^ 64 * 2 ^ u + w) (2 ^ 2404)) (shift t u 12)
+      ∙ ap (λ (w : ℕ). round binary64 s w (2 ^ 2404)) (sym (add-mul (d * 2 ^ 64) (t * 2 ^ 12) (2 ^ u)))
+      ∙ ap (λ (w : ℕ). round binary64 s (w * 2 ^ u) (2 ^ 2404)) (join hi m g)
+      ∙ sym (round-alike s 13 (h * 2 ^ 13 + lo) (h * 2 ^ 13 + m * 2 ^ 12) u (least k (K .low)) (plus-alike 12 lo m M h (big hi g)))
+      ∙ ap (λ (w : ℕ). round binary64 s (w * 2 ^ u) (2 ^ 2404)) (whole hi lo)
+    where
+      above : (hi : ℕ) → 2 ^ 51 + 8 ≤ hi → 2 ^ 52 + 0x8_0000_0000_0001 < 2 ^ 52 + hi
+      above hi g = omega arith
+
+      small : (hi : ℕ) → hi < 2 ^ 52 → 2 ^ 52 + hi - (2 ^ 52 + 0x8_0000_0000_0001) < 2 ^ 53
+      small hi h = omega arith
+
+      join : (hi m : ℕ) → 2 ^ 51 + 8 ≤ hi → (2 ^ 52 + hi - (2 ^ 52 + 0x8_0000_0000_0001)) * 2 ^ 64 + (2 ^ 52 + m) * 2 ^ 12 ≡ (hi - 2 ^ 51) * 2 ^ 51 * 2 ^ 13 + m * 2 ^ 12
+      join hi m g = omega arith
+
+      big : (hi : ℕ) → 2 ^ 51 + 8 ≤ hi → 2 ^ 54 ≤ (hi - 2 ^ 51) * 2 ^ 51
+      big hi g = omega arith
+
+      whole : (hi lo : ℕ) → (hi - 2 ^ 51) * 2 ^ 51 * 2 ^ 13 + lo ≡ wide (hi - 2 ^ 51) lo
+      whole hi lo = omega arith
+
+  pub placed-down : hi + 9 ≤ 2 ^ 51 → add binary64 (sub binary64 x y) z ≡ round binary64 (not s) (((2 ^ 51 - hi) * 2 ^ 64 - lo) * 2 ^ (k + 254)) (2 ^ 2404)
+  placed-down g =
+      let d = 2 ^ 52 + 0x8_0000_0000_0001 - (2 ^ 52 + hi) in
+      let t = 2 ^ 52 + m in
+      let h = (2 ^ 51 - hi) * 2 ^ 51 in
+      add-at (sub binary64 x y) z (not s) s (d * 2 ^ (u + 64)) (t * 2 ^ (u + 12)) (2 ^ 2404) (pow-pos 2404) (sub-down x y s (2 ^ 52 + hi) (2 ^ 52 + 0x8_0000_0000_0001) (u + 64) (least' k (K .low)) (most k (K .high)) p' q' (under hi g) (small hi)) r'
+      ∙ ap (λ (w : ℕ). sum binary64 (not s) w s (t * 2 ^ (u + 12)) (2 ^ 2404)) (shift d u 64)
+      ∙ ap (λ (w : ℕ). sum binary64 (not s) (d * 2 ^ 64 * 2 ^ u) s w (2 ^ 2404)) (shift t u 12)
+      ∙ sum-more binary64 (not s) s (d * 2 ^ 64 * 2 ^ u) (t * 2 ^ 12 * 2 ^ u) (2 ^ 2404) (not-beq s) (mul-lt-mul-of-pos-right (order hi m g N) (pow-pos u))
+      ∙ ap (λ (w : ℕ). round binary64 (not s) w (2 ^ 2404)) (sym (sub-mul (d * 2 ^ 64) (t * 2 ^ 12) (2 ^ u)))
+      ∙ ap (λ (w : ℕ). round binary64 (not s) (w * 2 ^ u) (2 ^ 2404)) (join hi m g N)
+      ∙ sym (round-alike (not s) 13 (h * 2 ^ 13 - lo) (h * 2 ^ 13 - m * 2 ^ 12) u (least k (K .low)) (minus-alike 12 lo m M h (big hi lo g L)))
+      ∙ ap (λ (w : ℕ). round binary64 (not s) (w * 2 ^ u) (2 ^ 2404)) (whole hi lo)
+    where
+      under : (hi : ℕ) → hi + 9 ≤ 2 ^ 51 → 2 ^ 52 + hi < 2 ^ 52 + 0x8_0000_0000_0001
+      under hi g = omega arith
+
+      small : (hi : ℕ) → 2 ^ 52 + 0x8_0000_0000_0001 - (2 ^ 52 + hi) < 2 ^ 53
+      small hi = omega arith
+
+      order : (hi m : ℕ) → hi + 9 ≤ 2 ^ 51 → m < 2 ^ 52 → (2 ^ 52 + m) * 2 ^ 12 < (2 ^ 52 + 0x8_0000_0000_0001 - (2 ^ 52 + hi)) * 2 ^ 64
+      order hi m g n = omega arith
+
+      join : (hi m : ℕ) → hi + 9 ≤ 2 ^ 51 → m < 2 ^ 52 → (2 ^ 52 + 0x8_0000_0000_0001 - (2 ^ 52 + hi)) * 2 ^ 64 - (2 ^ 52 + m) * 2 ^ 12 ≡ (2 ^ 51 - hi) * 2 ^ 51 * 2 ^ 13 - m * 2 ^ 12
+      join hi m g n = omega arith
+
+      big : (hi lo : ℕ) → hi + 9 ≤ 2 ^ 51 → lo < 2 ^ 64 → 2 ^ 54 + lo / 2 ^ 13 < (2 ^ 51 - hi) * 2 ^ 51
+      big hi lo g l = omega arith
+
+      whole : (hi lo : ℕ) → (2 ^ 51 - hi) * 2 ^ 51 * 2 ^ 13 - lo ≡ (2 ^ 51 - hi) * 2 ^ 64 - lo
+      whole hi lo = omega arith
+
+-- ---- `near`, with p for the product and c for the addend, both by the unit 2 ^ u
+scaled-addend : (n cn : Bool) (p m d u : ℕ) → sum binary64 n (p * 2 ^ u) cn (m * 2 ^ d * 2 ^ u) (2 ^ 2404) ≡ sum binary64 n (p * 2 ^ u) cn (m * 2 ^ (u + d)) (2 ^ 2404)
+scaled-addend n cn p m d u = ap (λ (w : ℕ). sum binary64 n (p * 2 ^ u) cn w (2 ^ 2404)) (sym (shift m u d))
+
+pub same-sign : (s t : Bool) → Bool·beq s t ≡ true → t ≡ s
+same-sign true true e = refl
+same-sign true false e = absurd (false≢true e)
+same-sign false true e = absurd (false≢true e)
+same-sign false false e = refl
+
+other-sign : (s t : Bool) → Bool·beq s t ≡ false → (not t ≡ s) × (Bool·beq t s ≡ false)
+other-sign true true e = absurd (true≢false e)
+other-sign true false e = (refl, refl)
+other-sign false true e = (refl, refl)
+other-sign false false e = absurd (true≢false e)
+
+module _ (n cn : Bool) (p m d u : ℕ) where
+  pub near-same : Bool·beq n cn ≡ true → round binary64 cn ((m * 2 ^ d + p) * 2 ^ u) (2 ^ 2404) ≡ sum binary64 n (p * 2 ^ u) cn (m * 2 ^ (u + d)) (2 ^ 2404)
+  near-same e =
+      ap (λ (b : Bool). round binary64 b ((m * 2 ^ d + p) * 2 ^ u) (2 ^ 2404)) (same-sign n cn e)
+      ∙ ap (λ (w : ℕ). round binary64 n (w * 2 ^ u) (2 ^ 2404)) (add-comm (m * 2 ^ d) p)
+      ∙ ap (λ (w : ℕ). round binary64 n w (2 ^ 2404)) (add-mul p (m * 2 ^ d) (2 ^ u))
+      ∙ sym (sum-same binary64 n cn (p * 2 ^ u) (m * 2 ^ d * 2 ^ u) (2 ^ 2404) e)
+      ∙ scaled-addend n cn p m d u
+
+  pub near-more : Bool·beq n cn ≡ false → m * 2 ^ d < p → round binary64 (not cn) ((p - m * 2 ^ d) * 2 ^ u) (2 ^ 2404) ≡ sum binary64 n (p * 2 ^ u) cn (m * 2 ^ (u + d)) (2 ^ 2404)
+  near-more e l =
+      ap (λ (b : Bool). round binary64 b ((p - m * 2 ^ d) * 2 ^ u) (2 ^ 2404)) (other-sign n cn e .0)
+      ∙ ap (λ (w : ℕ). round binary64 n w (2 ^ 2404)) (sub-mul p (m * 2 ^ d) (2 ^ u))
+      ∙ sym (sum-more binary64 n cn (p * 2 ^ u) (m * 2 ^ d * 2 ^ u) (2 ^ 2404) e (mul-lt-mul-of-pos-right l (pow-pos u)))
+      ∙ scaled-addend n cn p m d u
+
+  pub near-less : Bool·beq n cn ≡ false → p < m * 2 ^ d → round binary64 cn ((m * 2 ^ d - p) * 2 ^ u) (2 ^ 2404) ≡ sum binary64 n (p * 2 ^ u) cn (m * 2 ^ (u + d)) (2 ^ 2404)
+  near-less e l =
+      ap (λ (w : ℕ). round binary64 cn w (2 ^ 2404)) (sub-mul (m * 2 ^ d) p (2 ^ u))
+      ∙ sym (sum-more binary64 cn n (m * 2 ^ d * 2 ^ u) (p * 2 ^ u) (2 ^ 2404) (other-sign n cn e .1) (mul-lt-mul-of-pos-right l (pow-pos u)))
+      ∙ sum-comm binary64 cn n (m * 2 ^ d * 2 ^ u) (p * 2 ^ u) (2 ^ 2404)
+      ∙ scaled-addend n cn p m d u
+
+-- ---- `beyond`, with p for the product and r for its leading digits
+module _ (c x y : Float) (n cn : Bool) (p m d k r : ℕ) (K : Middling k) (M : Marked 55 p r) (R : r < 2 ^ 52) (D : 62 ≤ d) (L : 2 ^ 52 ≤ m) (lo : 2 ^ 104 ≤ p) (hi : p < 2 ^ 106)
+    (X : HasValue x n ((2 ^ 52 + r) * 2 ^ (k - 1021 + 1329)) (2 ^ 2404)) (Y : HasValue y n ((2 ^ 52 + 0) * 2 ^ (k - 1021 + 1329)) (2 ^ 2404))
+    (C : HasValue c cn (m * 2 ^ (k + 254 + d)) (2 ^ 2404)) where
+  abbrev v : ℕ
+  v = k + 254
+
+  abbrev h : ℕ
+  h = m * 2 ^ (d - 55)
+
+  place : (k : ℕ) → 1536 ≤ k → k - 1021 + 1329 ≡ k + 254 + 54
+  place k g = omega arith
+
+  low-unit : (k : ℕ) → 1536 ≤ k → 1330 ≤ k + 254
+  low-unit k g = omega arith
+
+  low-place : (k : ℕ) → 1536 ≤ k → 1330 ≤ k + 254 + 54
+  low-place k g = omega arith
+
+  high-place : (k : ℕ) → k < 2559 → k + 254 + 54 ≤ 3375
+  high-place k g = omega arith
+
+  some-digits : (r p : ℕ) → r / 2 ≡ p / 2 ^ 55 → 2 ^ 104 ≤ p → 2 ^ 52 + 0 < 2 ^ 52 + r
+  some-digits r p e l = omega arith
+
+  few-digits : (r : ℕ) → r < 2 ^ 52 → 2 ^ 52 + r - (2 ^ 52 + 0) < 2 ^ 53
+  few-digits r l = omega arith
+
+  less-lead : (r : ℕ) → 2 ^ 52 + r - (2 ^ 52 + 0) ≡ r
+  less-lead r = omega arith
+
+  W : HasValue (sub binary64 x y) n (r * 2 ^ (v + 54)) (2 ^ 2404)
+  W =
+      subst (λ (w : ℕ). HasValue (sub binary64 x y) n (w * 2 ^ (v + 54)) (2 ^ 2404)) (less-lead r)
+      (sub-up x y n (2 ^ 52 + r) (2 ^ 52 + 0) (v + 54) (low-place k (K .low)) (high-place k (K .high))
+      (subst (λ (w : ℕ). HasValue x n ((2 ^ 52 + r) * 2 ^ w) (2 ^ 2404)) (place k (K .low)) X)
+      (subst (λ (w : ℕ). HasValue y n ((2 ^ 52 + 0) * 2 ^ w) (2 ^ 2404)) (place k (K .low)) Y)
+      (some-digits r p (M .whole) lo) (few-digits r R))
+
+  high-digits : m * 2 ^ (v + d) ≡ h * 2 ^ 55 * 2 ^ v
+  high-digits = shift m v d ∙ ap (λ (w : ℕ). w * 2 ^ v) (ap (λ (w : ℕ). m * 2 ^ w) (back d D) ∙ ap (λ (w : ℕ). m * w) (pow-add 2 (d - 55) 55) ∙ sym (mul-assoc m (2 ^ (d - 55)) (2 ^ 55)))
+    where
+      back : (d : ℕ) → 62 ≤ d → d ≡ d - 55 + 55
+      back d g = omega arith
+
+  h-large : 2 ^ 59 ≤ h
+  h-large = mul-le-mul L (pow-mono (seven d D))
+    where
+      seven : (d : ℕ) → 62 ≤ d → 7 ≤ d - 55
+      seven d g = omega arith
+
+  pub beyond-is : add binary64 c (sub binary64 x y) ≡ sum binary64 n (p * 2 ^ (k + 254)) cn (m * 2 ^ (k + 254 + d)) (2 ^ 2404)
+  beyond-is =
+      add-at c (sub binary64 x y) cn n (m * 2 ^ (v + d)) (r * 2 ^ (v + 54)) (2 ^ 2404) (pow-pos 2404) C W
+      ∙ ap (λ (w : ℕ). sum binary64 cn w n (r * 2 ^ (v + 54)) (2 ^ 2404)) high-digits
+      ∙ ap (λ (w : ℕ). sum binary64 cn (h * 2 ^ 55 * 2 ^ v) n w (2 ^ 2404)) (shift r v 54)
+      ∙ elim (beq-cases cn n) [
+        | inl e ↦
+            sum-same binary64 cn n (h * 2 ^ 55 * 2 ^ v) (r * 2 ^ 54 * 2 ^ v) (2 ^ 2404) (e .0)
+            ∙ ap (λ (w : ℕ). round binary64 cn w (2 ^ 2404)) (sym (add-mul (h * 2 ^ 55) (r * 2 ^ 54) (2 ^ v)))
+            ∙ sym (round-alike cn 55 (h * 2 ^ 55 + p) (h * 2 ^ 55 + r * 2 ^ 54) v (low-unit k (K .low)) (plus-alike 54 p r M h (large h h-large)))
+            ∙ ap (λ (w : ℕ). round binary64 cn w (2 ^ 2404)) (add-mul (h * 2 ^ 55) p (2 ^ v))
+            ∙ sym (sum-same binary64 cn n (h * 2 ^ 55 * 2 ^ v) (p * 2 ^ v) (2 ^ 2404) (e .0))
+        | inr e ↦
+            sum-more binary64 cn n (h * 2 ^ 55 * 2 ^ v) (r * 2 ^ 54 * 2 ^ v) (2 ^ 2404) (e .0) (mul-lt-mul-of-pos-right (less h r h-large R) (pow-pos v))
+            ∙ ap (λ (w : ℕ). round binary64 cn w (2 ^ 2404)) (sym (sub-mul (h * 2 ^ 55) (r * 2 ^ 54) (2 ^ v)))
+            ∙ sym (round-alike cn 55 (h * 2 ^ 55 - p) (h * 2 ^ 55 - r * 2 ^ 54) v (low-unit k (K .low)) (minus-alike 54 p r M h (larger h p h-large hi)))
+            ∙ ap (λ (w : ℕ). round binary64 cn w (2 ^ 2404)) (sub-mul (h * 2 ^ 55) p (2 ^ v))
+            ∙ sym (sum-more binary64 cn n (h * 2 ^ 55 * 2 ^ v) (p * 2 ^ v) (2 ^ 2404) (e .0) (mul-lt-mul-of-pos-right (over h p h-large hi) (pow-pos v)))
+      ]
+      ∙ ap (λ (w : ℕ). sum binary64 cn w n (p * 2 ^ v) (2 ^ 2404)) (sym high-digits)
+      ∙ sum-comm binary64 cn n (m * 2 ^ (v + d)) (p * 2 ^ v) (2 ^ 2404)
+    where
+      large : (h : ℕ) → 2 ^ 59 ≤ h → 2 ^ 54 ≤ h
+      large h l = omega arith
+
+      less : (h r : ℕ) → 2 ^ 59 ≤ h → r < 2 ^ 52 → r * 2 ^ 54 < h * 2 ^ 55
+      less h r l g = omega arith
+
+      larger : (h p : ℕ) → 2 ^ 59 ≤ h → p < 2 ^ 106 → 2 ^ 54 + p / 2 ^ 55 < h
+      larger h p l g = omega arith
+
+      over : (h p : ℕ) → 2 ^ 59 ≤ h → p < 2 ^ 106 → p < h * 2 ^ 55
+      over h p l g = omega arith
+
+-- ---- `opened`
+finite-value : (x : Float) (s : Bool) (a d : ℕ) → HasValue x s a d → T (finite x)
+finite-value nan s a d h = absurd h
+finite-value (inf t) s a d h = absurd h
+finite-value (fin t m e) s a d h = tt
+
+module _ (x : Float) (F : T (fits binary64 x)) where
+  abbrev b : ℕ
+  b = toBits binary64 x
+
+  field-finite : (f : ℕ) → b % 2 ^ 63 / 2 ^ 52 ≡ f → 0 < f → f < 2047 → T (finite x)
+  field-finite zero e p h = absurd (lt-irrefl 0 p)
+  field-finite (suc f) e p h =
+      let s = leb (2 ^ 63) b in
+      let t = b % 2 ^ 52 in
+      finite-value x s ((2 ^ 52 + t) * 2 ^ f) (2 ^ 1074)
+      (subst (λ (z : Float). HasValue z s ((2 ^ 52 + t) * 2 ^ f) (2 ^ 1074)) (sym (as-fields x F ∙ ap (λ (z : ℕ). ofFields binary64 s z t) e ∙ normal-field s f t h)) (odd-sign 53 s (2 ^ 52 + t) f 1074))
+
+  pub opened-is : Opened x (leb (2 ^ 63) b) (2 ^ 52 + b % 2 ^ 52) (b % 2 ^ 63 / 2 ^ 52)
+  opened-is = record {
+    lead = lead (b % 2 ^ 52);
+    top = top (b % 2 ^ 52) (mod-lt b (pow-pos 52));
+    field = field b;
+    value = λ p h. high-value x F (λ z. no (b % 2 ^ 63 / 2 ^ 52) z p) (field-finite (b % 2 ^ 63 / 2 ^ 52) refl p h);
+  }
+    where
+      lead : (t : ℕ) → 2 ^ 52 ≤ 2 ^ 52 + t
+      lead t = omega arith
+
+      top : (t : ℕ) → t < 2 ^ 52 → 2 ^ 52 + t < 2 ^ 53
+      top t h = omega arith
+
+      field : (b : ℕ) → b % 2 ^ 63 / 2 ^ 52 < 2 ^ 11
+      field b = omega arith
+
+      no : (f : ℕ) → f ≡ 0 → 0 < f → ⊥
+      no f z p = omega arith
+
+-- ---- no operand is a NaN where the plain result is none
+eq-nan : (x : Float) → eq x x ≡ true → T (not (isNan x))
+unfolding eq isNan
+eq-nan nan h = absurd (false≢true h)
+eq-nan (inf s) h = tt
+eq-nan (fin s m e) h = tt
+
+add-l : (x y : Float) → T (not (isNan (add binary64 x y))) → T (not (isNan x))
+unfolding add isNan
+add-l nan y h = h
+add-l (inf s) y h = tt
+add-l (fin s m e) y h = tt
+
+add-r : (x y : Float) → T (not (isNan (add binary64 x y))) → T (not (isNan y))
+unfolding add isNan
+add-r nan y h = absurd h
+add-r (inf s) nan h = h
+add-r (inf s) (inf t) h = tt
+add-r (inf s) (fin t n d) h = tt
+add-r (fin s m e) nan h = h
+add-r (fin s m e) (inf t) h = tt
+add-r (fin s m e) (fin t n d) h = tt
+
+mul-l : (x y : Float) → T (not (isNan (mul binary64 x y))) → T (not (isNan x))
+unfolding mul isNan
+mul-l nan y h = h
+mul-l (inf s) y h = tt
+mul-l (fin s m e) y h = tt
+
+mul-r : (x y : Float) → T (not (isNan (mul binary64 x y))) → T (not (isNan y))
+unfolding mul isNan
+mul-r nan y h = absurd h
+mul-r (inf s) nan h = h
+mul-r (inf s) (inf t) h = tt
+mul-r (inf s) (fin t n d) h = tt
+mul-r (fin s m e) nan h = h
+mul-r (fin s m e) (inf t) h = tt
+mul-r (fin s m e) (fin t n d) h = tt
+
+pub operands : (x y z : Float) → eq (add binary64 (mul binary64 x y) z) (add binary64 (mul binary64 x y) z) ≡ true → T (not (isNan x)) × (T (not (isNan y)) × T (not (isNan z)))
+operands x y z h =
+    let t : T (not (isNan (add binary64 (mul binary64 x y) z))) = eq-nan (add binary64 (mul binary64 x y) z) h in
+    let p : T (not (isNan (mul binary64 x y))) = add-l (mul binary64 x y) z t in
+    (mul-l x y p, (mul-r x y p, add-r (mul binary64 x y) z t))
+
+-- ---- `quick`
+module _ (f h : ℕ) (l : f < h + 1075) where
+  abbrev spot : ℕ
+  spot = f + 254 + (h + 1075 - f)
+
+  as-shifted : spot ≡ h + 63 + 1266
+  as-shifted = omega arith
+
+  pub addend-value : (x : Float) (s : Bool) (m : ℕ) → Decoded x s m (h + 63) → HasValue x s (m * 2 ^ spot) (2 ^ 2404)
+  addend-value x s m A =
+      subst (λ (w : ℕ). HasValue x s w (2 ^ 2404)) (mul-assoc m (2 ^ (h + 63)) (2 ^ 1266) ∙ ap (λ (w : ℕ). m * w) (sym (pow-add 2 (h + 63) 1266) ∙ ap (λ (w : ℕ). 2 ^ w) (sym as-shifted)))
+      (subst (λ (w : ℕ). HasValue x s (m * 2 ^ (h + 63) * 2 ^ 1266) w) (sym (pow-add 2 1138 1266)) (rescale x s (m * 2 ^ (h + 63)) (2 ^ 1138) (2 ^ 1266) (A .value)))
+
+  addend-is : (m : ℕ) → m * 2 ^ spot ≡ m * 2 ^ (h + 63) * (2 ^ 128 * 2 ^ 1138)
+  addend-is m = ap (λ (w : ℕ). m * 2 ^ w) as-shifted ∙ ap (λ (w : ℕ). m * w) (pow-add 2 (h + 63) 1266) ∙ sym (mul-assoc m (2 ^ (h + 63)) (2 ^ 1266)) ∙ ap (λ (w : ℕ). m * 2 ^ (h + 63) * w) (pow-add 2 128 1138)
+
+product-is : (a b i j : ℕ) → a * b * 2 ^ (i + j + 254) ≡ a * 2 ^ (i + 63) * (b * 2 ^ (j + 63)) * 2 ^ 128
+product-is a b i j = ap (λ (w : ℕ). a * b * 2 ^ w) (sums i j) ∙ product-form a b (i + 63) (j + 63)
+  where
+    sums : (i j : ℕ) → i + j + 254 ≡ i + 63 + (j + 63) + 128
+    sums i j = omega arith
+
+pub fma-is : (x y z : Float) (s t v : Bool) (a b c i j h p : ℕ) → i + j < h + 1075 → Decoded x s a (i + 63) → Decoded y t b (j + 63) → Decoded z v c (h + 63) → p ≡ a * b
+    → sum binary64 (unlike s t) (p * 2 ^ (i + j + 254)) v (c * 2 ^ (i + j + 254 + (h + 1075 - (i + j)))) (2 ^ 2404) ≡ fma binary64 x y z
+fma-is x y z s t v a b c i j h p l A B C e =
+    ap (λ (w : ℕ). sum binary64 (unlike s t) w v (c * 2 ^ (i + j + 254 + (h + 1075 - (i + j)))) (2 ^ 2404)) (ap (λ (w : ℕ). w * 2 ^ (i + j + 254)) e ∙ product-is a b i j)
+    ∙ ap (λ (w : ℕ). sum binary64 (unlike s t) (a * 2 ^ (i + 63) * (b * 2 ^ (j + 63)) * 2 ^ 128) v w (2 ^ 2404)) (addend-is (i + j) h l c)
+    ∙ sym (fma-at binary64 x y z s t v (a * 2 ^ (i + 63)) (b * 2 ^ (j + 63)) (c * 2 ^ (h + 63)) (2 ^ 1138) (2 ^ 128) (pow-pos 1138) (pow-pos 128) (A .value) (B .value) (C .value))

@@ -1,0 +1,64 @@
+-- `mul_add::general` meets its contract. Assumes nothing.
+use mathlib.Core.Path.{_≡_, sym, ap, _∙_, subst}
+use mathlib.Core.Bool.{Bool, _&&_}
+use Prim.Native.Nat.{_-_}
+use lib.Dec.{T}
+use lib.Ieee.{binary64}
+use lib.Ieee.Fits.{and-l, and-r}
+use lib.Ieee.Scale as scale
+use Rattle.elementary.proofs.mul_add.Exactly as exactly
+use borrow.Author.Needs.{needs}
+use Rattle.elementary.proofs.mul_add.general.Statement.{statement}
+use Rattle.elementary.proofs.mul_add.general.Tie as tie
+
+factors : (d : tie.After-both) → (scale.finite (d .before .before .before .args .a) && scale.finite (d .before .before .before .args .b)) ≡ d .both .result
+factors d =
+    sym (d .both .ensures
+    ∙ ap (λ (z : Bool). z && d .before .finite2 .result) (d .before .before .finite .ensures)
+    ∙ ap (λ (z : Bool). scale.finite (d .before .before .before .args .a) && z) (d .before .finite2 .ensures))
+
+finite-requires : tie.Need-finite-requires
+finite-requires c κs = search needs
+
+finite-requires-2 : tie.Need-finite-requires-2
+finite-requires-2 c κs = search needs
+
+both-requires : tie.Need-both-requires
+both-requires c κs = search needs
+
+finite-requires-3 : tie.Need-finite-requires-3
+finite-requires-3 c κs = search needs
+
+fused-finite-requires : tie.Need-fused-finite-requires
+fused-finite-requires c κs =
+    let d = c .before .before .before in
+    let a = d .before .before .before in
+    let t : T (scale.finite (a .args .a) && scale.finite (a .args .b)) = subst T (sym (factors d ∙ c .before .before .if1 .taken)) tt in
+    (and-l (scale.finite (a .args .a)) (scale.finite (a .args .b)) t, (and-r (scale.finite (a .args .a)) (scale.finite (a .args .b)) t, subst T (sym (sym (c .before .finite3 .ensures) ∙ c .if2 .taken)) tt))
+
+returns : tie.Need-returns
+returns c = search needs
+
+returns-2 : tie.Need-returns-2
+returns-2 c =
+    let d = c .before .before .before in
+    let a = d .before .before .before in
+    exactly.addend binary64 (a .args .a) (a .args .b) (a .args .c) (factors d ∙ c .before .before .if1 .taken) (sym (c .before .finite3 .ensures) ∙ c .if2 .left)
+
+returns-3 : tie.Need-returns-3
+returns-3 c =
+    let a = c .before .before .before .before in
+    exactly.plain binary64 (a .args .a) (a .args .b) (a .args .c) (factors (c .before) ∙ c .if1 .left)
+
+pub general-spec : {M : Type 1} → statement M
+general-spec =
+    tie.close
+    (tie.spec
+    finite-requires
+    finite-requires-2
+    both-requires
+    finite-requires-3
+    fused-finite-requires
+    returns
+    returns-2
+    returns-3)

@@ -1,0 +1,63 @@
+-- `mul_add::marked_wide` meets its contract. Assumes nothing.
+use mathlib.Core.Path.{_≡_, sym, _∙_}
+use Prim.Native.Nat.{ℕ, _+_, _-_, _*_, _/_, _%_, _^_, _<_}
+use native.Mathlib.Omega.{arith}
+use Rattle.elementary.specs.Round.{Same, wide}
+use Rattle.elementary.specs.MulAdd.Steps.{Marked}
+use borrow.Author.Needs.{needs}
+use Rattle.elementary.proofs.mul_add.marked_wide.Statement.{statement}
+use Rattle.elementary.proofs.mul_add.marked_wide.Tie as tie
+
+abbrev part : ℕ → ℕ → ℕ
+part hi lo = hi * 512 % 2 ^ 64 + lo / 2 ^ 55
+
+small : (hi lo : ℕ) → hi < 2 ^ 42 → lo < 2 ^ 64 → part hi lo < 2 ^ 64
+small hi lo h l = omega arith
+
+below : (hi lo x : ℕ) → hi < 2 ^ 42 → lo < 2 ^ 64 → x < 2 → part hi lo * 2 + x < 2 ^ 52
+below hi lo x h l k = omega arith
+
+whole : (hi lo : ℕ) → hi < 2 ^ 42 → part hi lo ≡ wide hi lo / 2 ^ 55
+whole hi lo h = omega arith
+
+rest : (hi lo : ℕ) → lo % 2 ^ 55 ≡ wide hi lo % 2 ^ 55
+rest hi lo = omega arith
+
+law : (hi lo x : ℕ) → hi < 2 ^ 42 → lo < 2 ^ 64 → x < 2 → Same x (lo % 2 ^ 55) → Marked 55 (wide hi lo) (part hi lo * 2 + x)
+law hi lo x h l k S = record {
+  whole = half (part hi lo) k ∙ whole hi lo h;
+  to = λ z. sym (rest hi lo) ∙ S .to (last (part hi lo) z);
+  from = λ z. even (part hi lo) (S .from (rest hi lo ∙ z));
+}
+  where
+    half : (p : ℕ) → x < 2 → (p * 2 + x) / 2 ≡ p
+    half p k = omega arith
+
+    last : (p : ℕ) → (p * 2 + x) % 2 ≡ 0 → x ≡ 0
+    last p z = go z k
+      where
+        go : (p * 2 + x) % 2 ≡ 0 → x < 2 → x ≡ 0
+        go z k = omega arith
+
+    even : (p : ℕ) → x ≡ 0 → (p * 2 + x) % 2 ≡ 0
+    even p z = omega arith
+
+add-result : tie.Need-add-result
+add-result c = record { fits = small (c .args .hi) (c .args .lo) (c .pre) (c .fits .lo .fits) }
+
+mul-result : tie.Need-mul-result
+mul-result c = search needs
+
+mark-requires : tie.Need-mark-requires
+mark-requires c κs = search needs
+
+add-result-2 : tie.Need-add-result-2
+add-result-2 c = search needs
+
+returns : tie.Need-returns
+returns c =
+    let a = c .before in
+    (below (a .args .hi) (a .args .lo) (c .mark .result) (a .pre) (a .fits .lo .fits) (c .mark .ensures .0), law (a .args .hi) (a .args .lo) (c .mark .result) (a .pre) (a .fits .lo .fits) (c .mark .ensures .0) (c .mark .ensures .1))
+
+pub marked-wide-spec : {M : Type 1} → statement M
+marked-wide-spec = tie.close (tie.spec add-result mul-result mark-requires add-result-2 returns)

@@ -1,0 +1,29 @@
+-- `mul_add::mul_add` meets its contract. Assumes nothing.
+use Prim.Native.Nat.{_-_}
+use Rattle.elementary.proofs.mul_add.Machine as machine
+use borrow.Author.Needs.{needs}
+use Rattle.elementary.proofs.mul_add.mul_add.Statement.{statement}
+use Rattle.elementary.proofs.mul_add.mul_add.Tie as tie
+
+quick-requires : tie.Need-quick-requires
+quick-requires c κs = machine.operands (c .before .args .a) (c .before .args .b) (c .before .args .c) (c .if1 .taken)
+
+general-requires : tie.Need-general-requires
+general-requires c κs = search needs
+
+general-requires-2 : tie.Need-general-requires-2
+general-requires-2 c κs = search needs
+
+returns : tie.Need-returns
+returns c = c .before .quick .ensures (c .if2 .taken)
+
+returns-2 : tie.Need-returns-2
+returns-2 c = search needs
+
+returns-3 : tie.Need-returns-3
+returns-3 c = search needs
+
+pub mul-add-spec : {M : Type 1} → statement M
+mul-add-spec =
+    tie.close
+    (tie.spec quick-requires general-requires general-requires-2 returns returns-2 returns-3)

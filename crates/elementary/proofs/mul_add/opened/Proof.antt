@@ -1,0 +1,20 @@
+-- `mul_add::opened` meets its contract. Assumes nothing.
+use mathlib.Core.Path.{sym, subst}
+use Prim.Native.Nat.{_-_}
+use lib.Dec.{T}
+use Rattle.elementary.proofs.mul_add.Machine as machine
+use borrow.Author.Needs.{needs}
+use Rattle.elementary.proofs.mul_add.opened.Statement.{statement}
+use Rattle.elementary.proofs.mul_add.opened.Tie as tie
+
+float-to-bits-b : tie.Need-float-to-bits-b
+float-to-bits-b c = search needs
+
+add-t5 : tie.Need-add-t5
+add-t5 c = search needs
+
+returns : tie.Need-returns
+returns c = machine.opened-is (c .args .x) (subst T (sym (c .good .0 .1)) tt)
+
+pub opened-spec : {M : Type 1} → statement M
+opened-spec = tie.close (tie.spec float-to-bits-b add-t5 returns)

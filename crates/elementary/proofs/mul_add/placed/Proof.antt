@@ -1,0 +1,68 @@
+-- `mul_add::placed` meets its contract. Assumes nothing.
+use mathlib.Core.Path.{_≡_}
+use mathlib.Core.Logic.{_⊎_, inl, inr}
+use Prim.Native.Nat.{ℕ, _+_, _-_, _^_, _≤_, _<_}
+use native.Mathlib.Omega.{arith}
+use Rattle.elementary.specs.MulAdd.Steps.{Apart}
+use Rattle.elementary.proofs.mul_add.Machine as machine
+use borrow.Author.Needs.{needs}
+use Rattle.elementary.proofs.mul_add.placed.Statement.{statement}
+use Rattle.elementary.proofs.mul_add.placed.Tie as tie
+
+up : (hi : ℕ) → Apart hi → 2 ^ 51 ≤ hi → 2 ^ 51 + 8 ≤ hi
+up hi A h = elim (A .off) [ inl g ↦ g | inr g ↦ absurd (no g h) ]
+  where
+    no : hi + 9 ≤ 2 ^ 51 → 2 ^ 51 ≤ hi → ⊥
+    no g k = omega arith
+
+down : (hi : ℕ) → Apart hi → hi < 2 ^ 51 → hi + 9 ≤ 2 ^ 51
+down hi A h = elim (A .off) [ inl g ↦ absurd (no g h) | inr g ↦ g ]
+  where
+    no : 2 ^ 51 + 8 ≤ hi → hi < 2 ^ 51 → ⊥
+    no g k = omega arith
+
+sub-assembled : tie.Need-sub-assembled
+sub-assembled c = search needs
+
+assembled-requires : tie.Need-assembled-requires
+assembled-requires c κs = search needs
+
+sub-assembled-2 : tie.Need-sub-assembled-2
+sub-assembled-2 c = search needs
+
+assembled-requires-2 : tie.Need-assembled-requires-2
+assembled-requires-2 c κs = search needs
+
+sub-assembled-3 : tie.Need-sub-assembled-3
+sub-assembled-3 c = search needs
+
+marked-requires : tie.Need-marked-requires
+marked-requires c κs = search needs
+
+assembled-requires-3 : tie.Need-assembled-requires-3
+assembled-requires-3 c κs = search needs
+
+returns : tie.Need-returns
+returns c =
+    let d = c .before in
+    let a = d .before .before .before in
+    let x = d .before .before .assembled in
+    let y = d .before .assembled2 in
+    let m = d .marked in
+    let z = c .assembled3 in (
+      λ h. machine.placed-up (x .result) (y .result) (z .result) (a .args .neg) (a .args .hi) (a .args .lo) (m .result) (a .args .k) (a .pre .room) (m .ensures .1) (a .fits .lo .fits) (m .ensures .0) (a .pre .top) (x .ensures) (y .ensures) (z .ensures) (up (a .args .hi) (a .pre .apart) h),
+      (λ h. machine.placed-down (x .result) (y .result) (z .result) (a .args .neg) (a .args .hi) (a .args .lo) (m .result) (a .args .k) (a .pre .room) (m .ensures .1) (a .fits .lo .fits) (m .ensures .0) (a .pre .top) (x .ensures) (y .ensures) (z .ensures) (down (a .args .hi) (a .pre .apart) h), a .fits .lo .fits),
+    )
+
+pub placed-spec : {M : Type 1} → statement M
+placed-spec =
+    tie.close
+    (tie.spec
+    sub-assembled
+    assembled-requires
+    sub-assembled-2
+    assembled-requires-2
+    sub-assembled-3
+    marked-requires
+    assembled-requires-3
+    returns)

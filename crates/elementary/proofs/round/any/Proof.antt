@@ -1,0 +1,18 @@
+-- `round::any` meets its contract. Assumes nothing.
+use native.Mathlib.Omega.{arith}
+use lib.Bits.{or-add-and, and-le-l, and-le-r}
+use Rattle.elementary.proofs.round.any.Statement.{statement}
+use Rattle.elementary.proofs.round.any.Tie as tie
+
+returns : tie.Need-returns
+returns c =
+    let a = c .args .a in
+    let b = c .args .b in
+    record {
+      left = λ z. omega (arith, or-add-and a b, and-le-l a b, and-le-r a b);
+      right = λ z. omega (arith, or-add-and a b, and-le-l a b, and-le-r a b);
+      none = λ y z. omega (arith, or-add-and a b);
+    }
+
+pub any-spec : {M : Type 1} → statement M
+any-spec = tie.close (tie.spec returns)

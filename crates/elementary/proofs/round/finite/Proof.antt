@@ -1,0 +1,21 @@
+-- `round::finite` meets its contract. Assumes nothing.
+use mathlib.Core.Path.{sym, subst}
+use mathlib.Core.Bool.{Bool, not}
+use Prim.Native.Nat.{_-_, _≤_}
+use lib.Dec.{T, lit≤}
+use Rattle.elementary.proofs.Decode as decode
+use Rattle.elementary.proofs.Pattern as pattern
+use Rattle.elementary.proofs.round.finite.Statement.{statement}
+use Rattle.elementary.proofs.round.finite.Tie as tie
+
+float-from-bits-i : tie.Need-float-from-bits-i
+float-from-bits-i c = subst (λ (b : Bool). T (not b)) (sym (pattern.no-nan 0x7ff0_0000_0000_0000 (lit≤ tt))) tt
+
+returns : tie.Need-returns
+returns c = decode.finite-yes (c .before .args .x) (c .if1 .taken)
+
+returns-2 : tie.Need-returns-2
+returns-2 c = decode.finite-no (c .before .args .x) (c .if1 .left)
+
+pub finite-spec : {M : Type 1} → statement M
+finite-spec = tie.close (tie.spec float-from-bits-i returns returns-2)

@@ -1,0 +1,40 @@
+-- `round::taken_apart` meets its contract. Assumes nothing.
+use mathlib.Core.Path.{sym, subst}
+use mathlib.Core.Bool.{Bool}
+use Prim.Native.Nat.{_-_}
+use lib.Dec.{T}
+use lib.Ieee.{binary64, fits}
+use Rattle.elementary.specs.Round.{Decoded}
+use Rattle.elementary.proofs.Decode as decode
+use borrow.Author.Needs.{needs}
+use Rattle.elementary.proofs.round.taken_apart.Statement.{statement}
+use Rattle.elementary.proofs.round.taken_apart.Tie as tie
+
+-- what owning an `f64` tells: the format holds it
+held : (c : tie.Start) → T (fits binary64 (c .args .x))
+held c = subst T (sym (c .good .0 .1)) tt
+
+float-to-bits-b : tie.Need-float-to-bits-b
+float-to-bits-b c = decode.finite-no-nan (c .args .x) (c .pre)
+
+lifted-requires : tie.Need-lifted-requires
+lifted-requires c κs = search needs
+
+add-t9 : tie.Need-add-t9
+add-t9 c = search needs
+
+add-t10 : tie.Need-add-t10
+add-t10 c = search needs
+
+returns : tie.Need-returns
+returns c =
+    let a = c .before .before in
+    let r = c .lifted in
+    subst (λ (s : Bool). Decoded (a .args .x) s (r .result .m) (r .result .e)) (sym (r .ensures .0)) (decode.low-value (a .args .x) (held a) (c .before .if1 .taken) (r .result .m) (r .result .e) (r .ensures .1))
+
+returns-2 : tie.Need-returns-2
+returns-2 c = decode.high-value (c .before .args .x) (held (c .before)) (c .if1 .left) (c .before .pre)
+
+pub taken-apart-spec : {M : Type 1} → statement M
+taken-apart-spec =
+    tie.close (tie.spec float-to-bits-b lifted-requires add-t9 add-t10 returns returns-2)

@@ -1,0 +1,238 @@
+-- What `roundRoot` gives where the root's first 54 digits are known, and the bits of that. Assumes nothing.
+use mathlib.Core.Path.{_≡_, refl, sym, ap, _∙_, subst}
+use mathlib.Core.Logic.{_⊎_, inl, inr}
+use mathlib.Core.Bool.{true, false, not, true≢false}
+use Prim.Native.Nat.{ℕ, zero, suc, _+_, _-_, _*_, _/_, _%_, _^_, _≤_, _<_, compare, Ordering, Ordering·lt, Ordering·eq, Ordering·gt}
+use native.Mathlib.Nat.{le-trans, lt-of-not-le, not-le-of-lt, lt-of-lt-of-le, le-antisymm, eq-or-lt-of-le, mul-assoc, mul-comm, mul-left-comm, suc-mul, pow-suc, mul-le-mul-right, mul-lt-mul-of-pos-right, mul-pos, zero-mul, div-eq-of-lt-le, div-div-eq-div-mul}
+use native.Mathlib.Decide.{decLe}
+use native.Mathlib.Numerals.{add-one}
+use native.Mathlib.Omega.{arith}
+use lib.Dec.{T, leb}
+use lib.Arith.{lt→nleb}
+use lib.Pow.{pow-add, pow-pos, pow-mono, shl-lt, shl-exact}
+use lib.Count.{leadingZeros, leading-top}
+use lib.Ieee.{Float, nan, inf, fin, binary64, up, down, size, nearest, units, ofBits, nanBits}
+use lib.Ieee.Digits.{size-lt, size-le}
+use lib.Ieee.Fits.{down-pos}
+use lib.Ieee.Exact.{HasValue, units-val}
+use lib.Ieee.Bits.{is-false, ofBits-fits}
+use Rattle.elementary.specs.Sqrt.{isqrt, roundRoot, sqrtOf}
+use Rattle.elementary.specs.Sqrt.Nearest.{Cmp, cmp, units-of, units-fits}
+use Rattle.elementary.specs.Sqrt.Isqrt.{sq-lt, sq-suc, sq-twice, isqrt-root}
+use Rattle.elementary.proofs.Bits.{nan-pattern, no-nan-pattern}
+use Rattle.elementary.proofs.Values.{recast, value-low, value-mid, value-inf, value-packed, value-unique}
+
+-- ---- which way `nearest` goes
+by-order : (q r a b : ℕ) → (a < b → q ≡ r) → (b < a → suc q ≡ r) → (a ≡ b → ⊥) → nearest q (compare a b) ≡ r
+by-order q r a b x y z = go (compare a b) (cmp a b)
+  where
+    go : (o : Ordering) → Cmp o a b → nearest q o ≡ r
+    go Ordering·lt c = x c
+    go Ordering·eq c = absurd (z c)
+    go Ordering·gt c = y c
+
+-- the size of a number between two powers
+size-is : (n j : ℕ) → 2 ^ j ≤ n → n < 2 ^ suc j → size n ≡ suc j
+size-is n j a b = le-antisymm (size-le n (suc j) b) (lt-of-not-le (λ (g : size n ≤ j). not-le-of-lt (lt-of-lt-of-le (size-lt n) (pow-mono g)) a))
+
+-- ---- a root of 54 digits: the last digit says which way to round, since n is even and so no odd square
+-- twice the middle between w / 2 and the next number up
+abbrev mid : ℕ → ℕ
+mid w = 2 * (w / 2) + 1
+
+abbrev Side : ℕ → ℕ → Type 0
+Side w n = ((n < mid w * mid w) × (w / 2 ≡ (w + 1) / 2)) ⊎ ((mid w * mid w < n) × (suc (w / 2) ≡ (w + 1) / 2))
+
+side : (w n : ℕ) → w * w ≤ n → n < suc w * suc w → n % 2 ≡ 0 → Side w n
+side w n a b even = go (decLe (w % 2) 0)
+  where
+    go : Dec (w % 2 ≤ 0) → Side w n
+    go (yes h) = let e : suc w ≡ mid w = omega arith in inl (subst (λ (z : ℕ). n < z * z) e b, omega arith)
+    go (no h) =
+        let e : w ≡ mid w = omega arith in
+        let l : mid w * mid w ≤ n = subst (λ (z : ℕ). z * z ≤ n) e a in
+        inr (omega (arith, ap (λ (z : ℕ). z * z) (add-one (2 * (w / 2))), sq-suc (2 * (w / 2)), sq-twice (w / 2)), omega arith)
+
+-- both sides times (2 ^ suc h) squared
+scale-sq : (v p : ℕ) → v * (p * 2) * (v * (p * 2)) ≡ 4 * (v * v * p * p)
+scale-sq v p = simp (mul-assoc, mul-comm, mul-left-comm) (omega arith)
+
+times : (a b p : ℕ) → 0 < p → a < b → 4 * (a * p * p) < 4 * (b * p * p)
+times a b p P h = omega (arith, mul-lt-mul-of-pos-right (mul-lt-mul-of-pos-right h P) P)
+
+-- `nearest`'s choice does not change with the scale
+choice : (w n p : ℕ) → 0 < p → Side w n → nearest (w / 2) (compare (4 * (n * p * p)) (mid w * (p * 2) * (mid w * (p * 2)))) ≡ (w + 1) / 2
+choice w n p P s = go s
+  where
+    go : Side w n → nearest (w / 2) (compare (4 * (n * p * p)) (mid w * (p * 2) * (mid w * (p * 2)))) ≡ (w + 1) / 2
+    go (inl (l, e)) =
+        let t = times n (mid w * mid w) p P l in
+        by-order (w / 2) ((w + 1) / 2) (4 * (n * p * p)) (mid w * (p * 2) * (mid w * (p * 2))) (λ _. e) (λ g. omega (arith, scale-sq (mid w) p)) (λ g. omega (arith, scale-sq (mid w) p))
+    go (inr (l, e)) =
+        let t = times (mid w * mid w) n p P l in
+        by-order (w / 2) ((w + 1) / 2) (4 * (n * p * p)) (mid w * (p * 2) * (mid w * (p * 2))) (λ g. omega (arith, scale-sq (mid w) p)) (λ _. e) (λ g. omega (arith, scale-sq (mid w) p))
+
+-- `roundRoot`, from the root's whole part v and the number k of dropped digits on
+abbrev rounded : ℕ → ℕ → ℕ → Float
+rounded n v k = units binary64 false (nearest (v / 2 ^ k) (compare (4 * n) ((2 * (v / 2 ^ k) + 1) * 2 ^ k * ((2 * (v / 2 ^ k) + 1) * 2 ^ k)))) k
+
+rounded-is : (n : ℕ) → roundRoot binary64 n ≡ rounded n (isqrt n) (size (isqrt n) - 53)
+unfolding roundRoot
+rounded-is n = refl
+
+regroup : (w p : ℕ) → w * p * (w * p) ≡ w * w * p * p
+regroup w p = simp (mul-assoc, mul-comm, mul-left-comm)
+
+module _ (a w h : ℕ) (lo : 2 ^ 62 ≤ a) (hi : a + 2 ^ 11 ≤ 2 ^ 64) (below : w * w ≤ a * 2 ^ 44) (above : a * 2 ^ 44 < suc w * suc w) where
+  w-lo : 2 ^ 53 ≤ w
+  w-lo = omega (arith, sq-lt (2 ^ 53) (suc w) (omega arith))
+
+  w-hi : w < 2 ^ 54 - 1
+  w-hi = sq-lt w (2 ^ 54 - 1) (omega arith)
+
+  abbrev n : ℕ
+  n = a * 2 ^ 44 * 2 ^ h * 2 ^ h
+
+  v-lo : w * 2 ^ h ≤ isqrt n
+  v-lo =
+      let r = isqrt-root n in
+      omega (arith, sq-lt (w * 2 ^ h) (suc (isqrt n)) (omega (arith, regroup w (2 ^ h), mul-le-mul-right (2 ^ h) (mul-le-mul-right (2 ^ h) below))))
+
+  v-hi : isqrt n < suc w * 2 ^ h
+  v-hi =
+      let r = isqrt-root n in
+      sq-lt (isqrt n) (suc w * 2 ^ h) (omega (arith, regroup (suc w) (2 ^ h), mul-lt-mul-of-pos-right (mul-lt-mul-of-pos-right above (pow-pos h)) (pow-pos h)))
+
+  v-size : size (isqrt n) ≡ 54 + h
+  v-size =
+      let l : 2 ^ (53 + h) ≤ isqrt n = rw pow-add (le-trans (mul-le-mul-right (2 ^ h) w-lo) v-lo) in
+      let u : isqrt n < 2 ^ (54 + h) = rw pow-add (lt-of-lt-of-le v-hi (mul-le-mul-right (2 ^ h) (omega (arith, w-hi)))) in
+      let e : suc (53 + h) ≡ 54 + h = omega arith in
+      size-is (isqrt n) (53 + h) l (rw e u) ∙ e
+
+  first-digits : isqrt n / 2 ^ suc h ≡ w / 2
+  first-digits = ap (λ (z : ℕ). isqrt n / z) (pow-suc 2 h) ∙ sym (div-div-eq-div-mul (isqrt n) (2 ^ h) 2) ∙ ap (λ (z : ℕ). z / 2) (div-eq-of-lt-le (2 ^ h) v-lo (rw add-one v-hi))
+
+  pub root-rounded : roundRoot binary64 n ≡ units binary64 false ((w + 1) / 2) (suc h)
+  root-rounded =
+      let k : size (isqrt n) - 53 ≡ suc h = omega (arith, v-size) in
+      rounded-is n
+      ∙ ap (λ (z : ℕ). rounded n (isqrt n) z) k
+      ∙ rw (first-digits, pow-suc 2 h) (ap (λ (z : ℕ). units binary64 false z (suc h)) (choice w (a * 2 ^ 44) (2 ^ h) (pow-pos h) (side w (a * 2 ^ 44) below above (omega arith))))
+
+-- ---- the bits of a rounded root
+pub written : (r k : ℕ) → 2 ^ 52 ≤ r → r < 2 ^ 53 → k < 2000 → ofBits binary64 (k * 2 ^ 52 + r) ≡ units binary64 false r k
+written r k lo hi small =
+    let room : r * 2 ^ k < 2 ^ 2098 = lt-of-lt-of-le (shl-lt 53 k hi) (pow-mono {i = 53 + k} {j = 2098} (omega arith)) in
+    value-unique (ofBits binary64 (k * 2 ^ 52 + r)) (units binary64 false r k) false (r * 2 ^ k)
+    (ofBits-fits binary64 (k * 2 ^ 52 + r)) (units-fits binary64 r k (omega arith) room)
+    (value-packed false k r lo (omega arith) (omega arith)) (units-val binary64 false r k room)
+
+-- ---- `sqrtOf` at a finite value that is not 0
+no-zero : (u c a d : ℕ) → 0 * u * c ≡ a * d → 0 < a → 0 < d → ⊥
+no-zero u c a d h p q = omega (arith, mul-pos p q, ap (λ (z : ℕ). z * c) (zero-mul u), zero-mul c)
+
+pub sqrt-positive : (x : Float) (a : ℕ) → HasValue x false a (2 ^ 1074) → 0 < a → sqrtOf binary64 x ≡ roundRoot binary64 (a * 2 ^ 1074)
+unfolding sqrtOf
+sqrt-positive nan a h p = absurd h
+sqrt-positive (inf t) a h p = absurd h
+sqrt-positive (fin t zero e) a h p = absurd (no-zero (up e) (2 ^ 1074) a (down e) (h .1) p (down-pos e))
+sqrt-positive (fin true (suc m) e) a h p = absurd (true≢false (h .0))
+sqrt-positive (fin false (suc m) e) a h p = ap (λ (z : ℕ). roundRoot binary64 (z * 2 ^ 1074)) (units-of binary64 (fin false (suc m) e) false a h)
+
+-- ---- the shift that normalises m
+module _ (m e : ℕ) (m-pos : 0 < m) (m-lt : m < 2 ^ 53) (e-lo : 1 ≤ e) (e-hi : e < 2047) where
+  abbrev z : ℕ
+  z = leadingZeros 64 m
+
+  abbrev s : ℕ
+  s = z - (e + 1 + z) % 2
+
+  digits-of-m : (j : ℕ) × (z + suc j ≡ 64) × (2 ^ j ≤ m) × (m < 2 ^ suc j)
+  digits-of-m = leading-top 64 m m-pos (omega arith)
+
+  j-lt : digits-of-m .0 < 53
+  j-lt = lt-of-not-le (λ (g : 53 ≤ digits-of-m .0). not-le-of-lt m-lt (le-trans (pow-mono g) (digits-of-m .2)))
+
+  pub z-in : (11 ≤ z) × (z ≤ 63)
+  z-in = let t = digits-of-m in omega (arith, j-lt)
+
+  shl-is : (m * 2 ^ s) % 2 ^ 64 ≡ m * 2 ^ s
+  shl-is = let t = digits-of-m in shl-exact (suc (t .0)) s 64 (t .3) (omega arith)
+
+  a-lo : 2 ^ 62 ≤ m * 2 ^ s
+  a-lo =
+      let t = digits-of-m in
+      let l : 62 ≤ t .0 + s = omega arith in
+      le-trans (pow-mono l) (rw pow-add (mul-le-mul-right (2 ^ s) (t .2)))
+
+  a-hi : m * 2 ^ s + 2 ^ 11 ≤ 2 ^ 64
+  a-hi =
+      let t = digits-of-m in
+      let l : suc m * 2 ^ s ≤ 2 ^ (suc (t .0) + s) = rw (pow-add 2 (suc (t .0)) s) (mul-le-mul-right (2 ^ s) (t .3)) in
+      go (decLe ((e + 1 + z) % 2) 0) l
+    where
+      go : Dec ((e + 1 + z) % 2 ≤ 0) → suc m * 2 ^ s ≤ 2 ^ (suc (digits-of-m .0) + s) → m * 2 ^ s + 2 ^ 11 ≤ 2 ^ 64
+      go (yes y) l =
+          let i : 11 ≤ s = omega (arith, z-in) in
+          let k : suc (digits-of-m .0) + s ≡ 64 = omega (arith, digits-of-m .1) in
+          omega (arith, suc-mul m (2 ^ s), pow-mono i, ap (λ (x : ℕ). 2 ^ x) k)
+      go (no y) l =
+          let k : suc (digits-of-m .0) + s ≡ 63 = omega (arith, digits-of-m .1, z-in) in
+          omega (arith, suc-mul m (2 ^ s), ap (λ (x : ℕ). 2 ^ x) k)
+
+  abbrev h : ℕ
+  h = (e + 1031 - s) / 2 - 1
+
+  radicand : m * 2 ^ (e + 1073) ≡ m * 2 ^ s * 2 ^ 44 * 2 ^ h * 2 ^ h
+  radicand =
+      let i : e + 1073 ≡ s + (44 + (h + h)) = omega (arith, z-in) in
+      ap (λ (x : ℕ). m * 2 ^ x) i ∙ rw (pow-add 2 s (44 + (h + h)), pow-add 2 44 (h + h), pow-add 2 h h) (simp mul-assoc)
+
+  module _ (w : ℕ) (below : w * w ≤ (m * 2 ^ s) % 2 ^ 64 * 2 ^ 44) (above : (m * 2 ^ s) % 2 ^ 64 * 2 ^ 44 < (w + 1) * (w + 1)) where
+    below' : w * w ≤ m * 2 ^ s * 2 ^ 44
+    below' = omega (arith, shl-is)
+
+    above' : m * 2 ^ s * 2 ^ 44 < suc w * suc w
+    above' = omega (arith, shl-is, ap (λ (x : ℕ). x * x) (add-one w))
+
+    root-in : (2 ^ 53 ≤ w) × (w < 2 ^ 54 - 1)
+    root-in = (w-lo (m * 2 ^ s) w h a-lo a-hi below' above', w-hi (m * 2 ^ s) w h a-lo a-hi below' above')
+
+    pub made-no-nan : T (not (nanBits binary64 ((e + 1031 - s) / 2 * 2 ^ 52 + (w + 1) / 2)))
+    made-no-nan = no-nan-pattern ((e + 1031 - s) / 2 * 2 ^ 52 + (w + 1) / 2) (omega (arith, root-in))
+
+    pub made : ofBits binary64 ((e + 1031 - s) / 2 * 2 ^ 52 + (w + 1) / 2) ≡ roundRoot binary64 (m * 2 ^ (e + 1073))
+    made =
+        let k : (e + 1031 - s) / 2 ≡ suc h = omega (arith, z-in) in
+        rw (k, radicand)
+        (written ((w + 1) / 2) (suc h) (omega (arith, root-in)) (omega (arith, root-in)) (omega arith)
+        ∙ sym (root-rounded (m * 2 ^ s) w h a-lo a-hi below' above'))
+
+-- ---- `sqrtOf` at a pattern above 0
+module _ (b : ℕ) (plus : b < 2 ^ 63) where
+  no-sign : leb (2 ^ 63) b ≡ false
+  no-sign = is-false (leb (2 ^ 63) b) (lt→nleb (2 ^ 63) b plus)
+
+  pub root-low : 0 < b → b < 2 ^ 52 → sqrtOf binary64 (ofBits binary64 b) ≡ roundRoot binary64 (b * 2 ^ 1074)
+  root-low p l =
+      let same : b % 2 ^ 63 ≡ b = omega arith in
+      sqrt-positive (ofBits binary64 b) b (recast (ofBits binary64 b) (2 ^ 1074) no-sign same (value-low b (omega arith))) p
+
+  pub root-mid : 2 ^ 52 ≤ b → b < 2047 * 2 ^ 52 → sqrtOf binary64 (ofBits binary64 b) ≡ roundRoot binary64 ((b % 2 ^ 52 + 2 ^ 52) * 2 ^ (b / 2 ^ 52 + 1073))
+  root-mid l u =
+      let k = b / 2 ^ 52 - 1 in
+      let m = b % 2 ^ 52 + 2 ^ 52 in
+      let same : 2 ^ 52 + b % 2 ^ 52 ≡ m = omega arith in
+      let e : k + 1074 ≡ b / 2 ^ 52 + 1073 = omega arith in
+      let v = value-mid b k (omega arith) (omega arith) in
+      sqrt-positive (ofBits binary64 b) (m * 2 ^ k) (recast (ofBits binary64 b) (2 ^ 1074) no-sign (ap (λ (z : ℕ). z * 2 ^ k) same) v) (mul-pos {m = m} {n = 2 ^ k} (omega arith) (pow-pos k))
+      ∙ ap (roundRoot binary64) (mul-assoc m (2 ^ k) (2 ^ 1074) ∙ rw (← pow-add 2 k 1074, e) refl)
+
+  pub root-top : 2047 * 2 ^ 52 ≤ b → ofBits binary64 b ≡ sqrtOf binary64 (ofBits binary64 b)
+  unfolding sqrtOf
+  root-top l = by-digits (eq-or-lt-of-le l)
+    where
+      by-digits : (2047 * 2 ^ 52 ≡ b) ⊎ (2047 * 2 ^ 52 < b) → ofBits binary64 b ≡ sqrtOf binary64 (ofBits binary64 b)
+      by-digits (inl e) = rw (value-inf b (omega arith), no-sign) refl
+      by-digits (inr g) = rw (nan-pattern b (omega arith)) refl

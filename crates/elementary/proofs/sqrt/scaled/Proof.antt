@@ -1,0 +1,58 @@
+use Prim.Native.Nat.{_≤_}
+use native.Mathlib.Omega.{arith}
+use borrow.Author.Needs.{needs}
+use lib.Count.{leadingZeros}
+use Rattle.elementary.proofs.sqrt.Laws.{z-in, made, made-no-nan}
+use Rattle.elementary.proofs.sqrt.scaled.Statement.{statement}
+use Rattle.elementary.proofs.sqrt.scaled.Tie as tie
+
+range : (c : tie.Start) → (11 ≤ leadingZeros 64 (c .args .m)) × (leadingZeros 64 (c .args .m) ≤ 63)
+range c = z-in (c .args .m) (c .args .e) (c .pre .0) (c .pre .1) (c .pre .2) (c .pre .3)
+
+cast-z : tie.Need-cast-z
+cast-z c = omega (arith, range c)
+
+add-s : tie.Need-add-s
+add-s c = search needs
+
+add-s-2 : tie.Need-add-s-2
+add-s-2 c = omega (arith, range c)
+
+sub-s : tie.Need-sub-s
+sub-s c = omega (arith, range c)
+
+shl-digits : tie.Need-shl-digits
+shl-digits c = omega (arith, range c)
+
+digits-requires : tie.Need-digits-requires
+digits-requires c κs = search needs
+
+add-result : tie.Need-add-result
+add-result c = search needs
+
+sub-result : tie.Need-sub-result
+sub-result c = omega (arith, range (c .before))
+
+mul-result : tie.Need-mul-result
+mul-result c = search needs
+
+add-result-2 : tie.Need-add-result-2
+add-result-2 c = search needs
+
+add-result-3 : tie.Need-add-result-3
+add-result-3 c = search needs
+
+float-from-bits-result : tie.Need-float-from-bits-result
+float-from-bits-result c =
+    let p = c .before .pre in
+    made-no-nan (c .before .args .m) (c .before .args .e) (p .0) (p .1) (p .2) (p .3) (c .digits .result) (c .digits .ensures .0) (c .digits .ensures .1)
+
+returns : tie.Need-returns
+returns c =
+    let p = c .before .pre in
+    made (c .before .args .m) (c .before .args .e) (p .0) (p .1) (p .2) (p .3) (c .digits .result) (c .digits .ensures .0) (c .digits .ensures .1)
+
+pub scaled-spec : {M : Type 1} → statement M
+scaled-spec =
+    tie.close
+    (tie.spec cast-z add-s add-s-2 sub-s shl-digits digits-requires add-result sub-result mul-result add-result-2 add-result-3 float-from-bits-result returns)

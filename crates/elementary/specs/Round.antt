@@ -1,0 +1,56 @@
+-- What the contracts of the rounding leaf say of numbers, and a finite float taken apart. Assumes nothing.
+use mathlib.Core.Path.{_≡_}
+use mathlib.Core.Bool.{Bool}
+use Prim.Native.Nat.{ℕ, _+_, _*_, _^_, _/_, _%_, _<_, _≤_}
+use lib.Ieee.{Float}
+use lib.Ieee.Exact.{HasValue}
+
+-- m is the fraction N / E cut to a whole number, and x is 0 just where nothing was cut off.
+pub record Cut (N E m x : ℕ) : Type 0 where
+  pub whole : N / E ≡ m
+  pub none : x ≡ 0 → N % E ≡ 0
+  pub some : N % E ≡ 0 → x ≡ 0
+
+-- r is h / 2 to the nearest whole number, where h is itself cut, x being 0 just where nothing was cut off, and at a tie to the even one.
+pub record Halved (h x r : ℕ) : Type 0 where
+  pub tie : x ≡ 0 → r ≡ (h + h / 2 % 2) / 2
+  pub more : 0 < x → r ≡ (h + 1) / 2
+
+-- x is 0 just where a and b are
+pub record Any (a b x : ℕ) : Type 0 where
+  pub left : x ≡ 0 → a ≡ 0
+  pub right : x ≡ 0 → b ≡ 0
+  pub none : a ≡ 0 → b ≡ 0 → x ≡ 0
+
+-- x is 0 just where r is
+pub record Same (x r : ℕ) : Type 0 where
+  pub to : x ≡ 0 → r ≡ 0
+  pub from : r ≡ 0 → x ≡ 0
+
+-- a number of two words
+abbrev pub wide : ℕ → ℕ → ℕ
+wide hi lo = hi * 2 ^ 64 + lo
+
+-- x shifted left by z fills a word
+pub record Lead (x z : ℕ) : Type 0 where
+  pub small : z < 64
+  pub low : 2 ^ 63 ≤ x * 2 ^ z
+  pub high : x * 2 ^ z < 2 ^ 64
+
+-- a significand of 53 digits, and its exponent
+pub record Digits (m e : ℕ) : Type 0 where
+  pub lead : 2 ^ 52 ≤ m
+  pub top : m < 2 ^ 53
+  pub room : e < 2 ^ 12
+
+-- a finite float as a sign and m * 2 ^ e / 2 ^ 1138, with an m of 53 digits or 0
+pub record Decoded (x : Float) (s : Bool) (m e : ℕ) : Type 0 where
+  pub value : HasValue x s (m * 2 ^ e) (2 ^ 1138)
+  pub room : e < 2 ^ 12
+  pub digits : 0 < m → Digits m e
+
+-- the same for the digits t of a subnormal value
+pub record Lifted (t m e : ℕ) : Type 0 where
+  pub same : m * 2 ^ e ≡ t * 2 ^ 64
+  pub room : e < 2 ^ 12
+  pub digits : 0 < m → Digits m e
