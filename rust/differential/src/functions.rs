@@ -54,7 +54,7 @@ pub const FUNCTIONS: &[Function] = &[
     Function { name: "is_zero", arguments: 1, ours: |[x, _, _]| ours::is_zero(x), reference: is_zero, inputs: |w| one(line(w, -4.0, 4.0)), cost: 1 },
     function!(powi_2, elementary::powi_2, |w: &mut Words| line(w, -4.0, 4.0)),
     //function!(floor, elementary::floor, whole),
-    //function!(sqrt, elementary::sqrt, square),
+    function!(sqrt, elementary::sqrt, square),
     Function { name: "mul_add", arguments: 3, ours: |[a, b, c]| ours::mul_add(a, b, c), reference: mul_add, inputs: fused, cost: 1 },
     //function!(exp, elementary::exp, exponent),
     //function!(ln, elementary::ln, positive),

@@ -35,6 +35,7 @@ functions! {
         abs = gintubalos_abs(x);
         max = gintubalos_max(a, b);
         powi_2 = gintubalos_powi_2(y);
+        sqrt = gintubalos_sqrt(x);
         mul_add = gintubalos_mul_add(a, b, c);
     }
     numbers {
