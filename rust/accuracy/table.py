@@ -10,7 +10,7 @@ in units in its last place. The points are the same in each run.
 import struct
 import sys
 
-from mpmath import mp, mpf, erf, erfc, exp, floor, frexp, ldexp, log, nint
+from mpmath import erf, erfc, exp, frexp, ldexp, log, mp, mpf, nint
 
 mp.prec = 400
 
@@ -61,23 +61,24 @@ class Words:
 
 
 def points(words):
-    for _ in range(1500):
+    """The parts of each function's range that its rule treats apart."""
+    for _ in range(2500):
         yield "exp", words.uniform(-708.0, 709.7)
-        yield "exp", words.uniform(-1.0, 1.0)
-        yield "ln", words.positive()
-        yield "ln", words.uniform(0.5, 2.0)
-        yield "erfc", words.uniform(-6.0, 0.46875)
-        yield "erfc", words.uniform(0.46875, 4.0)
-        yield "erfc", words.uniform(4.0, 26.5)
-    for _ in range(300):
+        yield "exp_near_0", words.uniform(-1.0, 1.0)
         yield "exp_subnormal", words.uniform(-745.1, -708.4)
-        yield "ln_near_1", 1.0 + words.uniform(-1.0, 1.0) * 2.0 ** -(words.next() % 40)
+        yield "ln", words.positive()
+        yield "ln_near_1", words.uniform(0.5, 2.0)
+        yield "ln_close_to_1", 1.0 + words.uniform(-1.0, 1.0) * 2.0 ** -(2 + words.next() % 40)
+        yield "erfc_centre", words.uniform(-0.46875, 0.46875)
+        yield "erfc_middle", words.uniform(0.46875, 4.0)
+        yield "erfc_tail", words.uniform(4.0, 26.5)
+        yield "erfc_negative", words.uniform(-6.0, -0.46875)
 
 
 def table():
-    functions = {"exp": exp, "exp_subnormal": exp, "ln": log, "ln_near_1": log, "erfc": erfc}
+    functions = {"exp": exp, "ln": log, "erfc": erfc}
     for name, x in points(Words(1)):
-        value = functions[name](mpf(x))
+        value = functions[name.split("_")[0]](mpf(x))
         if value == 0:
             continue
         sign = 1 << 63 if value < 0 else 0
