@@ -72,3 +72,20 @@ pub const FUNCTIONS: &[Function] = &[
     //function!(inverse_normal_cdf, normal::inverse_normal_cdf, probability, 10),
     //function!(inverse_f_upper_map, normal::inverse_f_upper_map, probability, 10),
 ];
+
+#[cfg(test)]
+mod tests {
+    use super::*;
+
+    /// Every function's inputs can be made, and where it has one argument the others are left out.
+    #[test]
+    fn inputs_have_the_right_count() {
+        for function in FUNCTIONS {
+            let mut words = Words::new(1, function.name, 0);
+            for _ in 0..20_000 {
+                let arguments = (function.inputs)(&mut words);
+                assert!(arguments[function.arguments..].iter().all(|x| *x == 0), "{}", function.name);
+            }
+        }
+    }
+}

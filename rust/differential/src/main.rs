@@ -27,7 +27,7 @@ const USAGE: &str = "usage: differential [--quick] [--function NAME] [--inputs N
   --accuracy       measures document 01's rules over a table of rust/accuracy/table.py on standard input";
 
 const INPUTS: u64 = 10_000_000;
-const QUICK: u64 = 1_000_000;
+const QUICK: u64 = 2_000_000;
 
 /// What the command line asks for.
 struct Wanted {
