@@ -1,32 +1,28 @@
-// A line of the list: the function's number in two decimal digits, then three arguments and the
+// The list: a line has the function's number in two decimal digits, then three arguments and the
 // answer in sixteen hexadecimal digits each, a space between and a line feed at the end.
 ghost use Prim.Native.Nat.{_+_, _<_, _≤_};
 ghost use lib.ListN.{length};
 
+// How many bytes a line has, and where its words stand.
 pub const WIDTH: usize = 71;
 
-pub struct Line {
-    pub function: u64,
-    pub a: u64,
-    pub b: u64,
-    pub c: u64,
-    pub answer: u64,
-}
+pub const FIRST: usize = 3;
 
-pub fn line_at(text: &[u8], at: usize) -> Line
-    requires { ⌜ at + 71 ≤ length (now text) ⌝ }
+pub const SECOND: usize = 20;
+
+pub const THIRD: usize = 37;
+
+pub const ANSWER: usize = 54;
+
+// The function's number.
+pub fn number_at(text: &[u8], at: usize) -> u64
+    requires { ⌜ at + 2 ≤ length (now text) ⌝ }
 {
-    Line {
-        function: digit(text[at]) * 10 + digit(text[at + 1]),
-        a: word_at(text, at + 3),
-        b: word_at(text, at + 20),
-        c: word_at(text, at + 37),
-        answer: word_at(text, at + 54),
-    }
+    digit(text[at]) * 10 + digit(text[at + 1])
 }
 
 // The number in the sixteen hexadecimal digits from `at` on.
-fn word_at(text: &[u8], at: usize) -> u64
+pub fn word_at(text: &[u8], at: usize) -> u64
     requires { ⌜ at + 16 ≤ length (now text) ⌝ }
 {
     let mut word: u64 = 0;

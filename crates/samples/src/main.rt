@@ -3,9 +3,9 @@
 mod functions;
 mod list;
 
-ghost use Prim.Native.Nat.{_≤_};
+ghost use Prim.Native.Nat.{_+_, _≤_};
+ghost use lib.ListN.{length};
 use functions::print;
-use list::Line;
 
 // The lines of one function, and how many of them have the answer that the proved function gives.
 struct Tally {
@@ -50,10 +50,10 @@ fn counted(text: &[u8], function: u64) -> Tally {
     let mut agree: u64 = 0;
     let mut i: usize = 0;
     while i < lines {
-        let line = list::line_at(text, i * list::WIDTH);
-        if line.function == function {
+        let at = i * list::WIDTH;
+        if list::number_at(text, at) == function {
             met += 1;
-            agree += agrees(line);
+            agree += agrees(text, at, function);
         }
         i += 1;
     }
@@ -63,11 +63,15 @@ fn counted(text: &[u8], function: u64) -> Tally {
     }
 }
 
-// 1 where the proved function has the line's answer.
-fn agrees(line: Line) -> u64
+// 1 where the proved function has the answer of the line at this place, else 0.
+fn agrees(text: &[u8], at: usize, function: u64) -> u64
+    requires { ⌜ at + 71 ≤ length (now text) ⌝ }
     ensures { λ r. ⌜ r ≤ 1 ⌝ }
 {
-    if functions::answer(line.function, line.a, line.b, line.c) == line.answer {
+    let a = list::word_at(text, at + list::FIRST);
+    let b = list::word_at(text, at + list::SECOND);
+    let c = list::word_at(text, at + list::THIRD);
+    if functions::answer(function, a, b, c) == list::word_at(text, at + list::ANSWER) {
         1
     } else {
         0

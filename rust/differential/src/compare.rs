@@ -9,7 +9,7 @@ use crate::{
 };
 use std::thread;
 
-const BLOCK: u64 = 1 << 16;
+const BLOCK: u64 = 50_000;
 /// After so many inputs a line says how far the run is.
 const ROUND: u64 = 50 * BLOCK;
 /// So many differing inputs of a function are shown.

@@ -16,17 +16,17 @@ abbrev μ-loop : tie.MeasureT-loop
 loop-holds : tie.Need-loop-holds Inv-loop μ-loop
 loop-holds c = omega arith
 
-mul-line-at : tie.Need-mul-line-at Inv-loop μ-loop
-mul-line-at c = omega arith
+mul-at : tie.Need-mul-at Inv-loop μ-loop
+mul-at c = omega arith
 
-line-at-requires : tie.Need-line-at-requires Inv-loop μ-loop
-line-at-requires c κs = omega arith
+number-at-requires : tie.Need-number-at-requires Inv-loop μ-loop
+number-at-requires c κs = omega arith
 
 add-met : tie.Need-add-met Inv-loop μ-loop
 add-met c = omega arith
 
 agrees-requires : tie.Need-agrees-requires Inv-loop μ-loop
-agrees-requires c κs = search needs
+agrees-requires c κs = omega arith
 
 add-agree : tie.Need-add-agree Inv-loop μ-loop
 add-agree c = omega arith
@@ -50,8 +50,8 @@ counted-spec =
     Inv-loop
     μ-loop
     loop-holds
-    mul-line-at
-    line-at-requires
+    mul-at
+    number-at-requires
     add-met
     agrees-requires
     add-agree
