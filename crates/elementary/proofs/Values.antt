@@ -3,11 +3,11 @@ use mathlib.Core.Path.{_≡_, refl, sym, ap, _∙_}
 use mathlib.Core.Logic.{_⊎_, inl, inr}
 use mathlib.Core.Bool.{Bool, true, false, cond}
 use Prim.Native.Nat.{ℕ, suc, _+_, _-_, _*_, _/_, _%_, _^_, _≤_, _<_}
-use native.Mathlib.Nat.{mul-one, pow-suc, mul-div-cancel, eq-or-lt-of-le}
+use native.Mathlib.Nat.{mul-one, pow-suc, mul-div-cancel, mul-right-comm, eq-of-mul-eq-mul-right, eq-or-lt-of-le}
 use native.Mathlib.Omega.{arith}
 use lib.Dec.{T, leb, eqb, eqb→eq, le→leb, not-T}
 use lib.Arith.{lt→nleb}
-use lib.Ieee.{Float, nan, inf, fin, binary64, size, odd, fits, ofFields, ofBits, toBits}
+use lib.Ieee.{Float, nan, inf, fin, binary64, up, down, size, odd, fits, ofFields, ofBits, toBits}
 use lib.Ieee.Fits.{down-pos}
 use lib.Ieee.Exact.{HasValue, odd-sign}
 use lib.Ieee.Bits.{is-true, is-false, cond-no, ofBits-toBits}
@@ -15,6 +15,19 @@ use lib.Ieee.Bits.{is-true, is-false, cond-no, ofBits-toBits}
 -- the same value said otherwise
 pub recast : (x : Float) (c : ℕ) {s t : Bool} {a b : ℕ} → s ≡ t → a ≡ b → HasValue x s a c → HasValue x t b c
 recast x c p q h = rw (← p, ← q) h
+
+pub revalue : (x : Float) (s : Bool) (a c b d : ℕ) → 0 < c → a * d ≡ b * c → HasValue x s a c → HasValue x s b d
+revalue nan s a c b d p e h = h
+revalue (inf t) s a c b d p e h = h
+revalue (fin t m k) s a c b d p e h = (
+  h .0,
+  eq-of-mul-eq-mul-right c p (m * up k * d) (b * down k)
+      (mul-right-comm (m * up k) d c
+      ∙ ap (λ (z : ℕ). z * d) (h .1)
+      ∙ mul-right-comm a (down k) d
+      ∙ ap (λ (z : ℕ). z * down k) e
+      ∙ mul-right-comm b c (down k)),
+)
 
 -- ---- reading a pattern: its sign, its exponent's field, its digits
 fields : (b x t : ℕ) → b % 2 ^ 63 / 2 ^ 52 ≡ x → b % 2 ^ 52 ≡ t → ofBits binary64 b ≡ ofFields binary64 (leb (2 ^ 63) b) x t
@@ -49,9 +62,9 @@ signed s n = cond s (2 ^ 63 + n) n
 abbrev pub packed : Bool → ℕ → ℕ → ℕ
 packed s k q = signed s (k * 2 ^ 52 + q)
 
-first-bit : (s : Bool) (n : ℕ) → n < 2 ^ 63 → (leb (2 ^ 63) (signed s n) ≡ s) × (signed s n % 2 ^ 63 ≡ n) × (signed s n % 2 ^ 52 ≡ n % 2 ^ 52)
-first-bit true n l = (is-true _ (le→leb (2 ^ 63) (2 ^ 63 + n) (omega arith)), omega arith, omega arith)
-first-bit false n l = (is-false _ (lt→nleb (2 ^ 63) n (omega arith)), omega arith, omega arith)
+pub signed-parts : (s : Bool) (n : ℕ) → n < 2 ^ 63 → (leb (2 ^ 63) (signed s n) ≡ s) × (signed s n % 2 ^ 63 ≡ n) × (signed s n % 2 ^ 52 ≡ n % 2 ^ 52)
+signed-parts true n l = (is-true _ (le→leb (2 ^ 63) (2 ^ 63 + n) (omega arith)), omega arith, omega arith)
+signed-parts false n l = (is-false _ (lt→nleb (2 ^ 63) n (omega arith)), omega arith, omega arith)
 
 pub value-packed : (s : Bool) (k q : ℕ) → 2 ^ 52 ≤ q → q ≤ 2 ^ 53 → k < 2045 → HasValue (ofBits binary64 (packed s k q)) s (q * 2 ^ k) (2 ^ 1074)
 value-packed s k q lo hi small = by-carry (eq-or-lt-of-le hi)
@@ -60,7 +73,7 @@ value-packed s k q lo hi small = by-carry (eq-or-lt-of-le hi)
     b = packed s k q
 
     parts : (leb (2 ^ 63) b ≡ s) × (b % 2 ^ 63 ≡ k * 2 ^ 52 + q) × (b % 2 ^ 52 ≡ (k * 2 ^ 52 + q) % 2 ^ 52)
-    parts = first-bit s (k * 2 ^ 52 + q) (omega arith)
+    parts = signed-parts s (k * 2 ^ 52 + q) (omega arith)
 
     by-carry : (q ≡ 2 ^ 53) ⊎ (q < 2 ^ 53) → HasValue (ofBits binary64 b) s (q * 2 ^ k) (2 ^ 1074)
     by-carry (inl e) =

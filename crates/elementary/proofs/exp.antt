@@ -1,2 +1,4 @@
 -- Laws that the proofs of exp use.
 mod Power
+mod Bias
+mod Range

@@ -7,16 +7,17 @@ use Prim.Native.Nat.{ℕ, zero, suc, _+_, _-_, _*_, _/_, _^_, _≤_, _<_}
 use native.Mathlib.Nat.{le-trans, le-of-eq, le-of-lt, lt-of-not-le, lt-of-lt-of-le, mul-assoc, mul-comm, mul-left-comm, mul-right-comm, mul-one, one-mul, zero-mul, add-mul, mul-le-mul, mul-le-mul-right, le-of-mul-le-mul-right, mul-pos, mul-mul-mul-comm, suc-mul, div-le-of-le-mul, div-lt-iff-lt-mul}
 use native.Mathlib.Decide.{decLe}
 use native.Mathlib.Omega.{arith}
-use lib.Dec.{T, ltb, eqb, ltb→lt, eqb→eq, eqb·suc-zero, lit<, lit≤}
+use lib.Dec.{T, ltb, eqb·suc-zero, lit<, lit≤}
 use lib.Pow.{pow-add, pow-pos, pow-lt}
 use borrow.Author.Tests.{le-ltb, ltb-false}
 use lib.Ieee.{Float, nan, inf, fin, binary64, up, down, unlike, units, round, sum, add, sub, mul, div, neg, le, ofBits}
 use lib.Ieee.Fits.{up-pos, down-pos, round-is}
 use lib.Ieee.Exact.{HasValue, round-exact, units-val}
 use lib.Ieee.Back.{round-whole}
-use lib.Ieee.Order.{round-mono, transfer, kept, drop}
+use lib.Ieee.Order.{round-mono, kept, drop}
 use lib.Ieee.Scale.{finite, grid, overflow, round-val, round-under}
 use Rattle.elementary.specs.Ops.{_⊕_, _⊖_, _⊗_, _⊘_, half}
+use Rattle.elementary.specs.Order.{le→fractions}
 use Rattle.elementary.specs.Floor.{floorSize, floorOf}
 
 -- ---- the statements
@@ -96,26 +97,6 @@ value-side {x} {s} v c b p h l = record { sized = side-of-value x s v c b p h l 
 pub value-over : {x : Float} (v c j : ℕ) → 0 < c → HasValue x false v c → c ≤ v * 2 ^ j → Over x j
 value-over {x} v c j p h l = record { large = over-value x v c j p h l }
 
-or-cases : (a b : Bool) → T (a || (b && true)) → T a ⊎ T b
-or-cases true b t = inl tt
-or-cases false true t = inr tt
-or-cases false false t = absurd t
-
--- two values that are not negative, in order
-pub cross : (x y : Float) (v c b d : ℕ) → 0 < c → 0 < d → HasValue x false v c → HasValue y false b d → T (le x y) → v * d ≤ b * c
-unfolding le
-cross nan y v c b d C D p q h = absurd p
-cross (inf s) y v c b d C D p q h = absurd p
-cross (fin true m e) y v c b d C D p q h = absurd (true≢false (p .0))
-cross (fin false m e) nan v c b d C D p q h = absurd q
-cross (fin false m e) (inf t) v c b d C D p q h = absurd q
-cross (fin false m e) (fin true n g) v c b d C D p q h = absurd (true≢false (q .0))
-cross (fin false m e) (fin false n g) v c b d C D p q h =
-    let l : m * up e * down g ≤ n * up g * down e =
-    ⊎-elim (λ w. le-of-lt (ltb→lt (m * up e * down g) (n * up g * down e) w)) (λ w. le-of-eq (eqb→eq (m * up e * down g) (n * up g * down e) w))
-    (or-cases (ltb (m * up e * down g) (n * up g * down e)) (eqb (m * up e * down g) (n * up g * down e)) h) in
-    transfer v b c d (m * up e) (n * up g) (down e) (down g) (down-pos e) (down-pos g) (sym (p .1)) (sym (q .1)) l
-
 -- ---- rounding
 inf-not-below : (y : Float) (b d : ℕ) → HasValue y false b d → T (le (inf false) y) → ⊥
 unfolding le
@@ -143,7 +124,7 @@ module _ (a c b : ℕ) (C : 0 < c) (B : Exact b) (h : a ≤ b * c) where
   round-side s =
       value-side (grid binary64 a c) (2 ^ 1074) b (pow-pos 1074)
       (rw round-is (units-val binary64 s (kept 53 (a * 2 ^ 1074) c) (drop 53 (a * 2 ^ 1074) c) no-overflow))
-      (rw mul-one at (cross (round binary64 false a c) (round binary64 false b 1) (grid binary64 a c) (2 ^ 1074) b 1 (pow-pos 1074) (lit< tt) (round-val binary64 a c no-overflow) B in-order))
+      (rw mul-one at (le→fractions false false (grid binary64 a c) b (2 ^ 1074) 1 (pow-pos 1074) (lit< tt) (round binary64 false a c) (round binary64 false b 1) (round-val binary64 a c no-overflow) B in-order))
 
 -- 2 ^ -j is a value of the format
 least-exact : (j : ℕ) → j ≤ 1074 → HasValue (round binary64 false 1 (2 ^ j)) false 1 (2 ^ j)
@@ -156,7 +137,7 @@ round-over : (a c j : ℕ) → 0 < c → j ≤ 1074 → c ≤ a * 2 ^ j → T (f
 round-over a c j C J h f =
     let g = round-under binary64 a c f in
     value-over (grid binary64 a c) (2 ^ 1074) j (pow-pos 1074) (round-val binary64 a c g)
-    (rw one-mul at (cross (round binary64 false 1 (2 ^ j)) (round binary64 false a c) 1 (2 ^ j) (grid binary64 a c) (2 ^ 1074) (pow-pos j) (pow-pos 1074)
+    (rw one-mul at (le→fractions false false 1 (grid binary64 a c) (2 ^ j) (2 ^ 1074) (pow-pos j) (pow-pos 1074) (round binary64 false 1 (2 ^ j)) (round binary64 false a c)
     (least-exact j J) (round-val binary64 a c g) (round-mono binary64 1 (2 ^ j) a c (pow-pos j) C (rw one-mul h))))
 
 -- ---- the operations
@@ -180,6 +161,23 @@ mul-side {x = fin u m e} {y = fin v n d} {s} {t} {a} {b} c C l h k =
 
 pub mul-at-most : {x y : Float} {a b : ℕ} (c : ℕ) → Exact c → a * b ≤ c → AtMost x a → AtMost y b → AtMost (x ⊗ y) c
 mul-at-most c C l h k = unsigned (mul-side c C l (h .side) (k .side))
+
+-- by a constant that is the fraction v / d
+pub mul-by : {x : Float} {a : ℕ} (c : Float) (v d b : ℕ) → 0 < d → HasValue c false v d → Exact b → a * v ≤ b * d → AtMost x a → AtMost (x ⊗ c) b
+unfolding mul
+mul-by {x = nan} c v d b D k B l h = absurd (h .side .sized)
+mul-by {x = inf u} c v d b D k B l h = absurd (h .side .sized)
+mul-by {x = fin u m e} nan v d b D k B l h = absurd k
+mul-by {x = fin u m e} (inf t) v d b D k B l h = absurd k
+mul-by {x = fin u m e} {a} (fin t n g) v d b D k B l h =
+    unsigned (round-side (m * up e * (n * up g)) (down e * down g) b (mul-pos (down-pos e) (down-pos g)) B (le-of-mul-le-mul-right {k = d} top D) (unlike u t))
+  where
+    top : m * up e * (n * up g) * d ≤ b * (down e * down g) * d
+    top =
+        le-trans (le-of-eq (mul-assoc (m * up e) (n * up g) d ∙ ap (λ z. m * up e * z) (k .1)))
+        (le-trans (mul-le-mul-right (v * down g) (h .side .sized .1))
+        (le-trans (le-of-eq (mul-mul-mul-comm a (down e) v (down g)))
+        (le-trans (mul-le-mul-right (down e * down g) l) (le-of-eq (mul-right-comm b d (down e * down g))))))
 
 pub half-at-most : {x : Float} (b : ℕ) → Exact b → AtMost x (b * 2) → AtMost (half ⊗ x) b
 unfolding mul ofBits
@@ -312,6 +310,16 @@ floor-side {x = nan} B h = absurd (h .sized)
 floor-side {x = inf t} B h = absurd (h .sized)
 floor-side {x = fin t m e} {s} {b} B h =
     rw (h .sized .0) (round-side (floorSize s (m * up e) (down e)) 1 b (lit< tt) B (rw mul-one (floor-size s (m * up e) (down e) b (down-pos e) (h .sized .1))) s)
+
+-- it is a whole number
+pub floor-whole : {x : Float} {b : ℕ} → b ≤ 2 ^ 53 → AtMost x b → (s : Bool) × (n : ℕ) × HasValue (floorOf binary64 x) s n 1 × (n ≤ b)
+unfolding floorOf
+floor-whole {x = nan} l h = absurd (h .side .sized)
+floor-whole {x = inf t} l h = absurd (h .side .sized)
+floor-whole {x = fin t m e} {b} l h =
+    let n = floorSize t (m * up e) (down e) in
+    let k = floor-size t (m * up e) (down e) b (down-pos e) (h .side .sized .1) in
+    (t, n, round-whole binary64 t n (le-trans k l), k)
 
 -- ---- a number that is not above 0, and one from 0 to 1: their sum is not above 1
 pub sum-low : {x y : Float} {a : ℕ} → Exact a → Side x true a → Side y false 1 → Side (x ⊕ y) true a ⊎ Side (x ⊕ y) false 1

@@ -18,7 +18,7 @@ abbrev pub THRESHOLD : Float
 THRESHOLD = bits 0x3fde_0000_0000_0000
 
 abbrev pub XNEG : Float
-XNEG = neg (bits 0x403a_a0f4_d2e0_63b5)
+XNEG = bits 0xc03a_a0f4_d2e0_63b5
 
 abbrev pub XBIG : Float
 XBIG = bits 0x403a_8b02_0c49_ba5e

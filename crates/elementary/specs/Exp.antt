@@ -1,8 +1,10 @@
 -- Document 01's exp, operation by operation. Definitions only.
-use mathlib.Core.Bool.{true, false, cond}
-use Prim.Native.Nat.{ℕ, zero, suc, _*_, _^_}
+use mathlib.Core.Path.{_≡_}
+use mathlib.Core.Bool.{Bool, true, false, cond}
+use Prim.Native.Nat.{ℕ, zero, suc, _*_, _≤_}
 use lib.IntN.{ℤ, pos, negsuc}
-use lib.Ieee.{Float, nan, inf, fin, Format, binary64, up, down, round, neg, lt, ne, toSigned}
+use lib.Ieee.{Float, nan, inf, fin, Format, binary64, up, down, minus, round, neg, lt, ne, toSigned}
+use lib.Ieee.Exact.{HasValue}
 use Rattle.elementary.specs.Ops.{_⊕_, _⊖_, _⊗_, _⊘_, bits, whole, +0, half, one, H, L}
 use Rattle.elementary.specs.Floor.{floorOf}
 
@@ -42,3 +44,18 @@ expInner y = scaled binary64 (expSum 13 (expR y) one) (toSigned 63 (expK y))
 unfoldable pub expOf : Float → Float
 unfolding expInner
 expOf y = let inner = expInner y in cond (ne y y) nan (cond (lt LARGEST y) (inf false) (cond (lt y LEAST) +0 inner))
+
+-- ---- what the contracts of exp's helpers say
+
+-- k is a whole number of at most 1078 in size
+pub record Whole (k : Float) : Type 0 where
+  pub sign : Bool
+  pub size : ℕ
+  pub value : HasValue k sign size 1
+  pub small : size ≤ 1078
+
+-- e is k + 2048
+pub record Biased (k : Float) (e : ℕ) : Type 0 where
+  pub exponent : toSigned 63 k ≡ minus e 2048
+  pub low : 960 ≤ e
+  pub high : e ≤ 3136

@@ -26,11 +26,14 @@ use Rattle.elementary.specs.Cody.{THRESHOLD, FRAC-1-SQRT-PI, XBIG, four,
 use Rattle.elementary.specs.Rules.{Rules}
 use Rattle.elementary.specs.Methods.{absOf}
 use Rattle.elementary.specs.NormalDistribution.{FRAC-1-SQRT-2, cdfOf}
-use Rattle.elementary.specs.Order.{equal-itself}
-use Rattle.elementary.specs.Bounds.{side-finite, AtMost, Side, Over, Exact, pow-exact, small-exact, unsigned, wider, value-side, value-over, cross, no-overflow, neg-side, round-side, mul-side, mul-at-most, square-over, add-at-most, sub-at-most, add-side, add-over, div-side, floor-side, sum-low}
+use Rattle.elementary.specs.Compare.{equal-itself}
+use Rattle.elementary.specs.Order.{le→fractions}
+use Rattle.elementary.specs.Powers.{pow-le-back, pow-split}
+use Rattle.elementary.specs.Held.{holds}
+use Rattle.elementary.specs.Bounds.{side-finite, AtMost, Side, Over, Exact, pow-exact, small-exact, unsigned, wider, value-side, value-over, no-overflow, neg-side, round-side, mul-side, mul-at-most, square-over, add-at-most, sub-at-most, add-side, add-over, div-side, floor-side, sum-low}
 
 -- ---- the constants of exp
-half-side : Side half false 1
+pub half-side : Side half false 1
 unfolding ofBits
 half-side = record { sized = (refl, lit≤ tt) }
 
@@ -230,23 +233,12 @@ unfolding fits
 held-digits zero e h =
     let i : up e * down e ≡ 1 = eqb→eq (up e * down e) 1 h in
     (lit< tt, le-trans (le-trans (le-of-eq (sym (one-mul (down e)))) (mul-le-mul-right (down e) (up-pos e))) (le-trans (le-of-eq i) (lit≤ tt)))
-held-digits (suc m) e h =
-    let a = eqb (suc m % 2) 1 in
-    let b = ltb (suc m) (2 ^ 53) in
-    let c = leb (down e) (2 ^ 1074) in
-    let d = and-l (a && b && c) (ltb (suc m * up e) (2 ^ 1024 * down e)) h in
-    (ltb→lt (suc m) (2 ^ 53) (and-r a b (and-l (a && b) c d)), leb→le (down e) (2 ^ 1074) (and-r (a && b) c d))
+held-digits (suc m) e h = let d = holds binary64 false m e h in (d .0, d .1)
 
 -- 2 ^ e in units of the smallest value
 in-units : (e : ℤ) → down e ≤ 2 ^ 1074 → (j : ℕ) × (2 ^ j * down e ≡ up e * 2 ^ 1074)
 in-units (pos k) h = (k + 1074, rw (mul-one, pow-add 2 k 1074))
-in-units (negsuc k) h = go (decLe (suc k) 1074)
-  where
-    go : Dec (suc k ≤ 1074) → (j : ℕ) × (2 ^ j * 2 ^ suc k ≡ 1 * 2 ^ 1074)
-    go (yes a) =
-        let b : 1074 - suc k + suc k ≡ 1074 = omega arith in
-        (1074 - suc k, rw (← pow-add 2 (1074 - suc k) (suc k), b))
-    go (no a) = absurd (not-le-of-lt (pow-lt {i = 1074} {j = suc k} (omega arith)) h)
+in-units (negsuc k) h = (1074 - suc k, rw one-mul (sym (pow-split (suc k) 1074 (pow-le-back (suc k) 1074 h))))
 
 -- 2 ^ i times a value of the format is one, unless it overflows
 shifted-exact : (i m : ℕ) (e : ℤ) → T (fits binary64 (fin false m e)) → m * up e * 2 ^ i < 2 ^ 1024 * down e
@@ -255,16 +247,16 @@ shifted-exact i m e f l =
     let d = held-digits m e f in
     let j = in-units e (d .1) in
     let same : m * up e * 2 ^ i * 2 ^ 1074 ≡ m * 2 ^ (j .0 + i) * down e =
-    rw (pow-add 2 (j .0) i) (spread (m * 2 ^ i) (up e) (2 ^ 1074) (2 ^ j .0) (down e) m (2 ^ i) (j .1)) in
+    rw (pow-add 2 (j .0) i) (spread (up e) (2 ^ 1074) (2 ^ j .0) (down e) m (2 ^ i) (j .1)) in
     round-exact binary64 false (m * up e * 2 ^ i) (down e) m (j .0 + i) (down-pos e) (d .0)
     (lt-of-mul-lt-mul-right (down e) (rw (← same, pow-add 2 1074 1024) (lt-of-lt-of-le (mul-lt-mul-of-pos-right l (pow-pos 1074)) (le-of-eq (turn-round (2 ^ 1024) (down e) (2 ^ 1074))))))
     same
   where
     turn-round : (a b c : ℕ) → a * b * c ≡ c * a * b
-    turn-round a b c = simp (mul-assoc, mul-comm, mul-left-comm)
+    turn-round a b c = simp (mul-assoc, mul-comm)
 
-    spread : (x u c p d m q : ℕ) → p * d ≡ u * c → m * u * q * c ≡ m * (p * q) * d
-    spread x u c p d m q h =
+    spread : (u c p d m q : ℕ) → p * d ≡ u * c → m * u * q * c ≡ m * (p * q) * d
+    spread u c p d m q h =
         let a : m * u * q * c ≡ m * q * (u * c) = simp (mul-assoc, mul-comm, mul-left-comm) in
         let b : m * (p * q) * d ≡ m * q * (p * d) = simp (mul-assoc, mul-comm, mul-left-comm) in
         a ∙ ap (λ z. m * q * z) (sym h) ∙ sym b
@@ -349,7 +341,7 @@ below-y m e n f l h =
       size = grid binary64 n 16;
       value = round-val binary64 n 16 g;
       not-above =
-          cross (round binary64 false n 16) (round binary64 false (m * up e) (down e)) (grid binary64 n 16) (2 ^ 1074) (m * up e) (down e) (pow-pos 1074) (down-pos e) (round-val binary64 n 16 g) y
+          le→fractions false false (grid binary64 n 16) (m * up e) (2 ^ 1074) (down e) (pow-pos 1074) (down-pos e) (round binary64 false n 16) (round binary64 false (m * up e) (down e)) (round-val binary64 n 16 g) y
           (round-mono binary64 n 16 (m * up e) (down e) (lit< tt) (down-pos e) h);
     }
 
@@ -403,7 +395,7 @@ not-more {y = fin s m e} c v d w D k l h t =
       sized = (
         h .sized .0,
         le-of-mul-le-mul-right {k = d}
-            (le-trans (cross (fin s m e) c (m * up e) (down e) v d (down-pos e) D (h .sized .0, refl) k (subst T (sym t) tt)) (le-trans (mul-le-mul-right (down e) l) (le-of-eq (mul-right-comm w d (down e)))))
+            (le-trans (le→fractions false false (m * up e) v (down e) d (down-pos e) D (fin s m e) c (h .sized .0, refl) k (subst T (sym t) tt)) (le-trans (mul-le-mul-right (down e) l) (le-of-eq (mul-right-comm w d (down e)))))
             D,
       );
     }

@@ -10,7 +10,7 @@ use Rattle.elementary.specs.Ops.{_⊕_, _⊗_, +0, half, one}
 use Rattle.elementary.specs.Rules.{Rules}
 use Rattle.elementary.specs.NormalDistribution.{cdfOf, Ends, midOf, bisected, lowest, highest, endsOf, inverseOf}
 use Rattle.elementary.specs.Bounds.{AtMost, side-finite, small-exact, half-at-most, add-at-most}
-use Rattle.elementary.specs.Order.{lt-asym, le-of-not-lt, not-le-of-lt, equal-itself}
+use Rattle.elementary.specs.Compare.{lt-asym, le-of-not-lt, not-le-of-lt, equal-itself}
 use Rattle.elementary.specs.Finite.{cdf-at-most}
 
 pub record Brackets (cdf : Float → Float) (p lo hi : Float) : Type 0 where

@@ -1,112 +1,90 @@
--- Laws of the comparisons of floats. Assumes nothing.
-use mathlib.Core.Path.{_≡_, refl, sym, _∙_}
-use mathlib.Core.Bool.{Bool, true, false, not, _&&_, _||_, Bool·beq, true≢false}
-use mathlib.Core.Logic.{_⊎_, inl, inr}
+-- The order of finite floats is the order of the signed fractions that they equal. Assumes nothing.
+use mathlib.Core.Path.{_≡_, sym, ap, _∙_}
+use mathlib.Core.Bool.{Bool, true, false, not, _&&_, _||_}
 use Prim.Native.Nat.{ℕ, _+_, _*_, _≤_, _<_}
-use native.Mathlib.Nat.{eq-or-lt-of-le}
+use native.Mathlib.Nat.{mul-assoc, mul-comm, mul-left-comm, mul-pos, mul-le-mul-right, le-of-mul-le-mul-right, zero-mul, le-of-lt, le-of-eq, le-antisymm, le-mul-of-pos-right}
 use native.Mathlib.Omega.{arith}
-use lib.Dec.{T, ltb, eqb}
-use lib.IntN.{ℤ}
-use borrow.Author.Tests.{ltb-true, ltb-false, eqb-true, lt-ltb, le-ltb, eq-eqb, ne-eqb}
-use lib.Ieee.{Float, nan, inf, fin, up, down, below, level, lt, le, eq, ne}
-use lib.Ieee.Scale.{finite}
+use lib.Dec.{T, ltb, eqb, ltb→lt, eqb→eq, nltb→le}
+use lib.Ieee.{Float, nan, inf, fin, up, down, below, level, le}
+use lib.Ieee.Fits.{down-pos, eq→eqb, and-i, and-l, and-r}
+use lib.Ieee.Exact.{HasValue}
 
--- ---- `<` holds one way round at most
-ltb-asym : (a b : ℕ) → ltb a b ≡ true → ltb b a ≡ false
-ltb-asym a b h = le-ltb b a (omega (arith, ltb-true a b h))
+-- ±a is at most ±b; the two zeros are equal
+abbrev pub Le : Bool → ℕ → Bool → ℕ → Type 0
+Le false a false b = a ≤ b
+Le false a true b = (a ≡ 0) × (b ≡ 0)
+Le true a false b = T true
+Le true a true b = b ≤ a
 
-below-asym : (s : Bool) (a : ℕ) (t : Bool) (b : ℕ) → below s a t b ≡ true → below t b s a ≡ false
-below-asym false a false b h = ltb-asym a b h
-below-asym false a true b h = cc
-below-asym true a false b h = refl
-below-asym true a true b h = ltb-asym b a h
+-- ---- the test says it
+or-elim : {X : Type 0} (p q : Bool) → (T p → X) → (T q → X) → T (p || q) → X
+or-elim true q f g h = f tt
+or-elim false q f g h = g h
 
-pub lt-asym : (x y : Float) → lt x y ≡ true → lt y x ≡ false
-unfolding lt
-lt-asym nan nan h = refl
-lt-asym nan (inf t) h = refl
-lt-asym nan (fin t n d) h = refl
-lt-asym (inf s) nan h = cc
-lt-asym (inf true) (inf true) h = refl
-lt-asym (inf true) (inf false) h = refl
-lt-asym (inf false) (inf true) h = cc
-lt-asym (inf false) (inf false) h = refl
-lt-asym (inf true) (fin t n d) h = refl
-lt-asym (inf false) (fin t n d) h = cc
-lt-asym (fin s m e) nan h = cc
-lt-asym (fin s m e) (inf true) h = cc
-lt-asym (fin s m e) (inf false) h = refl
-lt-asym (fin s m e) (fin t n d) h = below-asym s _ t _ h
+or-else : (p q : Bool) → (T (not p) → T q) → T (p || q)
+or-else true q h = tt
+or-else false q h = h tt
 
--- ---- what is below is not equal either
-apart : (a b : ℕ) (t : Bool) → (a ≡ b → ⊥) → (eqb a b && t) ≡ false
-apart a b t h = rw (ne-eqb a b h)
+same : (a b : ℕ) (r : Bool) → T (eqb a b && r) → a ≡ b
+same a b r h = eqb→eq a b (and-l (eqb a b) r h)
 
-not-level : (s : Bool) (a : ℕ) (t : Bool) (b : ℕ) → below s a t b ≡ true → level t b s a ≡ false
-not-level false a false b h = let l = ltb-true a b h in apart b a true (λ e. omega arith)
-not-level false a true b h = absurd (true≢false (sym h))
-not-level true a false b h = let l = ltb-true 0 (a + b) h in go l (eqb b a) (eqb b 0) (eqb-true b a) (eqb-true b 0)
-  where
-    go : 0 < a + b → (p q : Bool) → (p ≡ true → b ≡ a) → (q ≡ true → b ≡ 0) → (p && q) ≡ false
-    go l true true f g = absurd (none (f refl) (g refl))
-      where
-        none : b ≡ a → b ≡ 0 → ⊥
-        none x y = omega arith
-    go l true false f g = refl
-    go l false q f g = refl
-not-level true a true b h = let l = ltb-true b a h in apart b a true (λ e. omega arith)
+test→le : (s : Bool) (a : ℕ) (t : Bool) (b : ℕ) → T (below s a t b || level s a t b) → Le s a t b
+test→le false a false b h = or-elim (ltb a b) (eqb a b && true) (λ l. le-of-lt (ltb→lt a b l)) (λ e. le-of-eq (same a b true e)) h
+test→le false a true b h =
+    let z = eqb→eq a 0 (and-r (eqb a b) (eqb a 0) h) in
+    (z, sym (same a b (eqb a 0) h) ∙ z)
+test→le true a false b h = tt
+test→le true a true b h = or-elim (ltb b a) (eqb a b && true) (λ l. le-of-lt (ltb→lt b a l)) (λ e. le-of-eq (sym (same a b true e))) h
 
--- ---- of two numbers, where one is not below the other, the other is at most it
-turned : (s : Bool) (a : ℕ) (t : Bool) (b : ℕ) → below s a t b ≡ false → (below t b s a || level t b s a) ≡ true
-turned false a false b h = ordered (eq-or-lt-of-le (ltb-false a b h))
-  where
-    ordered : (b ≡ a) ⊎ (b < a) → (ltb b a || (eqb b a && true)) ≡ true
-    ordered (inl e) = rw (le-ltb b a (omega arith), eq-eqb b a e)
-    ordered (inr l) = rw (lt-ltb b a l)
-turned false a true b h = by-size (eq-or-lt-of-le {n = 0} {m = b + a} (omega arith))
-  where
-    by-size : (0 ≡ b + a) ⊎ (0 < b + a) → (ltb 0 (b + a) || (eqb b a && eqb b 0)) ≡ true
-    by-size (inl e) = rw (le-ltb 0 (b + a) (omega arith), eq-eqb b a (omega arith), eq-eqb b 0 (omega arith))
-    by-size (inr l) = rw (lt-ltb 0 (b + a) l)
-turned true a false b h = let z = ltb-false 0 (a + b) h in rw (eq-eqb b a (omega arith), eq-eqb b 0 (omega arith))
-turned true a true b h = ordered (eq-or-lt-of-le (ltb-false b a h))
-  where
-    ordered : (a ≡ b) ⊎ (a < b) → (ltb a b || (eqb b a && true)) ≡ true
-    ordered (inl e) = rw (le-ltb a b (omega arith), eq-eqb b a (sym e))
-    ordered (inr l) = rw (lt-ltb a b l)
+le→test : (s : Bool) (a : ℕ) (t : Bool) (b : ℕ) → Le s a t b → T (below s a t b || level s a t b)
+le→test false a false b h = or-else (ltb a b) (eqb a b && true) (λ n. and-i (eqb a b) true (eq→eqb (le-antisymm h (nltb→le a b n))) tt)
+le→test false a true b h = rw (h .0, h .1) tt
+le→test true a false b h =
+    or-else (ltb 0 (a + b)) (eqb a b && eqb a 0)
+    (λ n. let z = nltb→le 0 (a + b) n in and-i (eqb a b) (eqb a 0) (eq→eqb {a = a} {b = b} (omega arith)) (eq→eqb {a = a} {b = 0} (omega arith)))
+le→test true a true b h = or-else (ltb b a) (eqb a b && true) (λ n. and-i (eqb a b) true (eq→eqb (le-antisymm (nltb→le b a n) h)) tt)
 
-pub le-of-not-lt : (x y : Float) → T (finite x) → T (finite y) → lt x y ≡ false → le y x ≡ true
-unfolding le lt eq
-le-of-not-lt nan y f g h = absurd f
-le-of-not-lt (inf s) y f g h = absurd f
-le-of-not-lt (fin s m e) nan f g h = absurd g
-le-of-not-lt (fin s m e) (inf t) f g h = absurd g
-le-of-not-lt (fin s m e) (fin t n d) f g h = turned s (m * up e * down d) t (n * up d * down e) h
+-- ---- a common factor
+grow : (s : Bool) (a : ℕ) (t : Bool) (b p : ℕ) → Le s a t b → Le s (a * p) t (b * p)
+grow false a false b p h = mul-le-mul-right p h
+grow false a true b p h = (rw (h .0) (zero-mul p), rw (h .1) (zero-mul p))
+grow true a false b p h = tt
+grow true a true b p h = mul-le-mul-right p h
 
-or-false : {a b : Bool} → a ≡ false → b ≡ false → (a || b) ≡ false
-or-false h k = rw (h, k)
+shrink : (s : Bool) (a : ℕ) (t : Bool) (b p : ℕ) → 0 < p → Le s (a * p) t (b * p) → Le s a t b
+shrink false a false b p l h = le-of-mul-le-mul-right h l
+shrink false a true b p l h = (omega (arith, le-mul-of-pos-right a l), omega (arith, le-mul-of-pos-right b l))
+shrink true a false b p l h = tt
+shrink true a true b p l h = le-of-mul-le-mul-right h l
 
-pub not-le-of-lt : (x y : Float) → lt x y ≡ true → le y x ≡ false
-unfolding le lt eq
-not-le-of-lt nan y h = absurd (true≢false (sym h))
-not-le-of-lt (inf s) nan h = absurd (true≢false (sym h))
-not-le-of-lt (inf true) (inf true) h = absurd (true≢false (sym h))
-not-le-of-lt (inf true) (inf false) h = refl
-not-le-of-lt (inf false) (inf t) h = absurd (true≢false (sym h))
-not-le-of-lt (inf true) (fin t n d) h = refl
-not-le-of-lt (inf false) (fin t n d) h = absurd (true≢false (sym h))
-not-le-of-lt (fin s m e) nan h = absurd (true≢false (sym h))
-not-le-of-lt (fin s m e) (inf true) h = absurd (true≢false (sym h))
-not-le-of-lt (fin s m e) (inf false) h = refl
-not-le-of-lt (fin s m e) (fin t n d) h = or-false (below-asym s _ t _ h) (not-level s _ t _ h)
+-- ---- the theorem, either way: x is ±a / c and y is ±b / d
+module _ (s t : Bool) (a b c d : ℕ) (c-pos : 0 < c) (d-pos : 0 < d) where
+  -- both sides, in units of the two denominators
+  left : (n D D' : ℕ) → n * c ≡ a * D → n * D' * (c * d) ≡ a * d * (D * D')
+  left n D D' h = simp (mul-assoc, mul-comm, mul-left-comm) (simp (mul-assoc, mul-comm, mul-left-comm) at (ap (λ (z : ℕ). z * (D' * d)) h))
 
--- ---- a number equals itself
-pub equal-itself : (x : Float) → T (finite x) → ne x x ≡ false
-unfolding ne eq
-equal-itself nan f = absurd f
-equal-itself (inf s) f = absurd f
-equal-itself (fin s m e) f = rw (eq-eqb (m * up e * down e) (m * up e * down e) refl, beq-refl s)
-  where
-    beq-refl : (t : Bool) → Bool·beq t t ≡ true
-    beq-refl true = refl
-    beq-refl false = refl
+  right : (n D D' : ℕ) → n * d ≡ b * D' → n * D * (c * d) ≡ b * c * (D * D')
+  right n D D' h = simp (mul-assoc, mul-comm, mul-left-comm) (simp (mul-assoc, mul-comm, mul-left-comm) at (ap (λ (z : ℕ). z * (D * c)) h))
+
+  pub le→fractions : (x y : Float) → HasValue x s a c → HasValue y t b d → T (le x y) → Le s (a * d) t (b * c)
+  unfolding le
+  le→fractions nan y p q h = absurd p
+  le→fractions (inf u) y p q h = absurd p
+  le→fractions (fin u m e) nan p q h = absurd q
+  le→fractions (fin u m e) (inf v) p q h = absurd q
+  le→fractions (fin u m e) (fin v n g) p q h =
+      shrink s (a * d) t (b * c) (down e * down g) (mul-pos (down-pos e) (down-pos g))
+      (rw (← left (m * up e) (down e) (down g) (p .1), ← right (n * up g) (down e) (down g) (q .1), ← p .0, ← q .0)
+      (grow u (m * up e * down g) v (n * up g * down e) (c * d) (test→le u (m * up e * down g) v (n * up g * down e) h)))
+
+  pub fractions→le : (x y : Float) → HasValue x s a c → HasValue y t b d → Le s (a * d) t (b * c) → T (le x y)
+  unfolding le
+  fractions→le nan y p q h = absurd p
+  fractions→le (inf u) y p q h = absurd p
+  fractions→le (fin u m e) nan p q h = absurd q
+  fractions→le (fin u m e) (inf v) p q h = absurd q
+  fractions→le (fin u m e) (fin v n g) p q h =
+      le→test u (m * up e * down g) v (n * up g * down e)
+      (shrink u (m * up e * down g) v (n * up g * down e) (c * d) (mul-pos c-pos d-pos)
+      (rw (left (m * up e) (down e) (down g) (p .1), right (n * up g) (down e) (down g) (q .1), p .0, q .0)
+      (grow s (a * d) t (b * c) (down e * down g) h)))

@@ -1,1 +1,179 @@
-// cody
+// Cody's rational approximations of the error function: cody/optimized.rs, line by line.
+use crate::exp::exp;
+use crate::floor::floor;
+use crate::methods::abs;
+ghost use mathlib.Core.Path.{_≡_};
+ghost use Rattle.elementary.specs.Rules.{rules-0};
+ghost use Rattle.elementary.specs.Cody.{dIntOf, tildeOf, smoothenedExponentialOfNegativeSquare, smoothenedExponentialOfPositiveSquare, abOf, cdOf, pqOf, erfcxAboveThreshold, erfcAbs, erfcOf, erfcxOf};
+
+const FRAC_1_SQRT_PI: f64 = 0.5641895835477563;
+
+const THRESHOLD: f64 = 0.46875;
+
+const XNEG: f64 = -26.6287357137514;
+
+const XBIG: f64 = 26.543;
+
+const A: [f64; 5] = [
+    3.1611237438705655,
+    113.86415415105016,
+    377.485237685302,
+    3209.3775891384694,
+    0.18577770618460315,
+];
+
+const B: [f64; 4] = [
+    23.601290952344122,
+    244.02463793444417,
+    1282.6165260773723,
+    2844.236833439171,
+];
+
+const C: [f64; 9] = [
+    0.5641884969886701,
+    8.883149794388377,
+    66.11919063714163,
+    298.6351381974001,
+    881.952221241769,
+    1712.0476126340707,
+    2051.0783778260716,
+    1230.3393547979972,
+    2.1531153547440383e-08,
+];
+
+const D: [f64; 8] = [
+    15.744926110709835,
+    117.6939508913125,
+    537.1811018620099,
+    1621.3895745666903,
+    3290.7992357334597,
+    4362.619090143247,
+    3439.3676741437216,
+    1230.3393548037495,
+];
+
+const P: [f64; 6] = [
+    0.30532663496123236,
+    0.36034489994980445,
+    0.12578172611122926,
+    0.016083785148742275,
+    0.0006587491615298378,
+    0.016315387137302097,
+];
+
+const Q: [f64; 5] = [
+    2.568520192289822,
+    1.8729528499234604,
+    0.5279051029514285,
+    0.06051834131244132,
+    0.0023352049762686918,
+];
+
+pub fn d_int(x: f64) -> f64
+    ensures { λ r. ⌜ r ≡ dIntOf x ⌝ }
+{
+    if x > 0.0 { floor(x) } else { -floor(-x) }
+}
+
+// y to a multiple of 1/16 toward zero.
+fn tilde(y: f64) -> f64
+    ensures { λ r. ⌜ r ≡ tildeOf y ⌝ }
+{
+    d_int(y * 16.0) / 16.0
+}
+
+pub fn smoothened_exponential_of_negative_square(y: f64) -> f64
+    ensures { λ r. ⌜ r ≡ smoothenedExponentialOfNegativeSquare y ⌝ }
+{
+    let y_tilde = tilde(y);
+    exp(-y_tilde * y_tilde) * exp(-(y - y_tilde) * (y + y_tilde))
+}
+
+pub fn smoothened_exponential_of_positive_square(x: f64) -> f64
+    ensures { λ r. ⌜ r ≡ smoothenedExponentialOfPositiveSquare x ⌝ }
+{
+    let x_tilde = tilde(x);
+    exp(x_tilde * x_tilde) * exp((x - x_tilde) * (x + x_tilde))
+}
+
+pub fn ab(z: f64) -> f64
+    ensures { λ r. ⌜ r ≡ abOf z ⌝ }
+{
+    ((((A[4] * z + A[0]) * z + A[1]) * z + A[2]) * z + A[3])
+        / ((((z + B[0]) * z + B[1]) * z + B[2]) * z + B[3])
+}
+
+pub fn cd(y: f64) -> f64
+    ensures { λ r. ⌜ r ≡ cdOf y ⌝ }
+{
+    ((((((((C[8] * y + C[0]) * y + C[1]) * y + C[2]) * y + C[3]) * y + C[4]) * y + C[5]) * y + C[6])
+        * y
+        + C[7])
+        / ((((((((y + D[0]) * y + D[1]) * y + D[2]) * y + D[3]) * y + D[4]) * y + D[5]) * y + D[6])
+            * y
+            + D[7])
+}
+
+pub fn pq(z: f64) -> f64
+    ensures { λ r. ⌜ r ≡ pqOf z ⌝ }
+{
+    z * (((((P[5] * z + P[0]) * z + P[1]) * z + P[2]) * z + P[3]) * z + P[4])
+        / (((((z + Q[0]) * z + Q[1]) * z + Q[2]) * z + Q[3]) * z + Q[4])
+}
+
+pub fn erfcx_above_threshold(y: f64) -> f64
+    ensures { λ r. ⌜ r ≡ erfcxAboveThreshold y ⌝ }
+{
+    if y <= 4.0 {
+        cd(y)
+    } else {
+        (FRAC_1_SQRT_PI - pq(1.0 / (y * y))) / y
+    }
+}
+
+// erfc of |x| above the threshold. The exponential factor multiplies the far arm's 0 too.
+fn erfc_abs(y: f64) -> f64
+    ensures { λ r. ⌜ r ≡ erfcAbs rules-0 y ⌝ }
+{
+    let factor = smoothened_exponential_of_negative_square(y);
+    if y >= XBIG {
+        0.0 * factor
+    } else {
+        erfcx_above_threshold(y) * factor
+    }
+}
+
+pub fn erfc(x: f64) -> f64
+    ensures { λ r. ⌜ r ≡ erfcOf rules-0 x ⌝ }
+{
+    let y = abs(x);
+    if y <= THRESHOLD {
+        return 1.0 - x * ab(y * y);
+    }
+    let erfc_abs_x = erfc_abs(y);
+    if x < 0.0 {
+        2.0 - erfc_abs_x
+    } else {
+        erfc_abs_x
+    }
+}
+
+pub fn erfcx(x: f64) -> f64
+    ensures { λ r. ⌜ r ≡ erfcxOf x ⌝ }
+{
+    let y = abs(x);
+    if y <= THRESHOLD {
+        let z = y * y;
+        return exp(z) * (1.0 - x * ab(z));
+    }
+    if x < XNEG {
+        return 1.7976931348623157e308;
+    }
+    let result = erfcx_above_threshold(y);
+    if x < 0.0 {
+        let expx2 = smoothened_exponential_of_positive_square(x);
+        (expx2 + expx2) - result
+    } else {
+        result
+    }
+}

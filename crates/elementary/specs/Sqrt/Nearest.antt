@@ -1,22 +1,24 @@
 -- `sqrtOf f x`, for a finite x above 0 of the format f, is the value of f nearest to √x, and no other value is as near: there are no ties. Assumes nothing.
 use mathlib.Core.Path.{_≡_, refl, sym, ap, _∙_, subst}
-use mathlib.Core.Bool.{Bool, true, false, not, _&&_}
-use Prim.Native.Nat.{ℕ, zero, suc, _+_, _-_, _*_, _/_, _%_, _^_, _≤_, _<_, compare, Ordering, Ordering·lt, Ordering·eq, Ordering·gt}
-use native.Mathlib.Nat.{le-trans, le-of-eq, le-of-lt, le-refl, lt-of-not-le, not-le-of-lt, lt-of-lt-of-le, lt-of-le-of-lt, mul-assoc, mul-comm, mul-left-comm, mul-one, one-mul, zero-mul, suc-mul, pow-suc, mul-le-mul, mul-le-mul-right, mul-lt-mul-of-pos-right, lt-of-mul-lt-mul-right, le-mul-of-pos-right, mul-pos, mul-div-cancel, zero-div, div-one, div-mul-le-self, le-div-iff-mul-le, div-lt-iff-lt-mul, sub-add-cancel, add-comm, eq-of-mul-eq-mul-right}
+use mathlib.Core.Bool.{Bool, true, false, not}
+use Prim.Native.Nat.{ℕ, zero, suc, _+_, _-_, _*_, _/_, _^_, _≤_, _<_, compare, Ordering, Ordering·lt, Ordering·eq, Ordering·gt}
+use native.Mathlib.Nat.{le-trans, le-of-eq, le-of-lt, le-refl, lt-of-not-le, not-le-of-lt, lt-of-lt-of-le, lt-of-le-of-lt, mul-assoc, mul-comm, mul-left-comm, mul-one, one-mul, zero-mul, suc-mul, pow-suc, mul-le-mul, mul-le-mul-right, mul-lt-mul-of-pos-right, lt-of-mul-lt-mul-right, le-mul-of-pos-right, mul-pos, mul-div-cancel, zero-div, div-one, div-mul-le-self, le-div-iff-mul-le, div-lt-iff-lt-mul, add-comm, eq-of-mul-eq-mul-right}
 use native.Mathlib.Decide.{decLe}
 use native.Mathlib.Numerals.{add-one}
 use native.Mathlib.Omega.{arith}
 use lib.IntN.{ℤ, pos, negsuc}
-use lib.Dec.{T, leb, ltb, eqb, isLe, isEq, leb→le, nleb→lt, ltb→lt, lt→ltb, eqb→eq, eqb-refl}
+use lib.Dec.{T, ltb, eqb, isLe, isEq, leb→le, nleb→lt, lt→ltb, eqb→eq, eqb-refl}
 use lib.Arith.{lt-of-le-ne}
 use lib.Pow.{pow-add, pow-pos, pow-mono, pow-lt, shl-lt}
 use lib.Ieee.{Float, nan, inf, fin, Format, prec, emax, low, up, down, size, nearest, units, fits, hid, ofBits, toBits}
 use lib.Ieee.Digits.{size-lt, size-le, size-reaches}
-use lib.Ieee.Fits.{two, reach, odd-fits, down-pos, up-pos, kept-lt, nearest-le, and-l, and-r}
+use lib.Ieee.Fits.{two, reach, odd-fits, down-pos, up-pos, kept-lt, nearest-le}
 use lib.Ieee.Exact.{HasValue, units-val}
 use lib.Ieee.Nearest.{nearest-ge}
 use lib.Ieee.Bits.{is-true, ofBits-toBits}
 use lib.Ieee.Positive.{positive, positive-of-value}
+use Rattle.elementary.specs.Powers.{pow-le-back, pow-split}
+use Rattle.elementary.specs.Held.{holds}
 use Rattle.elementary.specs.Sqrt.{isqrt, roundRoot, inUnits, sqrtOf}
 use Rattle.elementary.specs.Sqrt.Isqrt.{sq-lt, sq-suc, sq-twice, isqrt-root}
 
@@ -32,17 +34,6 @@ pub record NearestRoot (f : Format) (x r : Float) : Type 0 where
 -- ---- numbers
 sq-mono : (a b : ℕ) → a < b → a * a < b * b
 sq-mono a b h = lt-of-lt-of-le (omega (arith, sq-suc a)) (mul-le-mul h h)
-
-pow-le-back : (a b : ℕ) → 2 ^ a ≤ 2 ^ b → a ≤ b
-pow-le-back a b h = go (decLe a b)
-  where
-    go : Dec (a ≤ b) → a ≤ b
-    go (yes l) = l
-    go (no n) = absurd (not-le-of-lt (pow-lt (lt-of-not-le n)) h)
-
--- 2 ^ b as 2 ^ a and what is left
-pow-split : (a b : ℕ) → a ≤ b → 2 ^ b ≡ 2 ^ (b - a) * 2 ^ a
-pow-split a b h = ap (λ (z : ℕ). 2 ^ z) (sym (sub-add-cancel h)) ∙ pow-add 2 (b - a) a
 
 square-out : (d p : ℕ) → d * d * (p * p) ≡ d * p * (d * p)
 square-out d p = simp (mul-assoc, mul-comm, mul-left-comm)
@@ -101,19 +92,6 @@ units-of f nan s a h = absurd h
 units-of f (inf t) s a h = absurd h
 units-of f (fin t m e) s a h = ap (λ (z : ℕ). z / down e) (h .1) ∙ mul-div-cancel a (down-pos e)
 
--- what `fits` says
-parts : (f : Format) (s : Bool) (m : ℕ) (e : ℤ) → T (fits f (fin s (suc m) e)) → (suc m < 2 ^ prec f) × (down e ≤ 2 ^ low f) × (suc m * up e < 2 ^ suc (emax f) * down e)
-unfolding fits
-parts f s m e t =
-    let A = eqb (suc m % 2) 1 in
-    let B = ltb (suc m) (2 ^ prec f) in
-    let C = leb (down e) (2 ^ low f) in
-    let D = ltb (suc m * up e) (2 ^ suc (emax f) * down e) in (
-      ltb→lt (suc m) (2 ^ prec f) (and-r A B (and-l (A && B) C (and-l (A && B && C) D t))),
-      leb→le (down e) (2 ^ low f) (and-r (A && B) C (and-l (A && B && C) D t)),
-      ltb→lt (suc m * up e) (2 ^ suc (emax f) * down e) (and-r (A && B && C) D t),
-    )
-
 -- a value of the format: m * 2 ^ j units, with m of `prec` digits
 abbrev Digits : Format → ℕ → Type 0
 Digits f v = (m : ℕ) × (j : ℕ) × (m < 2 ^ prec f) × (v ≡ m * 2 ^ j)
@@ -123,7 +101,7 @@ unfolding inUnits fits
 digits-of f nan t = (0, 0, pow-pos (prec f), refl)
 digits-of f (inf s) t = (0, 0, pow-pos (prec f), refl)
 digits-of f (fin s zero e) t = (0, 0, pow-pos (prec f), ap (λ (z : ℕ). z * 2 ^ low f / down e) (zero-mul (up e)) ∙ ap (λ (z : ℕ). z / down e) (zero-mul (2 ^ low f)) ∙ zero-div (down e))
-digits-of f (fin s (suc m) e) t = let z = parts f s m e t in go e (z .0) (z .1)
+digits-of f (fin s (suc m) e) t = let z = holds f s m e t in go e (z .0) (z .1)
   where
     go : (e : ℤ) → suc m < 2 ^ prec f → down e ≤ 2 ^ low f → Digits f (suc m * up e * 2 ^ low f / down e)
     go (pos i) b c = (suc m, i + low f, b, div-one (suc m * 2 ^ i * 2 ^ low f) ∙ rw pow-add (mul-assoc (suc m) (2 ^ i) (2 ^ low f)))
@@ -145,7 +123,7 @@ module _ (f : Format) where
   in-range (fin true m e) t p = absurd p
   in-range (fin false zero e) t p = absurd p
   in-range (fin false (suc m) e) t p =
-      let z = parts f false m e t in
+      let z = holds f false m e t in
       let l : 2 ^ low f ≤ suc m * up e * 2 ^ low f = le-trans (le-of-eq (sym (one-mul (2 ^ low f)))) (mul-le-mul-right (2 ^ low f) (mul-pos {m = suc m} (omega arith) (up-pos e))) in
       let u : suc m * up e * 2 ^ low f < 2 ^ (low f + suc (emax f)) * down e =
       rw pow-add (lt-of-lt-of-le (mul-lt-mul-of-pos-right (z .2) (pow-pos (low f))) (le-of-eq (simp (mul-assoc, mul-comm, mul-left-comm)))) in

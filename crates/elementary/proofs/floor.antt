@@ -1,0 +1,2 @@
+-- What the proofs of floor use.
+mod Laws

@@ -1,0 +1,29 @@
+-- `normal_distribution::inverse_normal_cdf` meets its contract: each way out is the arm that the tests before it leave. Assumes nothing.
+use borrow.Author.Needs.{needs}
+use lib.Ieee.{div, neg, ofBits}
+use lib.Ieee.Compare.{differs-from-itself}
+use Rattle.elementary.specs.NormalDistribution.{inverseOf}
+use Rattle.elementary.proofs.normal_distribution.inverse_normal_cdf.Statement.{statement}
+use Rattle.elementary.proofs.normal_distribution.inverse_normal_cdf.Tie as tie
+
+returns : tie.Need-returns
+unfolding inverseOf
+returns c = rw (c .if1 .taken) (differs-from-itself _ (rw (c .if1 .taken) tt))
+
+returns-2 : tie.Need-returns-2
+unfolding inverseOf div neg ofBits
+returns-2 c = rw (c .before .if1 .left, c .if2 .taken)
+
+returns-3 : tie.Need-returns-3
+unfolding inverseOf div ofBits
+returns-3 c = rw (c .before .before .if1 .left, c .before .if2 .left, c .if3 .taken)
+
+bisected-requires : tie.Need-bisected-requires
+bisected-requires c κs = search needs
+
+returns-4 : tie.Need-returns-4
+unfolding inverseOf
+returns-4 c = rw (c .before .before .before .if1 .left, c .before .before .if2 .left, c .before .if3 .left) (c .bisected .ensures)
+
+pub inverse-normal-cdf-spec : {M : Type 1} → statement M
+inverse-normal-cdf-spec = tie.close (tie.spec returns returns-2 returns-3 bisected-requires returns-4)
