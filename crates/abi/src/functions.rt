@@ -3,8 +3,10 @@ ghost use mathlib.Core.Path.{_≡_};
 ghost use mathlib.Core.Bool.{cond};
 ghost use lib.Ieee.{binary64, toBits, ofBits};
 ghost use Rattle.elementary.specs.Methods.{absOf, maxOf, isZero, squareOf};
+ghost use Rattle.elementary.specs.Floor.{floorOf};
 ghost use Rattle.elementary.specs.Sqrt.{sqrtOf};
 ghost use Rattle.elementary.specs.MulAdd.{fma};
+ghost use Rattle.elementary.specs.Exp.{expOf};
 use elementary::methods::bits_of;
 use elementary::methods::float_of;
 
@@ -46,6 +48,13 @@ pub extern "C" fn gintubalos_powi_2(y: u64) -> u64
 }
 
 #[no_mangle]
+pub extern "C" fn gintubalos_floor(x: u64) -> u64
+    ensures { λ r. ⌜ r ≡ toBits binary64 (floorOf binary64 (ofBits binary64 x)) ⌝ }
+{
+    bits_of(elementary::floor::floor(float_of(x)))
+}
+
+#[no_mangle]
 pub extern "C" fn gintubalos_sqrt(x: u64) -> u64
     ensures { λ r. ⌜ r ≡ toBits binary64 (sqrtOf binary64 (ofBits binary64 x)) ⌝ }
 {
@@ -57,4 +66,11 @@ pub extern "C" fn gintubalos_mul_add(a: u64, b: u64, c: u64) -> u64
     ensures { λ r. ⌜ r ≡ toBits binary64 (fma binary64 (ofBits binary64 a) (ofBits binary64 b) (ofBits binary64 c)) ⌝ }
 {
     bits_of(elementary::mul_add::mul_add(float_of(a), float_of(b), float_of(c)))
+}
+
+#[no_mangle]
+pub extern "C" fn gintubalos_exp(y: u64) -> u64
+    ensures { λ r. ⌜ r ≡ toBits binary64 (expOf (ofBits binary64 y)) ⌝ }
+{
+    bits_of(elementary::exp::exp(float_of(y)))
 }

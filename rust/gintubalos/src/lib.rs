@@ -35,8 +35,22 @@ functions! {
         abs = gintubalos_abs(x);
         max = gintubalos_max(a, b);
         powi_2 = gintubalos_powi_2(y);
+        floor = gintubalos_floor(x);
         sqrt = gintubalos_sqrt(x);
         mul_add = gintubalos_mul_add(a, b, c);
+        exp = gintubalos_exp(y);
+        d_int = gintubalos_d_int(x);
+        smoothened_exponential_of_negative_square = gintubalos_smoothened_exponential_of_negative_square(y);
+        smoothened_exponential_of_positive_square = gintubalos_smoothened_exponential_of_positive_square(x);
+        ab = gintubalos_ab(z);
+        cd = gintubalos_cd(y);
+        pq = gintubalos_pq(z);
+        erfcx_above_threshold = gintubalos_erfcx_above_threshold(y);
+        erfc = gintubalos_erfc(x);
+        erfcx = gintubalos_erfcx(x);
+        standard_normal_cdf = gintubalos_standard_normal_cdf(x);
+        inverse_normal_cdf = gintubalos_inverse_normal_cdf(x);
+        inverse_f_upper_map = gintubalos_inverse_f_upper_map(f);
     }
     numbers {
         bits_of = gintubalos_bits_of(x);
