@@ -1,24 +1,31 @@
 -- A finite float's bit pattern gives its sign, its significand and its exponent. Assumes nothing.
 use mathlib.Core.Path.{_≡_, refl, sym, ap, _∙_, subst}
-use mathlib.Core.Bool.{Bool, true, false, not, cond, true≢false, false≢true}
-use Prim.Native.Nat.{ℕ, zero, suc, _+_, _-_, _*_, _/_, _%_, _^_, _≤_, _<_}
-use native.Mathlib.Nat.{lt-of-lt-of-le, not-le-of-lt, le-of-suc-le-suc, lt-of-not-le, mul-assoc, mul-right-comm, mul-one, lt-of-mul-lt-mul-right, le-of-mul-le-mul-right, mod-lt, lt-irrefl, eq-of-mul-eq-mul-right}
+use mathlib.Core.Logic.{inl, inr}
+use mathlib.Core.Bool.{Bool, true, false, not, true≢false, false≢true}
+use Prim.Native.Nat.{ℕ, suc, _+_, _-_, _*_, _/_, _%_, _^_, _≤_, _<_}
+use native.Mathlib.Nat.{lt-of-lt-of-le, not-le-of-lt, le-of-suc-le-suc, lt-of-not-le, eq-or-lt-of-le, mul-assoc, mul-right-comm, mul-one, lt-of-mul-lt-mul-right, le-of-mul-le-mul-right, mod-lt, mul-mod-left, eq-of-mul-eq-mul-right, lt-irrefl}
 use native.Mathlib.Omega.{arith}
-use lib.Dec.{T, leb, eqb, lit<}
+use lib.Dec.{T, leb, lit<}
 use lib.Pow.{pow-add, pow-pos, pow-mono, shl-lt}
-use lib.Ieee.{Float, nan, inf, fin, binary64, low, up, down, odd, ofFields, ofBits, toBits, fits, isNan, lt, neg}
-use lib.Ieee.Exact.{HasValue, odd-sign}
+use lib.Ieee.{Float, nan, inf, fin, binary64, up, down, ofBits, toBits, fits, isNan, lt, neg}
+use lib.Ieee.Exact.{HasValue}
 use lib.Ieee.Bits.{ofBits-toBits}
+use lib.Ieee.Fits.{down-pos}
+use lib.Ieee.Nearest.{div-same}
 use lib.Ieee.Scale.{finite}
+use Rattle.elementary.specs.Sqrt.{inUnits}
 use Rattle.elementary.specs.Round.{Lead, Decoded, Lifted}
+use Rattle.elementary.proofs.Bits.{nan-pattern}
+use Rattle.elementary.proofs.Values.{value-low, value-mid, value-inf}
 
+-- ---- finite
 pub finite-no-nan : (x : Float) → T (finite x) → T (not (isNan x))
 unfolding isNan
 finite-no-nan nan h = absurd h
 finite-no-nan (inf s) h = absurd h
 finite-no-nan (fin s m e) h = tt
 
--- ---- `finite` as the program tests it
+-- as the program tests it
 pub finite-yes : (x : Float) → lt x (ofBits binary64 0x7ff0_0000_0000_0000) ≡ true → lt (neg (ofBits binary64 0x7ff0_0000_0000_0000)) x ≡ finite x
 unfolding lt neg ofBits
 finite-yes nan h = absurd (false≢true h)
@@ -33,6 +40,12 @@ finite-no (inf s) h = refl
 finite-no (fin s m e) h = absurd (true≢false h)
 
 -- ---- the same value as another fraction
+pub same-power : (q i j k l : ℕ) → i + j ≡ k + l → q * 2 ^ i * 2 ^ j ≡ q * 2 ^ k * 2 ^ l
+same-power q i j k l e =
+    mul-assoc q (2 ^ i) (2 ^ j)
+    ∙ ap (λ (z : ℕ). q * z) (sym (pow-add 2 i j) ∙ ap (λ (z : ℕ). 2 ^ z) e ∙ pow-add 2 k l)
+    ∙ sym (mul-assoc q (2 ^ k) (2 ^ l))
+
 pub same-value : (x : Float) (s : Bool) (a c b d : ℕ) → 0 < c → a * d ≡ b * c → HasValue x s a c → HasValue x s b d
 same-value nan s a c b d P e h = h
 same-value (inf t) s a c b d P e h = h
@@ -46,30 +59,16 @@ same-value (fin t m g) s a c b d P e h = (
       ∙ mul-right-comm b c (down g)),
 )
 
-pub rescale : (x : Float) (s : Bool) (a c k : ℕ) → HasValue x s a c → HasValue x s (a * k) (c * k)
-rescale nan s a c k h = h
-rescale (inf t) s a c k h = h
-rescale (fin t m e) s a c k h = (h .0, sym (mul-assoc (m * up e) c k) ∙ ap (λ (z : ℕ). z * k) (h .1) ∙ mul-right-comm a (down e) k)
+-- as a number of smallest values, cut
+pub units-of : (x : Float) (s : Bool) (a c : ℕ) → 0 < c → HasValue x s a c → inUnits binary64 x ≡ a * 2 ^ 1074 / c
+unfolding inUnits
+units-of nan s a c P h = absurd h
+units-of (inf t) s a c P h = absurd h
+units-of (fin t m e) s a c P h =
+    div-same (m * up e * 2 ^ 1074) (down e) (a * 2 ^ 1074) c (down-pos e) P
+    (mul-right-comm (m * up e) (2 ^ 1074) c ∙ ap (λ (z : ℕ). z * 2 ^ 1074) (h .1) ∙ mul-right-comm a (down e) (2 ^ 1074))
 
 -- ---- the fields
-low-field : (s : Bool) (t : ℕ) → ofFields binary64 s 0 t ≡ odd 53 s t 0 1074
-unfolding ofFields
-low-field s t = refl
-
--- the field of an infinity or a NaN is not a finite value's
-high-field : (s : Bool) (f t : ℕ) → T (finite (ofFields binary64 s (suc f) t)) → ofFields binary64 s (suc f) t ≡ odd 53 s (2 ^ 52 + t) f 1074
-unfolding ofFields
-high-field s f t = go (eqb (suc f) 2047) (eqb t 0)
-  where
-    go : (a b : Bool) → T (finite (cond a (cond b (inf s) nan) (odd 53 s (2 ^ 52 + t) f 1074))) → cond a (cond b (inf s) nan) (odd 53 s (2 ^ 52 + t) f 1074) ≡ odd 53 s (2 ^ 52 + t) f 1074
-    go true true h = absurd h
-    go true false h = absurd h
-    go false b h = refl
-
-pub ofBits-is : (b : ℕ) → ofBits binary64 b ≡ ofFields binary64 (leb (2 ^ 63) b) (b % 2 ^ 63 / 2 ^ 52) (b % 2 ^ 52)
-unfolding ofBits
-ofBits-is b = refl
-
 module _ (x : Float) (F : T (fits binary64 x)) where
   abbrev b : ℕ
   b = toBits binary64 x
@@ -83,53 +82,66 @@ module _ (x : Float) (F : T (fits binary64 x)) where
   abbrev t : ℕ
   t = b % 2 ^ 52
 
-  pub as-fields : x ≡ ofFields binary64 s f t
-  as-fields = sym (ofBits-toBits binary64 x F) ∙ ofBits-is b
-
   pub low-value : f ≡ 0 → (m e : ℕ) → Lifted t m e → Decoded x s m e
   low-value z m e L =
-      let v : HasValue x s (t * 2 ^ 0) (2 ^ 1074) = subst (λ (y : Float). HasValue y s (t * 2 ^ 0) (2 ^ 1074)) (sym (as-fields ∙ ap (λ (g : ℕ). ofFields binary64 s g t) z ∙ low-field s t)) (odd-sign 53 s t 0 1074) in
+      let v : HasValue x s (b % 2 ^ 63) (2 ^ 1074) = rw (ofBits-toBits binary64 x F) at (value-low b (under b z)) in
       record {
-        value = subst (λ (w : ℕ). HasValue x s w (2 ^ 1138)) (ap (λ (w : ℕ). w * 2 ^ 64) (mul-one t) ∙ sym (L .same)) (rescale x s (t * 2 ^ 0) (2 ^ 1074) (2 ^ 64) v);
+        value = same-value x s (b % 2 ^ 63) (2 ^ 1074) (m * 2 ^ e) (2 ^ 1138) (pow-pos 1074)
+            (ap (λ (w : ℕ). w * 2 ^ 1138) (small b z) ∙ ap (λ (w : ℕ). t * w) (pow-add 2 64 1074) ∙ sym (mul-assoc t (2 ^ 64) (2 ^ 1074)) ∙ ap (λ (w : ℕ). w * 2 ^ 1074) (sym (L .same))) v;
+        whole = ap (λ (w : ℕ). w % 2 ^ 64) (L .same) ∙ mul-mod-left t (2 ^ 64);
         room = L .room;
         digits = L .digits;
       }
-
-  pub high-value : (f ≡ 0 → ⊥) → T (finite x) → Decoded x s (2 ^ 52 + t) (f + 63)
-  high-value n held = go f refl
     where
-      less : f ≡ 0 → ⊥
-      less = n
+      under : (b : ℕ) → b % 2 ^ 63 / 2 ^ 52 ≡ 0 → b % 2 ^ 63 < 2 ^ 52
+      under b z = omega arith
 
-      bits : (g : ℕ) → f ≡ suc g → (2 ^ 52 + t) * 2 ^ g * 2 ^ 64 ≡ (2 ^ 52 + t) * 2 ^ (f + 63)
-      bits g e = mul-assoc (2 ^ 52 + t) (2 ^ g) (2 ^ 64) ∙ ap (λ (w : ℕ). (2 ^ 52 + t) * w) (sym (pow-add 2 g 64) ∙ ap (λ (w : ℕ). 2 ^ w) (shift g e))
-        where
-          shift : (g : ℕ) → f ≡ suc g → g + 64 ≡ f + 63
-          shift g e = next f g e
-            where
-              next : (x g : ℕ) → x ≡ suc g → g + 64 ≡ x + 63
-              next x g e = omega arith
+      small : (b : ℕ) → b % 2 ^ 63 / 2 ^ 52 ≡ 0 → b % 2 ^ 63 ≡ b % 2 ^ 52
+      small b z = omega arith
 
-      go : (g : ℕ) → f ≡ g → Decoded x s (2 ^ 52 + t) (f + 63)
-      go zero e = absurd (less e)
-      go (suc g) e =
-          let y : x ≡ ofFields binary64 s (suc g) t = as-fields ∙ ap (λ (h : ℕ). ofFields binary64 s h t) e in
-          let v : HasValue x s ((2 ^ 52 + t) * 2 ^ g) (2 ^ 1074) =
-          subst (λ (z : Float). HasValue z s ((2 ^ 52 + t) * 2 ^ g) (2 ^ 1074)) (sym (y ∙ high-field s g t (subst (λ (z : Float). T (finite z)) y held))) (odd-sign 53 s (2 ^ 52 + t) g 1074) in
-          record {
-            value = subst (λ (w : ℕ). HasValue x s w (2 ^ 1138)) (bits g e) (rescale x s ((2 ^ 52 + t) * 2 ^ g) (2 ^ 1074) (2 ^ 64) v);
-            room = room b;
-            digits = λ _. record { lead = lead t; top = under t (mod-lt b (pow-pos 52)); room = room b };
-          }
-        where
-          lead : (t : ℕ) → 2 ^ 52 ≤ 2 ^ 52 + t
-          lead t = omega arith
+  pub normal-value : 0 < f → f < 2047 → Decoded x s (2 ^ 52 + t) (f + 63)
+  normal-value p h =
+      let v : HasValue x s ((2 ^ 52 + t) * 2 ^ (f - 1)) (2 ^ 1074) = rw (ofBits-toBits binary64 x F) at (value-mid b (f - 1) (next f p) (less f h)) in
+      record {
+        value = same-value x s ((2 ^ 52 + t) * 2 ^ (f - 1)) (2 ^ 1074) ((2 ^ 52 + t) * 2 ^ (f + 63)) (2 ^ 1138) (pow-pos 1074) (same-power (2 ^ 52 + t) (f - 1) 1138 (f + 63) 1074 (place f p)) v;
+        whole = ap (λ (w : ℕ). w % 2 ^ 64) (sym (mul-one ((2 ^ 52 + t) * 2 ^ (f + 63))) ∙ same-power (2 ^ 52 + t) (f + 63) 0 (f - 1) 64 (place' f p)) ∙ mul-mod-left ((2 ^ 52 + t) * 2 ^ (f - 1)) (2 ^ 64);
+        room = room b;
+        digits = λ _. record { lead = lead t; top = under t (mod-lt b (pow-pos 52)); least = least f; room = room b };
+      }
+    where
+      next : (f : ℕ) → 0 < f → f ≡ suc (f - 1)
+      next f p = omega arith
 
-          under : (t : ℕ) → t < 2 ^ 52 → 2 ^ 52 + t < 2 ^ 53
-          under t h = omega arith
+      less : (f : ℕ) → f < 2047 → f - 1 < 2046
+      less f h = omega arith
 
-          room : (b : ℕ) → b % 2 ^ 63 / 2 ^ 52 + 63 < 2 ^ 12
-          room b = omega arith
+      place : (f : ℕ) → 0 < f → f - 1 + 1138 ≡ f + 63 + 1074
+      place f p = omega arith
+
+      place' : (f : ℕ) → 0 < f → f + 63 + 0 ≡ f - 1 + 64
+      place' f p = omega arith
+
+      lead : (t : ℕ) → 2 ^ 52 ≤ 2 ^ 52 + t
+      lead t = omega arith
+
+      under : (t : ℕ) → t < 2 ^ 52 → 2 ^ 52 + t < 2 ^ 53
+      under t h = omega arith
+
+      least : (f : ℕ) → 12 ≤ f + 63
+      least f = omega arith
+
+      room : (b : ℕ) → b % 2 ^ 63 / 2 ^ 52 + 63 < 2 ^ 12
+      room b = omega arith
+
+  -- the field of an infinity or a NaN is not a finite value's
+  pub finite-field : T (finite x) → f < 2047
+  finite-field held = lt-of-not-le (λ (g : 2047 ≤ f). elim (eq-or-lt-of-le (from b g)) [
+    | inl e ↦ rw (← ofBits-toBits binary64 x F, value-inf b (sym e)) at held
+    | inr l ↦ rw (← ofBits-toBits binary64 x F, nan-pattern b l) at held
+  ])
+    where
+      from : (b : ℕ) → 2047 ≤ b % 2 ^ 63 / 2 ^ 52 → 2047 * 2 ^ 52 ≤ b % 2 ^ 63
+      from b g = omega arith
 
 -- ---- the digits of a subnormal value
 pub far-up : (t z : ℕ) → t < 2 ^ 52 → Lead t z → 12 ≤ z
@@ -140,9 +152,9 @@ far-up t z h L = le-of-suc-le-suc (lt-of-not-le (λ (g : suc z ≤ 12). not-le-o
 
 module _ (t z : ℕ) (h : t < 2 ^ 52) (L : Lead t z) where
   split : t * 2 ^ z ≡ t * 2 ^ (z - 11) * 2 ^ 11
-  split = ap (λ (w : ℕ). t * 2 ^ w) (back z (far-up t z h L)) ∙ ap (λ (w : ℕ). t * w) (pow-add 2 (z - 11) 11) ∙ sym (mul-assoc t (2 ^ (z - 11)) (2 ^ 11))
+  split = sym (mul-one (t * 2 ^ z)) ∙ same-power t z 0 (z - 11) 11 (back z (far-up t z h L))
     where
-      back : (z : ℕ) → 12 ≤ z → z ≡ z - 11 + 11
+      back : (z : ℕ) → 12 ≤ z → z + 0 ≡ z - 11 + 11
       back z g = omega arith
 
   pub up-lead : 2 ^ 52 ≤ t * 2 ^ (z - 11)
@@ -153,13 +165,16 @@ module _ (t z : ℕ) (h : t < 2 ^ 52) (L : Lead t z) where
 
   pub up-lifted : (m : ℕ) → m ≡ t * 2 ^ (z - 11) → Lifted t m (64 - (z - 11))
   up-lifted m e = record {
-    same = ap (λ (w : ℕ). w * 2 ^ (64 - (z - 11))) e ∙ mul-assoc t (2 ^ (z - 11)) (2 ^ (64 - (z - 11))) ∙ ap (λ (w : ℕ). t * w) (sym (pow-add 2 (z - 11) (64 - (z - 11))) ∙ ap (λ (w : ℕ). 2 ^ w) (whole z (L .small)));
+    same = ap (λ (w : ℕ). w * 2 ^ (64 - (z - 11))) e ∙ same-power t (z - 11) (64 - (z - 11)) 0 64 (whole z (L .small)) ∙ ap (λ (w : ℕ). w * 2 ^ 64) (mul-one t);
     room = small z;
-    digits = λ _. record { lead = subst (λ (w : ℕ). 2 ^ 52 ≤ w) (sym e) up-lead; top = subst (λ (w : ℕ). w < 2 ^ 53) (sym e) up-top; room = small z };
+    digits = λ _. record { lead = rw e up-lead; top = rw e up-top; least = least z (L .small); room = small z };
   }
     where
-      whole : (z : ℕ) → z < 64 → z - 11 + (64 - (z - 11)) ≡ 64
+      whole : (z : ℕ) → z < 64 → z - 11 + (64 - (z - 11)) ≡ 0 + 64
       whole z g = omega arith
+
+      least : (z : ℕ) → z < 64 → 12 ≤ 64 - (z - 11)
+      least z g = omega arith
 
       small : (z : ℕ) → 64 - (z - 11) < 2 ^ 12
       small z = omega arith

@@ -8,3 +8,4 @@ mod Words
 mod Sign
 mod Decode
 mod Fields
+mod Adding

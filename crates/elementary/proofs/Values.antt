@@ -3,7 +3,7 @@ use mathlib.Core.Path.{_≡_, refl, sym, ap, _∙_}
 use mathlib.Core.Logic.{_⊎_, inl, inr}
 use mathlib.Core.Bool.{Bool, true, false, cond}
 use Prim.Native.Nat.{ℕ, suc, _+_, _-_, _*_, _/_, _%_, _^_, _≤_, _<_}
-use native.Mathlib.Nat.{mul-one, pow-suc, mul-div-cancel, mul-right-comm, eq-of-mul-eq-mul-right, eq-or-lt-of-le}
+use native.Mathlib.Nat.{mul-one, zero-add, pow-suc, mul-div-cancel, mul-right-comm, eq-of-mul-eq-mul-right, eq-or-lt-of-le, eq-zero-or-pos}
 use native.Mathlib.Omega.{arith}
 use lib.Dec.{T, leb, eqb, eqb→eq, le→leb, not-T}
 use lib.Arith.{lt→nleb}
@@ -66,8 +66,8 @@ pub signed-parts : (s : Bool) (n : ℕ) → n < 2 ^ 63 → (leb (2 ^ 63) (signed
 signed-parts true n l = (is-true _ (le→leb (2 ^ 63) (2 ^ 63 + n) (omega arith)), omega arith, omega arith)
 signed-parts false n l = (is-false _ (lt→nleb (2 ^ 63) n (omega arith)), omega arith, omega arith)
 
-pub value-packed : (s : Bool) (k q : ℕ) → 2 ^ 52 ≤ q → q ≤ 2 ^ 53 → k < 2045 → HasValue (ofBits binary64 (packed s k q)) s (q * 2 ^ k) (2 ^ 1074)
-value-packed s k q lo hi small = by-carry (eq-or-lt-of-le hi)
+pub value-packed : (s : Bool) (k q : ℕ) → (0 < k → 2 ^ 52 ≤ q) → q ≤ 2 ^ 53 → k * 2 ^ 52 + q < 2047 * 2 ^ 52 → HasValue (ofBits binary64 (packed s k q)) s (q * 2 ^ k) (2 ^ 1074)
+value-packed s k q lo hi small = by-lead (eq-zero-or-pos (2 ^ 52 - q))
   where
     b : ℕ
     b = packed s k q
@@ -75,15 +75,23 @@ value-packed s k q lo hi small = by-carry (eq-or-lt-of-le hi)
     parts : (leb (2 ^ 63) b ≡ s) × (b % 2 ^ 63 ≡ k * 2 ^ 52 + q) × (b % 2 ^ 52 ≡ (k * 2 ^ 52 + q) % 2 ^ 52)
     parts = signed-parts s (k * 2 ^ 52 + q) (omega arith)
 
-    by-carry : (q ≡ 2 ^ 53) ⊎ (q < 2 ^ 53) → HasValue (ofBits binary64 b) s (q * 2 ^ k) (2 ^ 1074)
-    by-carry (inl e) =
+    by-carry : 2 ^ 52 ≤ q → (q ≡ 2 ^ 53) ⊎ (q < 2 ^ 53) → HasValue (ofBits binary64 b) s (q * 2 ^ k) (2 ^ 1074)
+    by-carry l (inl e) =
         let zero : b % 2 ^ 52 ≡ 0 = omega (arith, parts .2) in
         let twice : q * 2 ^ k ≡ (2 ^ 52 + b % 2 ^ 52) * 2 ^ suc k =
         omega (arith, ap (λ (z : ℕ). z * 2 ^ k) e, pow-suc 2 k, ap (λ (z : ℕ). (2 ^ 52 + z) * 2 ^ suc k) zero) in
         recast (ofBits binary64 b) (2 ^ 1074) (parts .0) (sym twice) (value-mid b (suc k) (omega (arith, parts .1)) (omega arith))
-    by-carry (inr l) =
+    by-carry l (inr h) =
         let same : 2 ^ 52 + b % 2 ^ 52 ≡ q = omega (arith, parts .2) in
         recast (ofBits binary64 b) (2 ^ 1074) (parts .0) (ap (λ (z : ℕ). z * 2 ^ k) same) (value-mid b k (omega (arith, parts .1)) (omega arith))
+
+    -- a subnormal's digits have no field
+    by-lead : (2 ^ 52 - q ≡ 0) ⊎ (0 < 2 ^ 52 - q) → HasValue (ofBits binary64 b) s (q * 2 ^ k) (2 ^ 1074)
+    by-lead (inl e) = by-carry (omega arith) (eq-or-lt-of-le hi)
+    by-lead (inr l) =
+        let zero : k ≡ 0 = elim (eq-zero-or-pos k) [ inl e ↦ e | inr p ↦ let g = lo p in absurd (omega arith) ] in
+        let none : q * 2 ^ k ≡ q = rw zero (mul-one q) in
+        recast (ofBits binary64 b) (2 ^ 1074) (parts .0) (parts .1 ∙ ap (λ (z : ℕ). z * 2 ^ 52 + q) zero ∙ zero-add q ∙ sym none) (value-low b (omega (arith, parts .1)))
 
 -- ---- a float by its value
 pub value-bits : (x : Float) (s : Bool) (a : ℕ) → HasValue x s a (2 ^ 1074) → toBits binary64 x ≡ cond s (2 ^ 63) 0 + (size a - 53) * 2 ^ 52 + a / 2 ^ (size a - 53)

@@ -100,15 +100,12 @@ dIntOf x = cond (lt +0 x) (floorOf binary64 x) (neg (floorOf binary64 (neg x)))
 
 -- y to a multiple of 1/16 toward zero
 unfoldable pub tildeOf : Float → Float
-unfolding floorOf
 tildeOf y = dIntOf (y ⊗ sixteen) ⊘ sixteen
 
 unfoldable pub smoothenedExponentialOfNegativeSquare : Float → Float
-unfolding tildeOf expOf
 smoothenedExponentialOfNegativeSquare y = expOf (neg (tildeOf y) ⊗ tildeOf y) ⊗ expOf (neg (y ⊖ tildeOf y) ⊗ (y ⊕ tildeOf y))
 
 unfoldable pub smoothenedExponentialOfPositiveSquare : Float → Float
-unfolding tildeOf expOf
 smoothenedExponentialOfPositiveSquare x = expOf (tildeOf x ⊗ tildeOf x) ⊗ expOf ((x ⊖ tildeOf x) ⊗ (x ⊕ tildeOf x))
 
 abbrev pub abOf : Float → Float
@@ -135,7 +132,6 @@ erfcxAboveThreshold y =
 
 -- erfc of |x| = y for a y above the threshold. The exponential factor multiplies all three arms, also the far one's 0, by document 01's rules.
 unfoldable pub erfcAbs : Rules → Float → Float
-unfolding erfcxAboveThreshold smoothenedExponentialOfNegativeSquare
 erfcAbs rules y =
     let factor = smoothenedExponentialOfNegativeSquare y in
     let far = cond (rules .far-factor) (+0 ⊗ factor) +0 in
@@ -143,7 +139,6 @@ erfcAbs rules y =
     cond (le XBIG y) far near
 
 unfoldable pub erfcOf : Rules → Float → Float
-unfolding absOf erfcAbs
 erfcOf rules x =
     let y = absOf x in
     let centre = one ⊖ x ⊗ abOf (y ⊗ y) in
@@ -152,7 +147,6 @@ erfcOf rules x =
     cond (le y THRESHOLD) centre (cond (lt x +0) turned outside)
 
 unfoldable pub erfcxOf : Float → Float
-unfolding absOf expOf erfcxAboveThreshold smoothenedExponentialOfPositiveSquare
 erfcxOf x =
     let y = absOf x in
     let z = y ⊗ y in

@@ -38,11 +38,9 @@ expR y = (y ⊖ expK y ⊗ H) ⊖ expK y ⊗ L
 
 -- exp between its two ends
 unfoldable pub expInner : Float → Float
-unfolding expSum scaled floorOf toSigned
 expInner y = scaled binary64 (expSum 13 (expR y) one) (toSigned 63 (expK y))
 
 unfoldable pub expOf : Float → Float
-unfolding expInner
 expOf y = let inner = expInner y in cond (ne y y) nan (cond (lt LARGEST y) (inf false) (cond (lt y LEAST) +0 inner))
 
 -- ---- what the contracts of exp's helpers say

@@ -4,10 +4,14 @@ use mathlib.Core.Path.{_≡_, refl, sym}
 use mathlib.Core.Bool.{Bool, true, false, cond, true≢false}
 use Prim.Native.Nat.{ℕ, zero, suc}
 use lib.Dec.{T, lit≤}
-use lib.Ieee.{Float, nan, inf, fin, binary64, mul, div, sub, neg, lt, le, eq, ne, ofBits, ofInt}
+use lib.Ieee.{Float, nan, inf, fin, binary64, mul, div, sub, neg, lt, le, eq, ne, ofBits, ofInt, toSigned}
 use lib.Ieee.Scale.{finite}
 use Rattle.elementary.specs.Ops.{_⊕_, _⊗_, +0, half, one}
 use Rattle.elementary.specs.Rules.{Rules}
+use Rattle.elementary.specs.Methods.{absOf}
+use Rattle.elementary.specs.Floor.{floorOf}
+use Rattle.elementary.specs.Exp.{expOf, expInner, expSum, scaled}
+use Rattle.elementary.specs.Cody.{erfcOf, erfcAbs, smoothenedExponentialOfNegativeSquare, tildeOf}
 use Rattle.elementary.specs.NormalDistribution.{cdfOf, Ends, midOf, bisected, lowest, highest, endsOf, inverseOf}
 use Rattle.elementary.specs.Bounds.{AtMost, side-finite, small-exact, half-at-most, add-at-most}
 use Rattle.elementary.specs.Compare.{lt-asym, le-of-not-lt, not-le-of-lt, equal-itself}
@@ -46,7 +50,7 @@ held cdf (suc n) p lo hi h = held cdf n p _ _ (go (lt (cdf (midOf lo hi)) p) ref
 
 -- ---- at the two first ends
 at-lowest : (rules : Rules) → cdfOf rules lowest ≡ +0
-unfolding cdfOf mul sub div neg ofBits ofInt lt le ne
+unfolding cdfOf erfcOf absOf erfcAbs smoothenedExponentialOfNegativeSquare tildeOf expOf expInner expSum scaled floorOf mul sub div neg ofBits ofInt toSigned lt le ne
 at-lowest rules = go (rules .far-factor)
   where
     go : (b : Bool) → cdfOf (record { far-factor = b }) lowest ≡ +0
@@ -54,7 +58,7 @@ at-lowest rules = go (rules .far-factor)
     go false = refl
 
 at-highest : (rules : Rules) → cdfOf rules highest ≡ one
-unfolding cdfOf mul sub div neg ofBits ofInt lt le ne
+unfolding cdfOf erfcOf absOf erfcAbs smoothenedExponentialOfNegativeSquare tildeOf expOf expInner expSum scaled floorOf mul sub div neg ofBits ofInt toSigned lt le ne
 at-highest rules = go (rules .far-factor)
   where
     go : (b : Bool) → cdfOf (record { far-factor = b }) highest ≡ one

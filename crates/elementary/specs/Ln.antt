@@ -13,11 +13,9 @@ SQRT-2 = bits 0x3ff6_a09e_667f_3bcd
 
 -- y = m × 2^e with 1 ≤ m < 2, for a y above 0. In units of the smallest value, 2^−1074, y is a whole number of e + 1075 binary digits.
 unfoldable pub placeOf : Float → ℕ
-unfolding inUnits size
 placeOf y = size (inUnits binary64 y) - 1
 
 unfoldable pub significandOf : Float → Float
-unfolding inUnits placeOf round
 significandOf y = round binary64 false (inUnits binary64 y) (2 ^ placeOf y)
 
 -- a place among the digits as the exponent e
@@ -31,7 +29,6 @@ lnSum (suc i) z q = lnSum i z (one ⊘ whole (2 * i + 1) ⊕ z ⊗ q)
 
 -- the result for m and e, after m is halved where it is to be
 unfoldable pub lnAt : Float → Float → Float
-unfolding lnSum
 lnAt m e =
     let f = m ⊖ one in
     let u = f ⊘ (two ⊕ f) in
@@ -41,7 +38,6 @@ lnAt m e =
 
 -- ln of a finite y above 0. m is halved where it is above √2
 unfoldable pub lnInner : Float → Float
-unfolding lnAt placeOf significandOf
 lnInner y =
     let m = significandOf y in
     let e = placeOf y in
@@ -49,12 +45,10 @@ lnInner y =
     lnAt (cond above (half ⊗ m) m) (exponentAt (cond above (suc e) e))
 
 unfoldable pub lnOf : Float → Float
-unfolding lnInner
 lnOf y =
     let inner = lnInner y in
     cond (ne y y) nan (cond (lt y +0) nan (cond (eq y +0) (inf true) (cond (eq y (inf false)) (inf false) inner)))
 
 -- powf(1/3)
 unfoldable pub cubeRootOf : Float → Float
-unfolding lnOf expOf
 cubeRootOf y = let root = expOf (lnOf y ⊗ (one ⊘ whole 3)) in cond (isZero y) +0 root

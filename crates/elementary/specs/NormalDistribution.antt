@@ -10,7 +10,6 @@ abbrev pub FRAC-1-SQRT-2 : Float
 FRAC-1-SQRT-2 = bits 0x3fe6_a09e_667f_3bcd
 
 unfoldable pub cdfOf : Rules → Float → Float
-unfolding erfcOf
 cdfOf rules y = half ⊗ erfcOf rules (neg y ⊗ FRAC-1-SQRT-2)
 
 -- ---- the bisection behind the inverse, over any cdf
@@ -39,13 +38,10 @@ highest = bits 0x4043_8000_0000_0000
 
 -- the ends after the 64 turns
 unfoldable pub endsOf : Rules → Float → Ends
-unfolding bisected cdfOf
 endsOf rules p = bisected (cdfOf rules) 64 p lowest highest
 
 unfoldable pub inverseOf : Rules → Float → Float
-unfolding endsOf
 inverseOf rules p = let inside = endsOf rules p .hi in cond (ne p p) nan (cond (le p +0) (inf true) (cond (le one p) (inf false) inside))
 
 unfoldable pub inverseFUpperMapOf : Rules → Float → Float
-unfolding inverseOf
 inverseFUpperMapOf rules f = neg two ⊗ inverseOf rules f

@@ -41,11 +41,13 @@ pub record Lead (x z : ℕ) : Type 0 where
 pub record Digits (m e : ℕ) : Type 0 where
   pub lead : 2 ^ 52 ≤ m
   pub top : m < 2 ^ 53
+  pub least : 12 ≤ e
   pub room : e < 2 ^ 12
 
--- a finite float as a sign and m * 2 ^ e / 2 ^ 1138, with an m of 53 digits or 0
+-- a finite float as a sign and m * 2 ^ e / 2 ^ 1138, with an m of 53 digits or 0: a whole number of the smallest value, 2 ^ 64 / 2 ^ 1138
 pub record Decoded (x : Float) (s : Bool) (m e : ℕ) : Type 0 where
   pub value : HasValue x s (m * 2 ^ e) (2 ^ 1138)
+  pub whole : m * 2 ^ e % 2 ^ 64 ≡ 0
   pub room : e < 2 ^ 12
   pub digits : 0 < m → Digits m e
 

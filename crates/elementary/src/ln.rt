@@ -1,1 +1,90 @@
-// ln
+// ln and powf(1/3).
+use crate::exp::H;
+use crate::exp::L;
+use crate::exp::exp;
+use crate::methods::is_zero;
+use crate::round::assembled;
+use crate::round::taken_apart;
+ghost use mathlib.Core.Path.{_≡_};
+ghost use Prim.Native.Nat.{_≤_, _<_, _^_};
+ghost use lib.Dec.{T};
+ghost use lib.Ieee.Positive as Positive;
+ghost use Rattle.elementary.specs.Ops.{_⊘_, one, whole};
+ghost use Rattle.elementary.specs.Ln.{exponentAt, lnSum, lnAt, lnInner, lnOf, cubeRootOf};
+
+const SQRT_2: f64 = 1.4142135623730951;
+
+// The sum of the series in z: 1/1 + z/3 + z^2/5 and so on to z^11/23.
+fn series(z: f64) -> f64
+    ensures { λ r. ⌜ r ≡ lnSum 11 z (one ⊘ whole 23) ⌝ }
+{
+    let mut q = 1.0 / 23.0;
+    let mut i: u64 = 11;
+    while 0 < i {
+        i -= 1;
+        q = 1.0 / ((2 * i + 1) as f64) + z * q;
+    }
+    q
+}
+
+// ln of m × 2^e, for an m near 1.
+fn near_one(m: f64, e: f64) -> f64
+    ensures { λ r. ⌜ r ≡ lnAt m e ⌝ }
+{
+    let f = m - 1.0;
+    let u = f / (2.0 + f);
+    let q = series(u * u);
+    e * H + (2.0 * u * q + e * L)
+}
+
+// The exponent of the digit at this place, where the place of the smallest value is 0.
+fn exponent(place: u64) -> f64
+    requires { ⌜ place < 2 ^ 53 ⌝ }
+    ensures { λ r. ⌜ r ≡ exponentAt place ⌝ }
+{
+    place as f64 - 1074.0
+}
+
+// ln of a positive finite y. Its significand is halved where it is above √2.
+fn positive(y: f64) -> f64
+    requires { ⌜ T (Positive.positive y) ⌝ }
+    ensures { λ r. ⌜ r ≡ lnInner y ⌝ }
+{
+    let t = taken_apart(y);
+    let mut m = assembled(false, 1023, t.m - 0x10_0000_0000_0000);
+    let mut place = t.e - 12;
+    if m > SQRT_2 {
+        m = 0.5 * m;
+        place += 1;
+    }
+    near_one(m, exponent(place))
+}
+
+// ln, with document 01's tests in their order.
+pub fn ln(y: f64) -> f64
+    ensures { λ r. ⌜ r ≡ lnOf y ⌝ }
+{
+    if y != y {
+        return 0.0 / 0.0;
+    }
+    if y < 0.0 {
+        return 0.0 / 0.0;
+    }
+    if y == 0.0 {
+        return -1.0 / 0.0;
+    }
+    if y == 1.0 / 0.0 {
+        return 1.0 / 0.0;
+    }
+    positive(y)
+}
+
+// powf(1/3): +0 for a zero.
+pub fn powf_1_3(y: f64) -> f64
+    ensures { λ r. ⌜ r ≡ cubeRootOf y ⌝ }
+{
+    if is_zero(y) {
+        return 0.0;
+    }
+    exp(ln(y) * (1.0 / 3.0))
+}

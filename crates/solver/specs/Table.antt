@@ -3,6 +3,7 @@ use mathlib.Core.Path.{_≡_, refl}
 use lib.Ieee.{Float, add, sub, mul, div, neg, ofBits, lt, le}
 use Rattle.elementary.specs.Ops.{bits, +0, one, MAX}
 use Rattle.elementary.specs.Rules.{rules-0}
+use Rattle.elementary.specs.Methods.{absOf}
 use Rattle.elementary.specs.Cody.{erfcOf, erfcxOf}
 
 pub record Rows : Type 0 where
@@ -10,5 +11,5 @@ pub record Rows : Type 0 where
   pub P8 : erfcxOf (neg (bits 0x403b_0000_0000_0000)) ≡ MAX
 
 pub rows : Rows
-unfolding erfcOf erfcxOf add sub mul div neg ofBits lt le
+unfolding erfcOf erfcxOf absOf add sub mul div neg ofBits lt le
 rows = record { P7 = refl; P8 = refl }

@@ -1,8 +1,8 @@
 -- p × 2^(e − l), rounded once: from p's value, and as a product with the float 2^(e − l). Assumes nothing.
 use mathlib.Core.Path.{_≡_, refl, sym, ap, _∙_, subst}
 use mathlib.Core.Bool.{Bool, true, false, cond}
-use Prim.Native.Nat.{ℕ, zero, suc, _+_, _-_, _*_, _^_, _≤_, _<_}
-use native.Mathlib.Nat.{mul-assoc, mul-comm, mul-left-comm, mul-pos, one-mul, zero-add, zero-mul, lt-irrefl}
+use Prim.Native.Nat.{ℕ, _+_, _-_, _*_, _^_, _≤_, _<_}
+use native.Mathlib.Nat.{mul-assoc, mul-comm, mul-left-comm, mul-pos, one-mul, zero-add, lt-irrefl}
 use native.Mathlib.Omega.{arith}
 use lib.Dec.{T, eqb, eqb→eq}
 use lib.IntN.{ℤ}
@@ -14,7 +14,7 @@ use lib.Ieee.Exact.{HasValue}
 use lib.Ieee.Positive.{first-pos}
 use lib.Ieee.Scale.{round-same, finite}
 use Rattle.elementary.specs.Exp.{scaled}
-use Rattle.elementary.proofs.Decode.{same-value}
+use Rattle.elementary.proofs.Decode.{same-power, same-value}
 
 -- 2 ^ (e - l) as a fraction
 power : (e l : ℕ) → up (minus e l) * 2 ^ l ≡ 2 ^ e * down (minus e l)
@@ -40,21 +40,16 @@ scaled-at f (fin t m g) s a d e l P h =
     ∙ ap (λ (z : Bool). round f z (a * 2 ^ e) (d * 2 ^ l)) (h .0)
 
 -- ---- the digits at their new place
-moved : (m i e j a b c : ℕ) → j + (a + b) ≡ i + e + c → m * 2 ^ j * (2 ^ a * 2 ^ b) ≡ m * 2 ^ i * 2 ^ e * 2 ^ c
-moved m i e j a b c h =
-    ap (λ (z : ℕ). m * 2 ^ j * z) (sym (pow-add 2 a b))
-    ∙ mul-assoc m (2 ^ j) (2 ^ (a + b))
-    ∙ ap (λ (z : ℕ). m * z) (sym (pow-add 2 j (a + b)) ∙ ap (λ (z : ℕ). 2 ^ z) h ∙ pow-add 2 (i + e) c ∙ ap (λ (z : ℕ). z * 2 ^ c) (pow-add 2 i e))
-    ∙ simp mul-assoc
-
 pub far-is : (x : Float) (s : Bool) (m i e : ℕ) → 960 ≤ e → HasValue x s (m * 2 ^ i) (2 ^ 1138)
     → round binary64 s ((0 * 2 ^ 64 + m) * 2 ^ (i + e - 782)) (2 ^ 2404) ≡ scaled binary64 x (minus e 2048)
 far-is x s m i e h v =
     round-same binary64 s ((0 * 2 ^ 64 + m) * 2 ^ (i + e - 782)) (2 ^ 2404) (m * 2 ^ i * 2 ^ e) (2 ^ 1138 * 2 ^ 2048) (pow-pos 2404) (mul-pos (pow-pos 1138) (pow-pos 2048))
-    (ap (λ (z : ℕ). z * 2 ^ (i + e - 782) * (2 ^ 1138 * 2 ^ 2048)) (zero-add m) ∙ moved m i e (i + e - 782) 1138 2048 2404 (place i e h))
+    (ap (λ (z : ℕ). z * 2 ^ (i + e - 782) * 2 ^ 3186) (zero-add m)
+    ∙ same-power m (i + e - 782) 3186 (i + e) 2404 (place i e h)
+    ∙ ap (λ (z : ℕ). z * 2 ^ 2404) (ap (λ (z : ℕ). m * z) (pow-add 2 i e) ∙ sym (mul-assoc m (2 ^ i) (2 ^ e))))
     ∙ sym (scaled-at binary64 x s (m * 2 ^ i) (2 ^ 1138) e 2048 (pow-pos 1138) v)
   where
-    place : (i e : ℕ) → 960 ≤ e → i + e - 782 + (1138 + 2048) ≡ i + e + 2404
+    place : (i e : ℕ) → 960 ≤ e → i + e - 782 + 3186 ≡ i + e + 2404
     place i e h = omega arith
 
 pub far-special : (f : Format) (x : Float) (k : ℤ) → finite x ≡ false → x ≡ scaled f x k
@@ -93,10 +88,7 @@ mul-power f (fin s m g) (fin t n d) e l h =
 pub field-power : (x : Float) (e : ℕ) → 1026 ≤ e → HasValue x false ((2 ^ 52 + 0) * 2 ^ (e - 1025 + 1329)) (2 ^ 2404) → HasValue x false (2 ^ e) (2 ^ 2048)
 field-power x e h v =
     same-value x false ((2 ^ 52 + 0) * 2 ^ (e - 1025 + 1329)) (2 ^ 2404) (2 ^ e) (2 ^ 2048) (pow-pos 2404)
-    (joined 52 (e - 1025 + 1329) 2048 e 2404 (place e h)) v
+    (same-power (2 ^ 52) (e - 1025 + 1329) 2048 e 2352 (place e h) ∙ ap (λ (z : ℕ). z * 2 ^ 2352) (mul-comm (2 ^ 52) (2 ^ e)) ∙ mul-assoc (2 ^ e) (2 ^ 52) (2 ^ 2352)) v
   where
-    joined : (a b c d g : ℕ) → a + b + c ≡ d + g → 2 ^ a * 2 ^ b * 2 ^ c ≡ 2 ^ d * 2 ^ g
-    joined a b c d g q = ap (λ (z : ℕ). z * 2 ^ c) (sym (pow-add 2 a b)) ∙ sym (pow-add 2 (a + b) c) ∙ ap (λ (z : ℕ). 2 ^ z) q ∙ pow-add 2 d g
-
-    place : (e : ℕ) → 1026 ≤ e → 52 + (e - 1025 + 1329) + 2048 ≡ e + 2404
+    place : (e : ℕ) → 1026 ≤ e → e - 1025 + 1329 + 2048 ≡ e + 2352
     place e h = omega arith

@@ -155,7 +155,7 @@ module _ (b d : ℕ) (lo : 1 ≤ d) (hi : d ≤ 52) (width : b < 2 ^ 64) (field 
     pub floor-cut : ofBits binary64 (c - c % 2 ^ d) ≡ floorOf binary64 (ofBits binary64 b)
     floor-cut =
         let r = ofBits binary64 (packed s k (n * 2 ^ d)) in
-        let v = value-packed s k (n * 2 ^ d) (kept .0) (kept .1) (omega arith) in
+        let v = value-packed s k (n * 2 ^ d) (λ _. kept .0) (kept .1) (omega (arith, kept)) in
         let e : n * 2 ^ d * 2 ^ k * 1 ≡ n * 2 ^ 1074 = rw (mul-one, mul-assoc n (2 ^ d) (2 ^ k), mul-comm (2 ^ d) (2 ^ k), ← pow-add 2 k d, exponents) refl in
         ap (ofBits binary64) pattern
         ∙ found b r s m (2 ^ d) n (ofBits-fits binary64 (packed s k (n * 2 ^ d))) (pow-pos d) value (cut-is s m (2 ^ d) (pow-pos d))

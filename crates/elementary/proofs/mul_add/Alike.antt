@@ -2,8 +2,8 @@
 use mathlib.Core.Path.{_≡_, refl, sym, ap, _∙_, subst}
 use mathlib.Core.Logic.{inl, inr}
 use mathlib.Core.Bool.{Bool}
-use Prim.Native.Nat.{ℕ, zero, suc, _+_, _-_, _*_, _/_, _%_, _^_, _≤_, _<_}
-use native.Mathlib.Nat.{le-trans, le-of-eq, lt-of-lt-of-le, lt-of-le-of-lt, lt-of-not-le, not-le-of-lt, eq-zero-or-pos, lt-irrefl, mul-assoc, mul-comm, mul-left-comm, mul-pos, mul-le-mul-right, mul-lt-mul-of-pos-right, mul-div-cancel, mul-div-mul-right, le-div-iff-mul-le, div-lt-iff-lt-mul, zero-mul, pow-succ'}
+use Prim.Native.Nat.{ℕ, suc, _+_, _-_, _*_, _/_, _%_, _^_, _≤_, _<_}
+use native.Mathlib.Nat.{le-trans, le-of-eq, lt-of-lt-of-le, lt-of-not-le, not-le-of-lt, eq-zero-or-pos, mul-assoc, mul-comm, mul-left-comm, mul-pos, mul-le-mul-right, mul-lt-mul-of-pos-right, mul-div-cancel, mul-div-mul-right, le-div-iff-mul-le, div-lt-iff-lt-mul, zero-mul, pow-succ'}
 use native.Mathlib.Omega.{arith}
 use lib.Arith.{mod-mul}
 use lib.Pow.{pow-add, pow-pos, pow-mono, shr-shr}

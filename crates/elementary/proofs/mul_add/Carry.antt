@@ -1,10 +1,9 @@
 -- Arithmetic on numbers of two digits in any base P, and the shifts of numbers of two words. P is a variable here, since `omega` takes no number of more than 38 digits. Assumes nothing.
 use mathlib.Core.Path.{_≡_, refl, sym, ap, _∙_, subst}
-use mathlib.Core.Bool.{Bool, true, false}
 use Prim.Native.Nat.{ℕ, suc, _+_, _-_, _*_, _/_, _%_, _^_, _≤_, _<_}
 use native.Mathlib.Nat.{le-trans, le-of-eq, le-of-lt, lt-of-lt-of-le, lt-of-le-of-lt, le-of-suc-le-suc, mul-assoc, mul-comm, mul-left-comm, mul-right-comm, mul-le-mul-left, mul-le-mul-right, lt-of-mul-lt-mul-right, div-add-mod', add-mul, mul-add, add-assoc, add-comm, add-left-comm, suc-mul, zero-mul, mul-div-mul-right, mod-lt, mul-lt-mul-of-pos-right}
 use native.Mathlib.Omega.{arith}
-use lib.Dec.{T, leb, ltb, le→leb, leb→le, lt→ltb, ltb→lt}
+use lib.Dec.{leb, ltb, le→leb, leb→le, lt→ltb, ltb→lt}
 use lib.Arith.{mod-mul}
 use lib.Pow.{pow-add, pow-pos, shr-shr, high, shl-lt}
 use Rattle.elementary.specs.Round.{wide, Any, Same}

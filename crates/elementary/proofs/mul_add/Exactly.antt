@@ -3,7 +3,7 @@ use mathlib.Core.Path.{_≡_, refl, sym, ap, _∙_, subst}
 use mathlib.Core.Logic.{_⊎_, inl, inr}
 use mathlib.Core.Bool.{Bool, true, false, not, _&&_, Bool·beq, cond, true≢false, false≢true}
 use Prim.Native.Nat.{ℕ, _+_, _-_, _*_, _^_, _≤_, _<_}
-use native.Mathlib.Nat.{le-of-eq, le-of-lt, eq-or-lt-of-le, mul-assoc, mul-comm, mul-left-comm, mul-pos, mul-lt-mul-of-pos-right, lt-of-mul-lt-mul-right, add-mul, add-comm, add-zero, zero-mul, zero-lt-suc}
+use native.Mathlib.Nat.{le-of-eq, le-of-lt, eq-or-lt-of-le, mul-assoc, mul-comm, mul-left-comm, mul-pos, add-comm, add-zero, zero-mul, zero-lt-suc}
 use native.Mathlib.Omega.{arith}
 use lib.Dec.{T, ltb, eqb, lt→ltb, ltb→lt, nltb→le}
 use lib.IntN.{ℤ, pos}
@@ -15,34 +15,8 @@ use lib.Ieee.Positive.{first-pos}
 use lib.Pow.{pow-add}
 use Rattle.elementary.specs.MulAdd.{fma}
 use Rattle.elementary.proofs.Leaf.{zero-of-mul, same-test}
-use Rattle.elementary.proofs.mul_add.Sums.{sum-same, sum-more, sum-less, sub-mul}
-
--- ---- `sum` sees only the values of its two fractions
-module _ (f : Format) (a b c a' b' c' : ℕ) (C : 0 < c) (C' : 0 < c') (p : a * c' ≡ a' * c) (q : b * c' ≡ b' * c) where
-  lt-back : (x y x' y' : ℕ) → x * c' ≡ x' * c → y * c' ≡ y' * c → x < y → x' < y'
-  lt-back x y x' y' g h l = lt-of-mul-lt-mul-right c (subst (λ (z : ℕ). z < y' * c) g (subst (λ (z : ℕ). x * c' < z) h (mul-lt-mul-of-pos-right l C')))
-
-  lt-forth : (x y x' y' : ℕ) → x * c' ≡ x' * c → y * c' ≡ y' * c → x' < y' → x < y
-  lt-forth x y x' y' g h l = lt-of-mul-lt-mul-right c' (subst (λ (z : ℕ). z < y * c') (sym g) (subst (λ (z : ℕ). x' * c < z) (sym h) (mul-lt-mul-of-pos-right l C)))
-
-  same-ltb : (x y x' y' : ℕ) → x * c' ≡ x' * c → y * c' ≡ y' * c → ltb x y ≡ ltb x' y'
-  same-ltb x y x' y' g h = same-test (ltb x y) (ltb x' y') (λ t. lt→ltb x' y' (lt-back x y x' y' g h (ltb→lt x y t))) (λ t. lt→ltb x y (lt-forth x y x' y' g h (ltb→lt x' y' t)))
-
-  same-diff : (u : Bool) (x y x' y' : ℕ) → x * c' ≡ x' * c → y * c' ≡ y' * c → round f u (x - y) c ≡ round f u (x' - y') c'
-  same-diff u x y x' y' g h =
-      round-same f u (x - y) c (x' - y') c' C C'
-      (sub-mul x y c' ∙ ap (λ (z : ℕ). z - y * c') g ∙ ap (λ (z : ℕ). x' * c - z) h ∙ sym (sub-mul x' y' c))
-
-  pub sum-value : (s t : Bool) → sum f s a t b c ≡ sum f s a' t b' c'
-  unfolding sum
-  sum-value s t =
-      let e1 : round f s (a + b) c ≡ round f s (a' + b') c' =
-      round-same f s (a + b) c (a' + b') c' C C' (add-mul a b c' ∙ ap (λ (z : ℕ). z + b * c') p ∙ ap (λ (z : ℕ). a' * c + z) q ∙ sym (add-mul a' b' c)) in
-      ap (λ (z : Float). cond (Bool·beq s t) z (cond (ltb a b) (round f t (b - a) c) (round f (s && ltb b a) (a - b) c))) e1
-      ∙ ap (λ (z : Float). cond (Bool·beq s t) (round f s (a' + b') c') (cond (ltb a b) z (round f (s && ltb b a) (a - b) c))) (same-diff t b a b' a' q p)
-      ∙ ap (λ (z : Float). cond (Bool·beq s t) (round f s (a' + b') c') (cond (ltb a b) (round f t (b' - a') c') z)) (same-diff (s && ltb b a) a b a' b' p q)
-      ∙ ap (λ (z : Bool). cond (Bool·beq s t) (round f s (a' + b') c') (cond z (round f t (b' - a') c') (round f (s && ltb b a) (a' - b') c'))) (same-ltb a b a' b' p q)
-      ∙ ap (λ (z : Bool). cond (Bool·beq s t) (round f s (a' + b') c') (cond (ltb a' b') (round f t (b' - a') c') (round f (s && z) (a' - b') c'))) (same-ltb b a b' a' q p)
+use Rattle.elementary.proofs.mul_add.Sums.{sum-same, sum-more, sum-less}
+use Rattle.elementary.proofs.Adding.{sum-value}
 
 -- ---- in either order
 pub beq-cases : (s t : Bool) → ((Bool·beq s t ≡ true) × (s ≡ t)) ⊎ ((Bool·beq s t ≡ false) × (Bool·beq t s ≡ false))

@@ -1,51 +1,24 @@
 -- The machine's sums and differences of floats that are made from their fields. Assumes nothing.
 use mathlib.Core.Path.{_≡_, refl, sym, ap, _∙_, subst}
-use mathlib.Core.Logic.{_⊎_, inl, inr}
-use mathlib.Core.Bool.{Bool, true, false, not, cond, _&&_, Bool·beq, true≢false, false≢true}
-use Prim.Native.Nat.{ℕ, zero, suc, _+_, _-_, _*_, _/_, _%_, _^_, _≤_, _<_}
-use native.Mathlib.Nat.{le-trans, le-of-eq, lt-of-lt-of-le, lt-irrefl, mod-lt, mul-le-mul, mul-assoc, mul-comm, mul-left-comm, mul-right-comm, mul-pos, mul-lt-mul-of-pos-right, add-mul, add-comm}
+use mathlib.Core.Logic.{inl, inr}
+use mathlib.Core.Bool.{Bool, true, false, not, Bool·beq, true≢false, false≢true}
+use Prim.Native.Nat.{ℕ, _+_, _-_, _*_, _/_, _%_, _^_, _≤_, _<_}
+use native.Mathlib.Nat.{lt-of-lt-of-le, mod-lt, mul-le-mul, mul-assoc, mul-comm, mul-left-comm, mul-lt-mul-of-pos-right, add-mul, add-comm}
 use native.Mathlib.Omega.{arith}
-use lib.Dec.{T, leb, ltb, eqb, eqb→eq, le→leb, leb→le, ltb→lt, not-T}
+use lib.Dec.{T, leb}
 use lib.Pow.{pow-add, pow-pos, pow-mono, shl-lt}
-use lib.Ieee.{Float, nan, inf, fin, binary64, low, up, down, odd, ofFields, ofBits, toBits, fits, nanBits, isNan, eq, add, sub, mul, neg, sum, round, unlike}
-use lib.Ieee.Fits.{down-pos}
-use lib.Ieee.Exact.{HasValue, odd-sign, round-exact}
-use lib.Ieee.Bits.{nanBits-above, is-true, is-false}
-use lib.Ieee.Scale.{finite}
+use lib.Ieee.{Float, nan, inf, fin, binary64, low, toBits, fits, isNan, eq, add, sub, mul, sum, round, unlike}
+use lib.Ieee.Exact.{HasValue, round-exact}
 use Rattle.elementary.specs.Round.{wide, Decoded}
 use Rattle.elementary.specs.MulAdd.Steps.{Marked, Middling, Opened}
-use Rattle.elementary.proofs.Decode.{rescale, ofBits-is, as-fields, high-value}
-use Rattle.elementary.proofs.Fields.{normal-field}
-use Rattle.elementary.proofs.mul_add.Sums.{sum-same, sum-more, sub-mul}
+use Rattle.elementary.proofs.Decode.{same-power, same-value, normal-value}
+use Rattle.elementary.proofs.mul_add.Sums.{sum-same, sum-more}
+use Rattle.elementary.proofs.Adding.{sub-mul, add-at, sub-at}
 use Rattle.elementary.specs.MulAdd.{fma}
-use Rattle.elementary.proofs.mul_add.Exactly.{sum-value, sum-comm, beq-refl, beq-cases, product-form, addend-form, fma-at}
+use Rattle.elementary.proofs.mul_add.Exactly.{sum-comm, beq-refl, beq-cases, product-form, fma-at}
 use Rattle.elementary.proofs.mul_add.Alike.{round-alike, plus-alike, minus-alike}
 
--- ---- sums and differences by their values
-pub add-at : (x y : Float) (s t : Bool) (a b d : ℕ) → 0 < d → HasValue x s a d → HasValue y t b d → add binary64 x y ≡ sum binary64 s a t b d
-unfolding add
-add-at nan y s t a b d P p q = absurd p
-add-at (inf _) y s t a b d P p q = absurd p
-add-at (fin _ m e) nan s t a b d P p q = absurd q
-add-at (fin _ m e) (inf _) s t a b d P p q = absurd q
-add-at (fin s' m e) (fin t' n g) s t a b d P p q =
-    sum-value binary64 (m * up e * down g) (n * up g * down e) (down e * down g) a b d (mul-pos (down-pos e) (down-pos g)) P
-    (mul-right-comm (m * up e) (down g) d ∙ ap (λ (z : ℕ). z * down g) (p .1) ∙ mul-assoc a (down e) (down g))
-    (mul-right-comm (n * up g) (down e) d ∙ ap (λ (z : ℕ). z * down e) (q .1) ∙ mul-assoc b (down g) (down e) ∙ ap (λ (z : ℕ). b * z) (mul-comm (down g) (down e)))
-    s' t'
-    ∙ ap (λ (z : Bool). sum binary64 z a t' b d) (p .0)
-    ∙ ap (λ (z : Bool). sum binary64 s a z b d) (q .0)
-
-neg-value : (x : Float) (s : Bool) (a d : ℕ) → HasValue x s a d → HasValue (neg x) (not s) a d
-unfolding neg
-neg-value nan s a d h = h
-neg-value (inf t) s a d h = h
-neg-value (fin t m e) s a d h = (ap not (h .0), h .1)
-
-sub-at : (x y : Float) (s t : Bool) (a b d : ℕ) → 0 < d → HasValue x s a d → HasValue y t b d → sub binary64 x y ≡ sum binary64 s a (not t) b d
-unfolding sub
-sub-at x y s t a b d P p q = add-at x (neg y) s (not t) a b d P p (neg-value y t b d q)
-
+-- ---- differences that are exact
 beq-not : (s : Bool) → Bool·beq s (not s) ≡ false
 beq-not true = refl
 beq-not false = refl
@@ -309,29 +282,16 @@ module _ (c x y : Float) (n cn : Bool) (p m d k r : ℕ) (K : Middling k) (M : M
       over h p l g = omega arith
 
 -- ---- `opened`
-finite-value : (x : Float) (s : Bool) (a d : ℕ) → HasValue x s a d → T (finite x)
-finite-value nan s a d h = absurd h
-finite-value (inf t) s a d h = absurd h
-finite-value (fin t m e) s a d h = tt
-
 module _ (x : Float) (F : T (fits binary64 x)) where
   abbrev b : ℕ
   b = toBits binary64 x
-
-  field-finite : (f : ℕ) → b % 2 ^ 63 / 2 ^ 52 ≡ f → 0 < f → f < 2047 → T (finite x)
-  field-finite zero e p h = absurd (lt-irrefl 0 p)
-  field-finite (suc f) e p h =
-      let s = leb (2 ^ 63) b in
-      let t = b % 2 ^ 52 in
-      finite-value x s ((2 ^ 52 + t) * 2 ^ f) (2 ^ 1074)
-      (subst (λ (z : Float). HasValue z s ((2 ^ 52 + t) * 2 ^ f) (2 ^ 1074)) (sym (as-fields x F ∙ ap (λ (z : ℕ). ofFields binary64 s z t) e ∙ normal-field s f t h)) (odd-sign 53 s (2 ^ 52 + t) f 1074))
 
   pub opened-is : Opened x (leb (2 ^ 63) b) (2 ^ 52 + b % 2 ^ 52) (b % 2 ^ 63 / 2 ^ 52)
   opened-is = record {
     lead = lead (b % 2 ^ 52);
     top = top (b % 2 ^ 52) (mod-lt b (pow-pos 52));
     field = field b;
-    value = λ p h. high-value x F (λ z. no (b % 2 ^ 63 / 2 ^ 52) z p) (field-finite (b % 2 ^ 63 / 2 ^ 52) refl p h);
+    value = normal-value x F;
   }
     where
       lead : (t : ℕ) → 2 ^ 52 ≤ 2 ^ 52 + t
@@ -342,9 +302,6 @@ module _ (x : Float) (F : T (fits binary64 x)) where
 
       field : (b : ℕ) → b % 2 ^ 63 / 2 ^ 52 < 2 ^ 11
       field b = omega arith
-
-      no : (f : ℕ) → f ≡ 0 → 0 < f → ⊥
-      no f z p = omega arith
 
 -- ---- no operand is a NaN where the plain result is none
 eq-nan : (x : Float) → eq x x ≡ true → T (not (isNan x))
@@ -400,9 +357,10 @@ module _ (f h : ℕ) (l : f < h + 1075) where
   as-shifted = omega arith
 
   pub addend-value : (x : Float) (s : Bool) (m : ℕ) → Decoded x s m (h + 63) → HasValue x s (m * 2 ^ spot) (2 ^ 2404)
-  addend-value x s m A =
-      subst (λ (w : ℕ). HasValue x s w (2 ^ 2404)) (mul-assoc m (2 ^ (h + 63)) (2 ^ 1266) ∙ ap (λ (w : ℕ). m * w) (sym (pow-add 2 (h + 63) 1266) ∙ ap (λ (w : ℕ). 2 ^ w) (sym as-shifted)))
-      (subst (λ (w : ℕ). HasValue x s (m * 2 ^ (h + 63) * 2 ^ 1266) w) (sym (pow-add 2 1138 1266)) (rescale x s (m * 2 ^ (h + 63)) (2 ^ 1138) (2 ^ 1266) (A .value)))
+  addend-value x s m A = same-value x s (m * 2 ^ (h + 63)) (2 ^ 1138) (m * 2 ^ spot) (2 ^ 2404) (pow-pos 1138) (same-power m (h + 63) 2404 spot 1138 (ends as-shifted)) (A .value)
+    where
+      ends : {p : ℕ} → p ≡ h + 63 + 1266 → h + 63 + 2404 ≡ p + 1138
+      ends e = omega arith
 
   addend-is : (m : ℕ) → m * 2 ^ spot ≡ m * 2 ^ (h + 63) * (2 ^ 128 * 2 ^ 1138)
   addend-is m = ap (λ (w : ℕ). m * 2 ^ w) as-shifted ∙ ap (λ (w : ℕ). m * w) (pow-add 2 (h + 63) 1266) ∙ sym (mul-assoc m (2 ^ (h + 63)) (2 ^ 1266)) ∙ ap (λ (w : ℕ). m * 2 ^ (h + 63) * w) (pow-add 2 128 1138)

@@ -3,7 +3,7 @@ use mathlib.Core.Path.{_≡_, refl, sym, ap, _∙_, subst}
 use mathlib.Core.Logic.{inl, inr}
 use mathlib.Core.Bool.{Bool, true, false, _&&_, Bool·beq, cond}
 use Prim.Native.Nat.{ℕ, zero, suc, _+_, _-_, _*_, _/_, _%_, _^_, _≤_, _<_}
-use native.Mathlib.Nat.{le-trans, le-of-eq, le-of-lt, lt-of-lt-of-le, not-le-of-lt, eq-or-lt-of-le, eq-zero-or-pos, lt-irrefl, mul-assoc, mul-comm, mul-left-comm, mul-pos, mul-le-mul-right, mul-lt-mul-of-pos-right, div-add-mod', add-mul, mul-sub, suc-mul, zero-mul, mod-lt, mul-div-mul-right, add-zero, mul-add-div-right, mul-add-mod-self-right}
+use native.Mathlib.Nat.{le-trans, le-of-eq, le-of-lt, lt-of-lt-of-le, not-le-of-lt, eq-or-lt-of-le, eq-zero-or-pos, lt-irrefl, mul-assoc, mul-comm, mul-left-comm, mul-pos, mul-le-mul-right, mul-lt-mul-of-pos-right, div-add-mod', add-mul, suc-mul, zero-mul, mod-lt, mul-div-mul-right, add-zero, mul-add-div-right, mul-add-mod-self-right}
 use native.Mathlib.Omega.{arith}
 use lib.Dec.{T, ltb, lt→ltb, ltb→lt, not-T, lit≤}
 use lib.Arith.{digits-div, digits-mod}
@@ -12,6 +12,7 @@ use lib.Ieee.{Format, round, sum}
 use lib.Ieee.Bits.{is-true, is-false}
 use Rattle.elementary.specs.Round.{Cut, Same}
 use Rattle.elementary.proofs.Leaf.{mul-mod-mul, zero-of-mul}
+use Rattle.elementary.proofs.Adding.{sub-mul}
 
 -- ---- `sum` by its cases
 pub sum-same : (f : Format) (s t : Bool) (a b c : ℕ) → Bool·beq s t ≡ true → sum f s a t b c ≡ round f s (a + b) c
@@ -69,9 +70,6 @@ module _ (f : Format) (s t : Bool) (a b c : ℕ) (e : Bool·beq s t ≡ false) w
       some a b h = omega arith
 
 -- ---- both by one unit Q
-pub sub-mul : (a b q : ℕ) → (a - b) * q ≡ a * q - b * q
-sub-mul a b q = mul-comm (a - b) q ∙ mul-sub q a b ∙ ap (λ (z : ℕ). z - q * b) (mul-comm q a) ∙ ap (λ (z : ℕ). a * q - z) (mul-comm q b)
-
 scale-pos : (v q : ℕ) → 0 < q → ltb 0 (v * q) ≡ ltb 0 v
 scale-pos zero q h = ap (λ (z : ℕ). ltb 0 z) (zero-mul q)
 scale-pos (suc v) q h = is-true (ltb 0 (suc v * q)) (lt→ltb 0 (suc v * q) (mul-pos (pos' v) h)) ∙ sym (is-true (ltb 0 (suc v)) (lt→ltb 0 (suc v) (pos' v)))

@@ -1,5 +1,4 @@
 -- `exp::scaled` meets its contract: the product with a float that is a power of two is rounded once. Assumes nothing.
-use Prim.Native.Nat.{_≤_}
 use native.Mathlib.Omega.{arith}
 use lib.Ieee.{binary64}
 use Rattle.elementary.proofs.exp.Power as power

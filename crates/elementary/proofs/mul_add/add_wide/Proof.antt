@@ -1,5 +1,5 @@
 -- `mul_add::add_wide` meets its contract. Assumes nothing.
-use Prim.Native.Nat.{ℕ, _+_, _-_, _^_, _<_}
+use Prim.Native.Nat.{ℕ, _+_, _^_, _<_}
 use native.Mathlib.Omega.{arith}
 use Rattle.elementary.proofs.mul_add.Carry as carry
 use borrow.Author.Needs.{needs}

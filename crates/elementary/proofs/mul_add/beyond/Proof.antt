@@ -1,6 +1,5 @@
 -- `mul_add::beyond` meets its contract. Assumes nothing.
-use mathlib.Core.Path.{_≡_}
-use Prim.Native.Nat.{ℕ, _+_, _-_, _*_, _^_, _≤_, _<_}
+use Prim.Native.Nat.{ℕ, _^_, _<_}
 use native.Mathlib.Omega.{arith}
 use Rattle.elementary.specs.Round.{wide}
 use Rattle.elementary.proofs.mul_add.Machine as machine

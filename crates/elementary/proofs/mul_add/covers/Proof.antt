@@ -1,5 +1,5 @@
 -- `mul_add::covers` meets its contract. Assumes nothing.
-use Prim.Native.Nat.{_-_, _^_}
+use Prim.Native.Nat.{_^_}
 use Rattle.elementary.proofs.mul_add.Carry as carry
 use Rattle.elementary.proofs.mul_add.covers.Statement.{statement}
 use Rattle.elementary.proofs.mul_add.covers.Tie as tie

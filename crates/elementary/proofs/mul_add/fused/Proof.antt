@@ -1,6 +1,6 @@
 -- `mul_add::fused` meets its contract. Assumes nothing.
 use mathlib.Core.Path.{_≡_, sym, ap, _∙_, subst}
-use Prim.Native.Nat.{ℕ, _+_, _-_, _*_, _/_, _%_, _^_, _≤_, _<_}
+use Prim.Native.Nat.{ℕ, _+_, _*_, _/_, _%_, _^_, _≤_, _<_}
 use native.Mathlib.Nat.{lt-of-lt-of-le, mul-le-mul, mul-le-mul-right, div-add-mod', mul-div-mul-right}
 use native.Mathlib.Omega.{arith}
 use lib.Dec.{lit≤}

@@ -1,6 +1,6 @@
 -- `mul_add::fused_finite` meets its contract. Assumes nothing.
 use mathlib.Core.Path.{_≡_, sym, ap, _∙_}
-use Prim.Native.Nat.{ℕ, _+_, _-_, _*_, _^_, _<_}
+use Prim.Native.Nat.{ℕ, _+_, _*_, _^_, _<_}
 use native.Mathlib.Nat.{mul-pos, mul-comm, zero-mul}
 use native.Mathlib.Omega.{arith}
 use lib.Pow.{pow-pos}

@@ -1,7 +1,6 @@
 -- `mul_add::general` meets its contract. Assumes nothing.
 use mathlib.Core.Path.{_≡_, sym, ap, _∙_, subst}
 use mathlib.Core.Bool.{Bool, _&&_}
-use Prim.Native.Nat.{_-_}
 use lib.Dec.{T}
 use lib.Ieee.{binary64}
 use lib.Ieee.Fits.{and-l, and-r}

@@ -1,6 +1,6 @@
 -- `mul_add::marked_wide` meets its contract. Assumes nothing.
 use mathlib.Core.Path.{_≡_, sym, _∙_}
-use Prim.Native.Nat.{ℕ, _+_, _-_, _*_, _/_, _%_, _^_, _<_}
+use Prim.Native.Nat.{ℕ, _+_, _*_, _/_, _%_, _^_, _<_}
 use native.Mathlib.Omega.{arith}
 use Rattle.elementary.specs.Round.{Same, wide}
 use Rattle.elementary.specs.MulAdd.Steps.{Marked}

@@ -1,6 +1,5 @@
 -- `mul_add::middling` meets its contract. Assumes nothing.
 use mathlib.Core.Bool.{false≢true}
-use Prim.Native.Nat.{_-_}
 use borrow.Author.Needs.{needs}
 use Rattle.elementary.proofs.mul_add.middling.Statement.{statement}
 use Rattle.elementary.proofs.mul_add.middling.Tie as tie

@@ -1,5 +1,4 @@
 -- `mul_add::mul_add` meets its contract. Assumes nothing.
-use Prim.Native.Nat.{_-_}
 use Rattle.elementary.proofs.mul_add.Machine as machine
 use borrow.Author.Needs.{needs}
 use Rattle.elementary.proofs.mul_add.mul_add.Statement.{statement}

@@ -1,7 +1,7 @@
 -- `mul_add::near` meets its contract. Assumes nothing.
 use mathlib.Core.Path.{_≡_, refl, sym, ap, _∙_, subst}
 use mathlib.Core.Logic.{inl, inr}
-use mathlib.Core.Bool.{Bool, true, false, not, cond, Bool·beq, false≢true, true≢false}
+use mathlib.Core.Bool.{Bool, true, false, not, cond, Bool·beq, false≢true}
 use Prim.Native.Nat.{ℕ, zero, suc, _+_, _-_, _*_, _%_, _^_, _≤_, _<_}
 use native.Mathlib.Nat.{lt-of-lt-of-le, lt-irrefl, mul-assoc, mul-comm, pow-succ', add-assoc}
 use native.Mathlib.Omega.{arith}

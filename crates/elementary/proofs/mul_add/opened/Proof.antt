@@ -1,6 +1,5 @@
 -- `mul_add::opened` meets its contract. Assumes nothing.
 use mathlib.Core.Path.{sym, subst}
-use Prim.Native.Nat.{_-_}
 use lib.Dec.{T}
 use Rattle.elementary.proofs.mul_add.Machine as machine
 use borrow.Author.Needs.{needs}

@@ -1,5 +1,5 @@
 -- `mul_add::product` meets its contract. Assumes nothing.
-use Prim.Native.Nat.{ℕ, _+_, _-_, _*_, _/_, _%_, _^_, _≤_, _<_}
+use Prim.Native.Nat.{ℕ, _+_, _*_, _/_, _%_, _^_, _<_}
 use native.Mathlib.Nat.{lt-of-lt-of-le, mod-lt}
 use native.Mathlib.Omega.{arith}
 use lib.Dec.{lit≤}

@@ -1,6 +1,6 @@
 -- `mul_add::sum_wide` meets its contract. Assumes nothing.
 use mathlib.Core.Path.{_∙_}
-use Prim.Native.Nat.{_-_, _*_, _^_}
+use Prim.Native.Nat.{_*_, _^_}
 use lib.Ieee.{binary64}
 use Rattle.elementary.specs.Round.{wide}
 use Rattle.elementary.proofs.mul_add.Exactly as exactly

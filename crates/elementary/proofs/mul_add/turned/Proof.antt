@@ -1,7 +1,7 @@
 -- `mul_add::turned` meets its contract. Assumes nothing.
 use mathlib.Core.Path.{_≡_, sym, _∙_}
-use mathlib.Core.Bool.{Bool, true, false, true≢false, false≢true}
-use Prim.Native.Nat.{ℕ, _+_, _-_, _*_, _^_, _<_}
+use mathlib.Core.Bool.{true≢false, false≢true}
+use Prim.Native.Nat.{ℕ, _+_, _-_, _^_, _<_}
 use native.Mathlib.Omega.{arith}
 use Rattle.elementary.specs.Round.{wide}
 use borrow.Author.Needs.{needs}

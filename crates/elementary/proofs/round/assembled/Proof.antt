@@ -1,8 +1,6 @@
 -- `round::assembled` meets its contract. Assumes nothing.
-use mathlib.Core.Path.{sym, subst}
-use mathlib.Core.Bool.{Bool, not}
-use Prim.Native.Nat.{_-_}
-use lib.Dec.{T}
+use Prim.Native.Nat.{ℕ, _+_, _*_, _%_, _^_, _<_}
+use native.Mathlib.Omega.{arith}
 use Rattle.elementary.proofs.Fields as fields
 use borrow.Author.Needs.{needs}
 use Rattle.elementary.proofs.round.assembled.Statement.{statement}
@@ -12,16 +10,19 @@ sign-bit-requires : tie.Need-sign-bit-requires
 sign-bit-requires c κs = search needs
 
 add-result : tie.Need-add-result
-add-result c = record { fits = fields.head-fits (c .before .args .neg) (c .before .args .f) (c .sign-bit .result) (c .before .pre .1 .0) (c .sign-bit .ensures) }
+add-result c = record { fits = room (c .sign-bit .result + c .before .args .f * 2 ^ 52 % 2 ^ 64) (c .before .args .t) (fields.pattern-fits (c .before .args .neg) (c .before .args .f) (c .before .args .t) (c .sign-bit .result) (c .before .pre .1 .0) (c .before .pre .1 .1) (c .sign-bit .ensures)) }
+  where
+    room : (a t : ℕ) → a + t < 2 ^ 64 → a < 2 ^ 64
+    room a t h = omega arith
 
 add-result-2 : tie.Need-add-result-2
 add-result-2 c = record { fits = fields.pattern-fits (c .before .args .neg) (c .before .args .f) (c .before .args .t) (c .sign-bit .result) (c .before .pre .1 .0) (c .before .pre .1 .1) (c .sign-bit .ensures) }
 
 float-from-bits-result : tie.Need-float-from-bits-result
-float-from-bits-result c = subst (λ (b : Bool). T (not b)) (sym (fields.pattern-no-nan (c .before .args .neg) (c .before .args .f) (c .before .args .t) (c .sign-bit .result) (c .before .pre .1 .0) (c .before .pre .1 .1) (c .sign-bit .ensures))) tt
+float-from-bits-result c = fields.pattern-no-nan (c .before .args .neg) (c .before .args .f) (c .before .args .t) (c .sign-bit .result) (c .before .pre .1 .0) (c .before .pre .1 .1) (c .sign-bit .ensures)
 
 returns : tie.Need-returns
-returns c = fields.pattern-value (c .before .args .neg) (c .before .args .f) (c .before .args .t) (c .sign-bit .result) (c .before .pre .0) (c .before .pre .1 .0) (c .before .pre .1 .1) (c .sign-bit .ensures)
+returns c = fields.pattern-value (c .before .args .neg) (c .before .args .f) (c .before .args .t) (c .sign-bit .result) (c .before .pre .1 .0) (c .before .pre .1 .1) (c .sign-bit .ensures) (c .before .pre .0)
 
 pub assembled-spec : {M : Type 1} → statement M
 assembled-spec =

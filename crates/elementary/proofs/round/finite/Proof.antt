@@ -1,15 +1,12 @@
 -- `round::finite` meets its contract. Assumes nothing.
-use mathlib.Core.Path.{sym, subst}
-use mathlib.Core.Bool.{Bool, not}
-use Prim.Native.Nat.{_-_, _≤_}
-use lib.Dec.{T, lit≤}
+use lib.Dec.{lit≤}
 use Rattle.elementary.proofs.Decode as decode
-use Rattle.elementary.proofs.Pattern as pattern
+use Rattle.elementary.proofs.Bits.{no-nan-pattern}
 use Rattle.elementary.proofs.round.finite.Statement.{statement}
 use Rattle.elementary.proofs.round.finite.Tie as tie
 
 float-from-bits-i : tie.Need-float-from-bits-i
-float-from-bits-i c = subst (λ (b : Bool). T (not b)) (sym (pattern.no-nan 0x7ff0_0000_0000_0000 (lit≤ tt))) tt
+float-from-bits-i c = no-nan-pattern 0x7ff0_0000_0000_0000 (lit≤ tt)
 
 returns : tie.Need-returns
 returns c = decode.finite-yes (c .before .args .x) (c .if1 .taken)

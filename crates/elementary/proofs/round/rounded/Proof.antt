@@ -4,12 +4,13 @@ use mathlib.Core.Path.{_≡_, refl, sym, ap, _∙_, subst}
 use Prim.Native.Nat.{ℕ, _+_, _-_, _*_, _%_, _^_, _≤_, _<_}
 use native.Mathlib.Nat.{lt-of-lt-of-le, lt-of-le-of-lt}
 use native.Mathlib.Omega.{arith}
-use mathlib.Core.Bool.{Bool, false, not}
+use mathlib.Core.Bool.{false}
 use lib.Dec.{T, lit≤, lit<}
 use lib.Ieee.{Float, binary64, ofBits, fits}
 use lib.Ieee.Fits.{round-fits}
 use Rattle.elementary.specs.Round.{Any, Halved}
 use Rattle.elementary.proofs.Leaf as leaf
+use Rattle.elementary.proofs.Bits.{no-nan-pattern}
 use Rattle.elementary.proofs.Pattern as pattern
 use Rattle.elementary.proofs.round.rounded.Statement.{statement}
 use Rattle.elementary.proofs.round.rounded.Tie as tie
@@ -44,7 +45,7 @@ dropped-requires : tie.Need-dropped-requires
 dropped-requires c κs = search needs
 
 float-from-bits-result : tie.Need-float-from-bits-result
-float-from-bits-result c = subst (λ (b : Bool). T (not b)) (sym (pattern.no-nan 0x7ff0_0000_0000_0000 (lit≤ tt))) tt
+float-from-bits-result c = no-nan-pattern 0x7ff0_0000_0000_0000 (lit≤ tt)
 
 returns : tie.Need-returns
 returns c num den D C =
@@ -81,7 +82,10 @@ add-result : tie.Need-add-result
 add-result c = record { fits = lt-of-le-of-lt (under (k-of c) (c .halved .result) (small c) (leaf.kept-le (steps c))) (lit< tt) }
 
 float-from-bits-result-2 : tie.Need-float-from-bits-result-2
-float-from-bits-result-2 c = subst (λ (b : Bool). T (not b)) (sym (pattern.no-nan (k-of c * 2 ^ 52 % 2 ^ 64 + c .halved .result) (under (k-of c) (c .halved .result) (small c) (leaf.kept-le (steps c))))) tt
+float-from-bits-result-2 c = no-nan-pattern (k-of c * 2 ^ 52 % 2 ^ 64 + c .halved .result) (low (under (k-of c) (c .halved .result) (small c) (leaf.kept-le (steps c))))
+  where
+    low : {b : ℕ} → b ≤ 2047 * 2 ^ 52 → b % 2 ^ 63 ≤ 2047 * 2 ^ 52
+    low h = omega arith
 
 returns-2 : tie.Need-returns-2
 returns-2 c num den D C =

@@ -1,7 +1,6 @@
 -- `round::rounded_signed` meets its contract. Assumes nothing.
 use mathlib.Core.Path.{ap, _∙_}
 use mathlib.Core.Bool.{cond}
-use Prim.Native.Nat.{_-_}
 use lib.Ieee.{Float, binary64, neg}
 use Rattle.elementary.proofs.Sign as sign
 use borrow.Author.Needs.{needs}

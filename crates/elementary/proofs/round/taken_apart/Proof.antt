@@ -1,7 +1,7 @@
 -- `round::taken_apart` meets its contract. Assumes nothing.
 use mathlib.Core.Path.{sym, subst}
 use mathlib.Core.Bool.{Bool}
-use Prim.Native.Nat.{_-_}
+use native.Mathlib.Omega.{arith}
 use lib.Dec.{T}
 use lib.Ieee.{binary64, fits}
 use Rattle.elementary.specs.Round.{Decoded}
@@ -33,7 +33,7 @@ returns c =
     subst (λ (s : Bool). Decoded (a .args .x) s (r .result .m) (r .result .e)) (sym (r .ensures .0)) (decode.low-value (a .args .x) (held a) (c .before .if1 .taken) (r .result .m) (r .result .e) (r .ensures .1))
 
 returns-2 : tie.Need-returns-2
-returns-2 c = decode.high-value (c .before .args .x) (held (c .before)) (c .if1 .left) (c .before .pre)
+returns-2 c = decode.normal-value (c .before .args .x) (held (c .before)) (omega arith) (decode.finite-field (c .before .args .x) (held (c .before)) (c .before .pre))
 
 pub taken-apart-spec : {M : Type 1} → statement M
 taken-apart-spec =

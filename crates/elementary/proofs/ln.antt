@@ -1,0 +1,4 @@
+-- Laws that the proofs of ln use.
+mod Turns
+mod Place
+mod Ends

@@ -1,0 +1,66 @@
+-- The turns of ln's series, and the exponent as a difference of two whole floats. Assumes nothing.
+use mathlib.Core.Path.{_≡_, refl, sym, ap, _∙_}
+use mathlib.Core.Bool.{Bool, true, false, not, cond}
+use Prim.Native.Nat.{ℕ, zero, suc, _+_, _-_, _*_, _^_, _≤_, _<_}
+use native.Mathlib.Nat.{zero-lt-suc}
+use native.Mathlib.Omega.{arith}
+use lib.Dec.{T, leb, ltb, le→leb, leb→le, nleb→lt, ltb→lt, nltb→le}
+use lib.IntN.{pos, negsuc}
+use lib.Ieee.{Float, binary64, inFloat, minus, round, ofInt, ofBits, sum}
+use lib.Ieee.Back.{round-whole}
+use lib.Ieee.Exact.{HasValue}
+use Rattle.elementary.specs.Ops.{_⊕_, _⊖_, _⊗_, _⊘_, one, whole}
+use Rattle.elementary.specs.Ln.{lnSum}
+use Rattle.elementary.proofs.Adding.{sub-at}
+
+pub counted : (n : ℕ) → n ≤ 2 ^ 53 → T (inFloat binary64 (pos n))
+unfolding inFloat
+counted n h = le→leb n (2 ^ 53) h
+
+-- ---- the series
+pub first : one ⊘ ofBits binary64 0x4037_0000_0000_0000 ≡ one ⊘ whole 23
+unfolding ofBits ofInt
+first = refl
+
+-- q is the sum for z after the turns down to i
+abbrev pub Down : ℕ → Float → Float → Type 0
+Down i z q = lnSum 11 z (one ⊘ whole 23) ≡ lnSum i z q
+
+pub turned : (i : ℕ) (z q : Float) → 0 < i → Down i z q → Down (i - 1) z (one ⊘ whole (2 * (i - 1) + 1) ⊕ z ⊗ q)
+unfolding lnSum
+turned zero z q l h = absurd (omega arith)
+turned (suc i) z q l h = let e : suc i - 1 ≡ i = omega arith in rw e h
+
+pub done : (i : ℕ) (z q : Float) → i ≤ 0 → Down i z q → q ≡ lnSum 11 z (one ⊘ whole 23)
+unfolding lnSum
+done zero z q l h = sym h
+done (suc i) z q l h = absurd (omega arith)
+
+-- ---- the difference of two whole numbers
+whole-value : (n : ℕ) → n ≤ 2 ^ 53 → HasValue (whole n) false n 1
+unfolding ofInt
+whole-value n h = round-whole binary64 false n h
+
+apart : (a b : ℕ) → sum binary64 false a true b 1 ≡ ofInt binary64 (minus a b)
+unfolding sum ofInt
+apart a b = go (ltb a b) (leb b a) (ltb→lt a b) (nltb→le a b) (leb→le b a) (nleb→lt b a)
+  where
+    less : (a b : ℕ) → a < b → b - a ≡ suc (b - suc a)
+    less a b h = omega arith
+
+    no : a < b → b ≤ a → ⊥
+    no h k = omega arith
+
+    go : (t u : Bool) → (T t → a < b) → (T (not t) → b ≤ a) → (T u → b ≤ a) → (T (not u) → a < b)
+        → cond t (round binary64 true (b - a) 1) (round binary64 false (a - b) 1) ≡ ofInt binary64 (cond u (pos (a - b)) (negsuc (b - suc a)))
+    go true true h _ k _ = absurd (no (h tt) (k tt))
+    go true false h _ _ _ = ap (λ (z : ℕ). round binary64 true z 1) (less a b (h tt))
+    go false true _ _ _ _ = refl
+    go false false _ h _ k = absurd (no (k tt) (h tt))
+
+pub difference : (a b : ℕ) → a ≤ 2 ^ 53 → b ≤ 2 ^ 53 → whole a ⊖ whole b ≡ ofInt binary64 (minus a b)
+difference a b h k = sub-at (whole a) (whole b) false false a b 1 (zero-lt-suc 0) (whole-value a h) (whole-value b k) ∙ apart a b
+
+pub unit : ofBits binary64 0x4090_c800_0000_0000 ≡ whole 1074
+unfolding ofBits ofInt
+unit = refl

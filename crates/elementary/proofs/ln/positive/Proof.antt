@@ -1,0 +1,81 @@
+-- `ln::positive` meets its contract: the place and the significand of y taken apart are the definition's. Assumes nothing.
+use mathlib.Core.Path.{_≡_, sym, ap, _∙_, subst}
+use mathlib.Core.Logic.{⊎-elim}
+use Prim.Native.Nat.{ℕ, _+_, _-_, _*_, _^_, _≤_, _<_}
+use native.Mathlib.Omega.{arith}
+use lib.Dec.{T, lit<}
+use lib.Ieee.Exact.{HasValue}
+use lib.Ieee.Positive.{positive-finite}
+use Rattle.elementary.specs.Round.{Digits}
+use Rattle.elementary.specs.Ln.{lnAt, placeOf, significandOf}
+use Rattle.elementary.proofs.ln.Ends.{digits-of}
+use Rattle.elementary.proofs.ln.Place.{place-is, significand-is, halved, kept}
+use borrow.Author.Needs.{needs}
+use Rattle.elementary.proofs.ln.positive.Statement.{statement}
+use Rattle.elementary.proofs.ln.positive.Tie as tie
+
+digits : (d : tie.After-taken-apart) → Digits (d .taken-apart .result .m) (d .taken-apart .result .e)
+digits d = digits-of (d .before .args .y) (d .taken-apart .result .neg) (d .taken-apart .result .m) (d .taken-apart .result .e) (d .before .pre) (d .taken-apart .ensures)
+
+place : (d : tie.After-taken-apart) → d .taken-apart .result .e - 12 ≡ placeOf (d .before .args .y)
+place d = place-is (d .before .args .y) (d .taken-apart .result .neg) (d .taken-apart .result .m) (d .taken-apart .result .e) (d .taken-apart .ensures) (digits d)
+
+back : (m : ℕ) → 2 ^ 52 ≤ m → 2 ^ 52 + (m - 2 ^ 52) ≡ m
+back m h = omega arith
+
+significand : (c : tie.After-assembled) → c .assembled .result ≡ significandOf (c .before .before .before .args .y)
+significand c =
+    let d = c .before .before in
+    let m = d .taken-apart .result .m in
+    significand-is (d .before .args .y) (d .taken-apart .result .neg) m (d .taken-apart .result .e) (d .taken-apart .ensures) (digits d) (c .assembled .result) (subst T (sym (c .assembled .ok)) tt)
+    (subst (λ (w : ℕ). HasValue (c .assembled .result) _ (w * 2 ^ 2352) (2 ^ 2404)) (back m (digits d .lead)) (c .assembled .ensures))
+
+taken-apart-requires : tie.Need-taken-apart-requires
+taken-apart-requires c κs = positive-finite (c .args .y) (c .pre)
+
+sub-assembled : tie.Need-sub-assembled
+sub-assembled c = digits (c .before) .lead
+
+assembled-requires : tie.Need-assembled-requires
+assembled-requires c κs = (lit< tt, (lit< tt, under (c .before .taken-apart .result .m) (digits (c .before) .lead) (digits (c .before) .top)))
+  where
+    under : (m : ℕ) → 2 ^ 52 ≤ m → m < 2 ^ 53 → m - 2 ^ 52 < 2 ^ 52
+    under m h k = omega arith
+
+sub-place : tie.Need-sub-place
+sub-place c = digits (c .before .before .before) .least
+
+add-place : tie.Need-add-place
+add-place c = search needs
+
+exponent-requires : tie.Need-exponent-requires
+exponent-requires c κs =
+    let g = digits (c .before .before .before .before) in ⊎-elim (λ w. omega arith) (λ w. omega arith) (c .if1 .came)
+
+near-one-requires : tie.Need-near-one-requires
+near-one-requires c κs = search needs
+
+returns : tie.Need-returns
+returns c =
+    let j = c .before .before in
+    let a = j .before .before in
+    let d = a .before .before in
+    c .near-one .ensures
+    ∙ ap (lnAt (j .if1 .m)) (c .before .exponent .ensures)
+    ∙ ⊎-elim
+    (λ w. halved (d .before .args .y) (a .assembled .result) (j .if1 .m) (d .taken-apart .result .e - 12) (j .if1 .place) (significand a) (place d) (w .0 .taken) (w .1) (w .2))
+    (λ w. kept (d .before .args .y) (a .assembled .result) (j .if1 .m) (d .taken-apart .result .e - 12) (j .if1 .place) (significand a) (place d) (w .0 .left) (w .1) (w .2))
+    (j .if1 .came)
+
+pub positive-spec : {M : Type 1} → statement M
+positive-spec =
+    tie.close
+    (tie.spec
+    taken-apart-requires
+    sub-assembled
+    assembled-requires
+    sub-place
+    add-place
+    exponent-requires
+    near-one-requires
+    returns)
