@@ -7,6 +7,7 @@ ghost use Rattle.elementary.specs.Floor.{floorOf};
 ghost use Rattle.elementary.specs.Sqrt.{sqrtOf};
 ghost use Rattle.elementary.specs.MulAdd.{fma};
 ghost use Rattle.elementary.specs.Exp.{expOf};
+ghost use Rattle.elementary.specs.Ln.{lnOf, cubeRootOf};
 use elementary::methods::bits_of;
 use elementary::methods::float_of;
 
@@ -73,4 +74,18 @@ pub extern "C" fn gintubalos_exp(y: u64) -> u64
     ensures { λ r. ⌜ r ≡ toBits binary64 (expOf (ofBits binary64 y)) ⌝ }
 {
     bits_of(elementary::exp::exp(float_of(y)))
+}
+
+#[no_mangle]
+pub extern "C" fn gintubalos_ln(y: u64) -> u64
+    ensures { λ r. ⌜ r ≡ toBits binary64 (lnOf (ofBits binary64 y)) ⌝ }
+{
+    bits_of(elementary::ln::ln(float_of(y)))
+}
+
+#[no_mangle]
+pub extern "C" fn gintubalos_powf_1_3(y: u64) -> u64
+    ensures { λ r. ⌜ r ≡ toBits binary64 (cubeRootOf (ofBits binary64 y)) ⌝ }
+{
+    bits_of(elementary::ln::powf_1_3(float_of(y)))
 }

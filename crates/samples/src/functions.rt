@@ -5,7 +5,7 @@ use elementary::methods::float_of;
 use elementary::normal_distribution;
 
 // How many there are.
-pub const COUNT: u64 = 22;
+pub const COUNT: u64 = 24;
 
 // What the function with this number yields; the arguments that it has not are left unread.
 pub fn answer(function: u64, a: u64, b: u64, c: u64) -> u64 {
@@ -21,18 +21,20 @@ pub fn answer(function: u64, a: u64, b: u64, c: u64) -> u64 {
         7 => bits_of(elementary::sqrt::sqrt(float_of(a))),
         8 => bits_of(elementary::mul_add::mul_add(float_of(a), float_of(b), float_of(c))),
         9 => bits_of(elementary::exp::exp(float_of(a))),
-        10 => bits_of(cody::d_int(float_of(a))),
-        11 => bits_of(cody::smoothened_exponential_of_negative_square(float_of(a))),
-        12 => bits_of(cody::smoothened_exponential_of_positive_square(float_of(a))),
-        13 => bits_of(cody::ab(float_of(a))),
-        14 => bits_of(cody::cd(float_of(a))),
-        15 => bits_of(cody::pq(float_of(a))),
-        16 => bits_of(cody::erfcx_above_threshold(float_of(a))),
-        17 => bits_of(cody::erfc(float_of(a))),
-        18 => bits_of(cody::erfcx(float_of(a))),
-        19 => bits_of(normal_distribution::standard_normal_cdf(float_of(a))),
-        20 => bits_of(normal_distribution::inverse_normal_cdf(float_of(a))),
-        21 => bits_of(normal_distribution::inverse_f_upper_map(float_of(a))),
+        10 => bits_of(elementary::ln::ln(float_of(a))),
+        11 => bits_of(elementary::ln::powf_1_3(float_of(a))),
+        12 => bits_of(cody::d_int(float_of(a))),
+        13 => bits_of(cody::smoothened_exponential_of_negative_square(float_of(a))),
+        14 => bits_of(cody::smoothened_exponential_of_positive_square(float_of(a))),
+        15 => bits_of(cody::ab(float_of(a))),
+        16 => bits_of(cody::cd(float_of(a))),
+        17 => bits_of(cody::pq(float_of(a))),
+        18 => bits_of(cody::erfcx_above_threshold(float_of(a))),
+        19 => bits_of(cody::erfc(float_of(a))),
+        20 => bits_of(cody::erfcx(float_of(a))),
+        21 => bits_of(normal_distribution::standard_normal_cdf(float_of(a))),
+        22 => bits_of(normal_distribution::inverse_normal_cdf(float_of(a))),
+        23 => bits_of(normal_distribution::inverse_f_upper_map(float_of(a))),
         _ => 0,
     }
 }
@@ -54,18 +56,20 @@ pub fn print_name(function: u64) {
         7 => print(b"sqrt"),
         8 => print(b"mul_add"),
         9 => print(b"exp"),
-        10 => print(b"d_int"),
-        11 => print(b"smoothened_exponential_of_negative_square"),
-        12 => print(b"smoothened_exponential_of_positive_square"),
-        13 => print(b"ab"),
-        14 => print(b"cd"),
-        15 => print(b"pq"),
-        16 => print(b"erfcx_above_threshold"),
-        17 => print(b"erfc"),
-        18 => print(b"erfcx"),
-        19 => print(b"standard_normal_cdf"),
-        20 => print(b"inverse_normal_cdf"),
-        21 => print(b"inverse_f_upper_map"),
+        10 => print(b"ln"),
+        11 => print(b"powf_1_3"),
+        12 => print(b"d_int"),
+        13 => print(b"smoothened_exponential_of_negative_square"),
+        14 => print(b"smoothened_exponential_of_positive_square"),
+        15 => print(b"ab"),
+        16 => print(b"cd"),
+        17 => print(b"pq"),
+        18 => print(b"erfcx_above_threshold"),
+        19 => print(b"erfc"),
+        20 => print(b"erfcx"),
+        21 => print(b"standard_normal_cdf"),
+        22 => print(b"inverse_normal_cdf"),
+        23 => print(b"inverse_f_upper_map"),
         _ => print(b"?"),
     }
 }

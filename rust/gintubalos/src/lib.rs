@@ -39,6 +39,8 @@ functions! {
         sqrt = gintubalos_sqrt(x);
         mul_add = gintubalos_mul_add(a, b, c);
         exp = gintubalos_exp(y);
+        ln = gintubalos_ln(y);
+        powf_1_3 = gintubalos_powf_1_3(y);
         d_int = gintubalos_d_int(x);
         smoothened_exponential_of_negative_square = gintubalos_smoothened_exponential_of_negative_square(y);
         smoothened_exponential_of_positive_square = gintubalos_smoothened_exponential_of_positive_square(x);
