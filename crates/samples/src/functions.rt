@@ -9,33 +9,40 @@ pub const COUNT: u64 = 24;
 
 // What the function with this number yields; the arguments that it has not are left unread.
 pub fn answer(function: u64, a: u64, b: u64, c: u64) -> u64 {
+    let x = float_of(a);
     match function {
-        // how many units in the last place erfc(a) is from b, the float nearest to the true value
-        0 => apart(bits_of(cody::erfc(float_of(a))), b),
-        1 => bits_of(float_of(a)),
-        2 => bits_of(elementary::methods::abs(float_of(a))),
-        3 => bits_of(elementary::methods::max(float_of(a), float_of(b))),
-        4 => elementary::methods::is_zero(float_of(a)) as u64,
-        5 => bits_of(elementary::methods::powi_2(float_of(a))),
-        6 => bits_of(elementary::floor::floor(float_of(a))),
-        7 => bits_of(elementary::sqrt::sqrt(float_of(a))),
-        8 => bits_of(elementary::mul_add::mul_add(float_of(a), float_of(b), float_of(c))),
-        9 => bits_of(elementary::exp::exp(float_of(a))),
-        10 => bits_of(elementary::ln::ln(float_of(a))),
-        11 => bits_of(elementary::ln::powf_1_3(float_of(a))),
-        12 => bits_of(cody::d_int(float_of(a))),
-        13 => bits_of(cody::smoothened_exponential_of_negative_square(float_of(a))),
-        14 => bits_of(cody::smoothened_exponential_of_positive_square(float_of(a))),
-        15 => bits_of(cody::ab(float_of(a))),
-        16 => bits_of(cody::cd(float_of(a))),
-        17 => bits_of(cody::pq(float_of(a))),
-        18 => bits_of(cody::erfcx_above_threshold(float_of(a))),
-        19 => bits_of(cody::erfc(float_of(a))),
-        20 => bits_of(cody::erfcx(float_of(a))),
-        21 => bits_of(normal_distribution::standard_normal_cdf(float_of(a))),
-        22 => bits_of(normal_distribution::inverse_normal_cdf(float_of(a))),
-        23 => bits_of(normal_distribution::inverse_f_upper_map(float_of(a))),
-        _ => 0,
+        // how many units in the last place erfc(x) is from b, the float nearest to the true value
+        0 => apart(bits_of(cody::erfc(x)), b),
+        3 => bits_of(elementary::methods::max(x, float_of(b))),
+        4 => elementary::methods::is_zero(x) as u64,
+        8 => bits_of(elementary::mul_add::mul_add(x, float_of(b), float_of(c))),
+        _ => bits_of(of_one(function, x)),
+    }
+}
+
+// The functions from a float to a float; number 1, `bits_of`, is what stands around them.
+fn of_one(function: u64, x: f64) -> f64 {
+    match function {
+        2 => elementary::methods::abs(x),
+        5 => elementary::methods::powi_2(x),
+        6 => elementary::floor::floor(x),
+        7 => elementary::sqrt::sqrt(x),
+        9 => elementary::exp::exp(x),
+        10 => elementary::ln::ln(x),
+        11 => elementary::ln::powf_1_3(x),
+        12 => cody::d_int(x),
+        13 => cody::smoothened_exponential_of_negative_square(x),
+        14 => cody::smoothened_exponential_of_positive_square(x),
+        15 => cody::ab(x),
+        16 => cody::cd(x),
+        17 => cody::pq(x),
+        18 => cody::erfcx_above_threshold(x),
+        19 => cody::erfc(x),
+        20 => cody::erfcx(x),
+        21 => normal_distribution::standard_normal_cdf(x),
+        22 => normal_distribution::inverse_normal_cdf(x),
+        23 => normal_distribution::inverse_f_upper_map(x),
+        _ => x,
     }
 }
 
