@@ -72,90 +72,46 @@ module _ (x y z : Float) (s : Bool) (hi lo m k : ℕ) (K : Middling k) (M : Mark
   abbrev u : ℕ
   u = k + 254
 
-  upper : (k : ℕ) → 1536 ≤ k → k - 1011 + 1329 ≡ k + 254 + 64
-  upper k h = omega arith
-
-  lower : (k : ℕ) → 1536 ≤ k → k - 1063 + 1329 ≡ k + 254 + 12
-  lower k h = omega arith
-
-  least : (k : ℕ) → 1536 ≤ k → 1330 ≤ k + 254
-  least k h = omega arith
-
-  least' : (k : ℕ) → 1536 ≤ k → 1330 ≤ k + 254 + 64
-  least' k h = omega arith
-
-  most : (k : ℕ) → k < 2559 → k + 254 + 64 ≤ 3375
-  most k h = omega arith
-
   p' : HasValue x s ((2 ^ 52 + hi) * 2 ^ (u + 64)) (2 ^ 2404)
-  p' = subst (λ (w : ℕ). HasValue x s ((2 ^ 52 + hi) * 2 ^ w) (2 ^ 2404)) (upper k (K .low)) p
+  p' = subst (λ (w : ℕ). HasValue x s ((2 ^ 52 + hi) * 2 ^ w) (2 ^ 2404)) (omega arith) p
 
   q' : HasValue y s ((2 ^ 52 + 0x8_0000_0000_0001) * 2 ^ (u + 64)) (2 ^ 2404)
-  q' = subst (λ (w : ℕ). HasValue y s ((2 ^ 52 + 0x8_0000_0000_0001) * 2 ^ w) (2 ^ 2404)) (upper k (K .low)) q
+  q' = subst (λ (w : ℕ). HasValue y s ((2 ^ 52 + 0x8_0000_0000_0001) * 2 ^ w) (2 ^ 2404)) (omega arith) q
 
   r' : HasValue z s ((2 ^ 52 + m) * 2 ^ (u + 12)) (2 ^ 2404)
-  r' = subst (λ (w : ℕ). HasValue z s ((2 ^ 52 + m) * 2 ^ w) (2 ^ 2404)) (lower k (K .low)) r
+  r' = subst (λ (w : ℕ). HasValue z s ((2 ^ 52 + m) * 2 ^ w) (2 ^ 2404)) (omega arith) r
 
   pub placed-up : 2 ^ 51 + 8 ≤ hi → add binary64 (sub binary64 x y) z ≡ round binary64 s (wide (hi - 2 ^ 51) lo * 2 ^ (k + 254)) (2 ^ 2404)
   placed-up g =
       let d = 2 ^ 52 + hi - (2 ^ 52 + 0x8_0000_0000_0001) in
       let t = 2 ^ 52 + m in
       let h = (hi - 2 ^ 51) * 2 ^ 51 in
-      add-at (sub binary64 x y) z s s (d * 2 ^ (u + 64)) (t * 2 ^ (u + 12)) (2 ^ 2404) (pow-pos 2404) (sub-up x y s (2 ^ 52 + hi) (2 ^ 52 + 0x8_0000_0000_0001) (u + 64) (least' k (K .low)) (most k (K .high)) p' q' (above hi g) (small hi H)) r'
+      let joined : d * 2 ^ 64 + t * 2 ^ 12 ≡ h * 2 ^ 13 + m * 2 ^ 12 = omega arith in
+      let whole : h * 2 ^ 13 + lo ≡ wide (hi - 2 ^ 51) lo = omega arith in
+      add-at (sub binary64 x y) z s s (d * 2 ^ (u + 64)) (t * 2 ^ (u + 12)) (2 ^ 2404) (pow-pos 2404) (sub-up x y s (2 ^ 52 + hi) (2 ^ 52 + 0x8_0000_0000_0001) (u + 64) (omega arith) (omega arith) p' q' (omega arith) (omega arith)) r'
       ∙ sum-same binary64 s s (d * 2 ^ (u + 64)) (t * 2 ^ (u + 12)) (2 ^ 2404) (beq-refl s)
       ∙ ap (λ (w : ℕ). round binary64 s (w + t * 2 ^ (u + 12)) (2 ^ 2404)) (shift d u 64)
       ∙ ap (λ (w : ℕ). round binary64 s (d * 2 ^ 64 * 2 ^ u + w) (2 ^ 2404)) (shift t u 12)
       ∙ ap (λ (w : ℕ). round binary64 s w (2 ^ 2404)) (sym (add-mul (d * 2 ^ 64) (t * 2 ^ 12) (2 ^ u)))
-      ∙ ap (λ (w : ℕ). round binary64 s (w * 2 ^ u) (2 ^ 2404)) (join hi m g)
-      ∙ sym (round-alike s 13 (h * 2 ^ 13 + lo) (h * 2 ^ 13 + m * 2 ^ 12) u (least k (K .low)) (plus-alike 12 lo m M h (big hi g)))
-      ∙ ap (λ (w : ℕ). round binary64 s (w * 2 ^ u) (2 ^ 2404)) (whole hi lo)
-    where
-      above : (hi : ℕ) → 2 ^ 51 + 8 ≤ hi → 2 ^ 52 + 0x8_0000_0000_0001 < 2 ^ 52 + hi
-      above hi g = omega arith
-
-      small : (hi : ℕ) → hi < 2 ^ 52 → 2 ^ 52 + hi - (2 ^ 52 + 0x8_0000_0000_0001) < 2 ^ 53
-      small hi h = omega arith
-
-      join : (hi m : ℕ) → 2 ^ 51 + 8 ≤ hi → (2 ^ 52 + hi - (2 ^ 52 + 0x8_0000_0000_0001)) * 2 ^ 64 + (2 ^ 52 + m) * 2 ^ 12 ≡ (hi - 2 ^ 51) * 2 ^ 51 * 2 ^ 13 + m * 2 ^ 12
-      join hi m g = omega arith
-
-      big : (hi : ℕ) → 2 ^ 51 + 8 ≤ hi → 2 ^ 54 ≤ (hi - 2 ^ 51) * 2 ^ 51
-      big hi g = omega arith
-
-      whole : (hi lo : ℕ) → (hi - 2 ^ 51) * 2 ^ 51 * 2 ^ 13 + lo ≡ wide (hi - 2 ^ 51) lo
-      whole hi lo = omega arith
+      ∙ ap (λ (w : ℕ). round binary64 s (w * 2 ^ u) (2 ^ 2404)) joined
+      ∙ sym (round-alike s 13 (h * 2 ^ 13 + lo) (h * 2 ^ 13 + m * 2 ^ 12) u (omega arith) (plus-alike 12 lo m M h (omega arith)))
+      ∙ ap (λ (w : ℕ). round binary64 s (w * 2 ^ u) (2 ^ 2404)) whole
 
   pub placed-down : hi + 9 ≤ 2 ^ 51 → add binary64 (sub binary64 x y) z ≡ round binary64 (not s) (((2 ^ 51 - hi) * 2 ^ 64 - lo) * 2 ^ (k + 254)) (2 ^ 2404)
   placed-down g =
       let d = 2 ^ 52 + 0x8_0000_0000_0001 - (2 ^ 52 + hi) in
       let t = 2 ^ 52 + m in
       let h = (2 ^ 51 - hi) * 2 ^ 51 in
-      add-at (sub binary64 x y) z (not s) s (d * 2 ^ (u + 64)) (t * 2 ^ (u + 12)) (2 ^ 2404) (pow-pos 2404) (sub-down x y s (2 ^ 52 + hi) (2 ^ 52 + 0x8_0000_0000_0001) (u + 64) (least' k (K .low)) (most k (K .high)) p' q' (under hi g) (small hi)) r'
+      let joined : d * 2 ^ 64 - t * 2 ^ 12 ≡ h * 2 ^ 13 - m * 2 ^ 12 = omega arith in
+      let whole : h * 2 ^ 13 - lo ≡ (2 ^ 51 - hi) * 2 ^ 64 - lo = omega arith in
+      add-at (sub binary64 x y) z (not s) s (d * 2 ^ (u + 64)) (t * 2 ^ (u + 12)) (2 ^ 2404) (pow-pos 2404) (sub-down x y s (2 ^ 52 + hi) (2 ^ 52 + 0x8_0000_0000_0001) (u + 64) (omega arith) (omega arith) p' q' (omega arith) (omega arith)) r'
       ∙ ap (λ (w : ℕ). sum binary64 (not s) w s (t * 2 ^ (u + 12)) (2 ^ 2404)) (shift d u 64)
       ∙ ap (λ (w : ℕ). sum binary64 (not s) (d * 2 ^ 64 * 2 ^ u) s w (2 ^ 2404)) (shift t u 12)
-      ∙ sum-more binary64 (not s) s (d * 2 ^ 64 * 2 ^ u) (t * 2 ^ 12 * 2 ^ u) (2 ^ 2404) (not-beq s) (mul-lt-mul-of-pos-right (order hi m g N) (pow-pos u))
+      ∙ sum-more binary64 (not s) s (d * 2 ^ 64 * 2 ^ u) (t * 2 ^ 12 * 2 ^ u) (2 ^ 2404) (not-beq s) (mul-lt-mul-of-pos-right (omega arith) (pow-pos u))
       ∙ ap (λ (w : ℕ). round binary64 (not s) w (2 ^ 2404)) (sym (sub-mul (d * 2 ^ 64) (t * 2 ^ 12) (2 ^ u)))
-      ∙ ap (λ (w : ℕ). round binary64 (not s) (w * 2 ^ u) (2 ^ 2404)) (join hi m g N)
-      ∙ sym (round-alike (not s) 13 (h * 2 ^ 13 - lo) (h * 2 ^ 13 - m * 2 ^ 12) u (least k (K .low)) (minus-alike 12 lo m M h (big hi lo g L)))
-      ∙ ap (λ (w : ℕ). round binary64 (not s) (w * 2 ^ u) (2 ^ 2404)) (whole hi lo)
-    where
-      under : (hi : ℕ) → hi + 9 ≤ 2 ^ 51 → 2 ^ 52 + hi < 2 ^ 52 + 0x8_0000_0000_0001
-      under hi g = omega arith
-
-      small : (hi : ℕ) → 2 ^ 52 + 0x8_0000_0000_0001 - (2 ^ 52 + hi) < 2 ^ 53
-      small hi = omega arith
-
-      order : (hi m : ℕ) → hi + 9 ≤ 2 ^ 51 → m < 2 ^ 52 → (2 ^ 52 + m) * 2 ^ 12 < (2 ^ 52 + 0x8_0000_0000_0001 - (2 ^ 52 + hi)) * 2 ^ 64
-      order hi m g n = omega arith
-
-      join : (hi m : ℕ) → hi + 9 ≤ 2 ^ 51 → m < 2 ^ 52 → (2 ^ 52 + 0x8_0000_0000_0001 - (2 ^ 52 + hi)) * 2 ^ 64 - (2 ^ 52 + m) * 2 ^ 12 ≡ (2 ^ 51 - hi) * 2 ^ 51 * 2 ^ 13 - m * 2 ^ 12
-      join hi m g n = omega arith
-
-      big : (hi lo : ℕ) → hi + 9 ≤ 2 ^ 51 → lo < 2 ^ 64 → 2 ^ 54 + lo / 2 ^ 13 < (2 ^ 51 - hi) * 2 ^ 51
-      big hi lo g l = omega arith
-
-      whole : (hi lo : ℕ) → (2 ^ 51 - hi) * 2 ^ 51 * 2 ^ 13 - lo ≡ (2 ^ 51 - hi) * 2 ^ 64 - lo
-      whole hi lo = omega arith
+      ∙ ap (λ (w : ℕ). round binary64 (not s) (w * 2 ^ u) (2 ^ 2404)) joined
+      ∙ sym (round-alike (not s) 13 (h * 2 ^ 13 - lo) (h * 2 ^ 13 - m * 2 ^ 12) u (omega arith) (minus-alike 12 lo m M h (omega arith)))
+      ∙ ap (λ (w : ℕ). round binary64 (not s) (w * 2 ^ u) (2 ^ 2404)) whole
 
 -- ---- `near`, with p for the product and c for the addend, both by the unit 2 ^ u
 scaled-addend : (n cn : Bool) (p m d u : ℕ) → sum binary64 n (p * 2 ^ u) cn (m * 2 ^ d * 2 ^ u) (2 ^ 2404) ≡ sum binary64 n (p * 2 ^ u) cn (m * 2 ^ (u + d)) (2 ^ 2404)
