@@ -3,7 +3,7 @@ use mathlib.Core.Path.{_≡_, refl, sym, ap, _∙_, subst}
 use mathlib.Core.Logic.{inl, inr}
 use mathlib.Core.Bool.{Bool, true, false, not, true≢false, false≢true}
 use Prim.Native.Nat.{ℕ, suc, _+_, _-_, _*_, _/_, _%_, _^_, _≤_, _<_}
-use native.Mathlib.Nat.{lt-of-lt-of-le, not-le-of-lt, le-of-suc-le-suc, lt-of-not-le, eq-or-lt-of-le, mul-assoc, mul-right-comm, mul-one, lt-of-mul-lt-mul-right, le-of-mul-le-mul-right, mod-lt, mul-mod-left, eq-of-mul-eq-mul-right, lt-irrefl}
+use native.Mathlib.Nat.{lt-of-lt-of-le, not-le-of-lt, le-of-suc-le-suc, lt-of-not-le, eq-or-lt-of-le, mul-assoc, mul-right-comm, lt-of-mul-lt-mul-right, le-of-mul-le-mul-right, mod-lt, mul-mod-left, eq-of-mul-eq-mul-right, lt-irrefl}
 use native.Mathlib.Omega.{arith}
 use lib.Dec.{T, leb, lit<}
 use lib.Pow.{pow-add, pow-pos, pow-mono, shl-lt}
@@ -40,11 +40,11 @@ finite-no (inf s) h = refl
 finite-no (fin s m e) h = absurd (true≢false h)
 
 -- ---- the same value as another fraction
+pub split-power : (q i k l : ℕ) → i ≡ k + l → q * 2 ^ i ≡ q * 2 ^ k * 2 ^ l
+split-power q i k l e = ap (λ (z : ℕ). q * z) (ap (λ (z : ℕ). 2 ^ z) e ∙ pow-add 2 k l) ∙ sym (mul-assoc q (2 ^ k) (2 ^ l))
+
 pub same-power : (q i j k l : ℕ) → i + j ≡ k + l → q * 2 ^ i * 2 ^ j ≡ q * 2 ^ k * 2 ^ l
-same-power q i j k l e =
-    mul-assoc q (2 ^ i) (2 ^ j)
-    ∙ ap (λ (z : ℕ). q * z) (sym (pow-add 2 i j) ∙ ap (λ (z : ℕ). 2 ^ z) e ∙ pow-add 2 k l)
-    ∙ sym (mul-assoc q (2 ^ k) (2 ^ l))
+same-power q i j k l e = sym (split-power q (i + j) i j refl) ∙ split-power q (i + j) k l e
 
 pub same-value : (x : Float) (s : Bool) (a c b d : ℕ) → 0 < c → a * d ≡ b * c → HasValue x s a c → HasValue x s b d
 same-value nan s a c b d P e h = h
@@ -87,7 +87,7 @@ module _ (x : Float) (F : T (fits binary64 x)) where
       let v : HasValue x s (b % 2 ^ 63) (2 ^ 1074) = rw (ofBits-toBits binary64 x F) at (value-low b (under b z)) in
       record {
         value = same-value x s (b % 2 ^ 63) (2 ^ 1074) (m * 2 ^ e) (2 ^ 1138) (pow-pos 1074)
-            (ap (λ (w : ℕ). w * 2 ^ 1138) (small b z) ∙ ap (λ (w : ℕ). t * w) (pow-add 2 64 1074) ∙ sym (mul-assoc t (2 ^ 64) (2 ^ 1074)) ∙ ap (λ (w : ℕ). w * 2 ^ 1074) (sym (L .same))) v;
+            (ap (λ (w : ℕ). w * 2 ^ 1138) (small b z) ∙ split-power t 1138 64 1074 refl ∙ ap (λ (w : ℕ). w * 2 ^ 1074) (sym (L .same))) v;
         whole = ap (λ (w : ℕ). w % 2 ^ 64) (L .same) ∙ mul-mod-left t (2 ^ 64);
         room = L .room;
         digits = L .digits;
@@ -104,7 +104,7 @@ module _ (x : Float) (F : T (fits binary64 x)) where
       let v : HasValue x s ((2 ^ 52 + t) * 2 ^ (f - 1)) (2 ^ 1074) = rw (ofBits-toBits binary64 x F) at (value-mid b (f - 1) (next f p) (less f h)) in
       record {
         value = same-value x s ((2 ^ 52 + t) * 2 ^ (f - 1)) (2 ^ 1074) ((2 ^ 52 + t) * 2 ^ (f + 63)) (2 ^ 1138) (pow-pos 1074) (same-power (2 ^ 52 + t) (f - 1) 1138 (f + 63) 1074 (place f p)) v;
-        whole = ap (λ (w : ℕ). w % 2 ^ 64) (sym (mul-one ((2 ^ 52 + t) * 2 ^ (f + 63))) ∙ same-power (2 ^ 52 + t) (f + 63) 0 (f - 1) 64 (place' f p)) ∙ mul-mod-left ((2 ^ 52 + t) * 2 ^ (f - 1)) (2 ^ 64);
+        whole = ap (λ (w : ℕ). w % 2 ^ 64) (split-power (2 ^ 52 + t) (f + 63) (f - 1) 64 (place' f p)) ∙ mul-mod-left ((2 ^ 52 + t) * 2 ^ (f - 1)) (2 ^ 64);
         room = room b;
         digits = λ _. record { lead = lead t; top = under t (mod-lt b (pow-pos 52)); least = least f; room = room b };
       }
@@ -118,7 +118,7 @@ module _ (x : Float) (F : T (fits binary64 x)) where
       place : (f : ℕ) → 0 < f → f - 1 + 1138 ≡ f + 63 + 1074
       place f p = omega arith
 
-      place' : (f : ℕ) → 0 < f → f + 63 + 0 ≡ f - 1 + 64
+      place' : (f : ℕ) → 0 < f → f + 63 ≡ f - 1 + 64
       place' f p = omega arith
 
       lead : (t : ℕ) → 2 ^ 52 ≤ 2 ^ 52 + t
@@ -152,9 +152,9 @@ far-up t z h L = le-of-suc-le-suc (lt-of-not-le (λ (g : suc z ≤ 12). not-le-o
 
 module _ (t z : ℕ) (h : t < 2 ^ 52) (L : Lead t z) where
   split : t * 2 ^ z ≡ t * 2 ^ (z - 11) * 2 ^ 11
-  split = sym (mul-one (t * 2 ^ z)) ∙ same-power t z 0 (z - 11) 11 (back z (far-up t z h L))
+  split = split-power t z (z - 11) 11 (back z (far-up t z h L))
     where
-      back : (z : ℕ) → 12 ≤ z → z + 0 ≡ z - 11 + 11
+      back : (z : ℕ) → 12 ≤ z → z ≡ z - 11 + 11
       back z g = omega arith
 
   pub up-lead : 2 ^ 52 ≤ t * 2 ^ (z - 11)
@@ -165,12 +165,12 @@ module _ (t z : ℕ) (h : t < 2 ^ 52) (L : Lead t z) where
 
   pub up-lifted : (m : ℕ) → m ≡ t * 2 ^ (z - 11) → Lifted t m (64 - (z - 11))
   up-lifted m e = record {
-    same = ap (λ (w : ℕ). w * 2 ^ (64 - (z - 11))) e ∙ same-power t (z - 11) (64 - (z - 11)) 0 64 (whole z (L .small)) ∙ ap (λ (w : ℕ). w * 2 ^ 64) (mul-one t);
+    same = ap (λ (w : ℕ). w * 2 ^ (64 - (z - 11))) e ∙ sym (split-power t 64 (z - 11) (64 - (z - 11)) (whole z (L .small)));
     room = small z;
     digits = λ _. record { lead = rw e up-lead; top = rw e up-top; least = least z (L .small); room = small z };
   }
     where
-      whole : (z : ℕ) → z < 64 → z - 11 + (64 - (z - 11)) ≡ 0 + 64
+      whole : (z : ℕ) → z < 64 → 64 ≡ z - 11 + (64 - (z - 11))
       whole z g = omega arith
 
       least : (z : ℕ) → z < 64 → 12 ≤ 64 - (z - 11)

@@ -1,7 +1,7 @@
 -- What ln's tests leave over is finite and above 0. Assumes nothing.
 use mathlib.Core.Path.{_≡_, sym, ap, _∙_, subst}
 use mathlib.Core.Bool.{Bool, true, false, true≢false}
-use Prim.Native.Nat.{ℕ, zero, suc, _+_, _*_, _^_, _≤_, _<_}
+use Prim.Native.Nat.{ℕ, zero, suc, _+_, _*_, _^_, _<_}
 use native.Mathlib.Nat.{zero-mul, zero-lt-suc, mul-pos}
 use native.Mathlib.Omega.{arith}
 use borrow.Author.Tests.{ltb-false}

@@ -3,15 +3,15 @@ use mathlib.Core.Path.{_≡_, refl, sym, ap, _∙_, subst}
 use mathlib.Core.Logic.{inl, inr}
 use mathlib.Core.Bool.{Bool, true, false, not, Bool·beq, true≢false, false≢true}
 use Prim.Native.Nat.{ℕ, _+_, _-_, _*_, _/_, _%_, _^_, _≤_, _<_}
-use native.Mathlib.Nat.{lt-of-lt-of-le, mod-lt, mul-le-mul, mul-assoc, mul-comm, mul-left-comm, mul-lt-mul-of-pos-right, add-mul, add-comm}
+use native.Mathlib.Nat.{lt-of-lt-of-le, mod-lt, mul-le-mul, mul-lt-mul-of-pos-right, add-mul, add-comm}
 use native.Mathlib.Omega.{arith}
 use lib.Dec.{T, leb}
-use lib.Pow.{pow-add, pow-pos, pow-mono, shl-lt}
-use lib.Ieee.{Float, nan, inf, fin, binary64, low, toBits, fits, isNan, eq, add, sub, mul, sum, round, unlike}
+use lib.Pow.{pow-pos, pow-mono, shl-lt}
+use lib.Ieee.{Float, nan, inf, fin, binary64, toBits, fits, isNan, eq, add, sub, mul, sum, round, unlike}
 use lib.Ieee.Exact.{HasValue, round-exact}
 use Rattle.elementary.specs.Round.{wide, Decoded}
 use Rattle.elementary.specs.MulAdd.Steps.{Marked, Middling, Opened}
-use Rattle.elementary.proofs.Decode.{same-power, same-value, normal-value}
+use Rattle.elementary.proofs.Decode.{split-power, same-power, same-value, normal-value}
 use Rattle.elementary.proofs.mul_add.Sums.{sum-same, sum-more}
 use Rattle.elementary.proofs.Adding.{sub-mul, add-at, sub-at}
 use Rattle.elementary.specs.MulAdd.{fma}
@@ -29,20 +29,8 @@ not-beq false = refl
 
 pub exact : (s : Bool) (q e : ℕ) → q < 2 ^ 53 → 1330 ≤ e → e ≤ 3375 → HasValue (round binary64 s (q * 2 ^ e) (2 ^ 2404)) s (q * 2 ^ e) (2 ^ 2404)
 exact s q e Q lo hi =
-    round-exact binary64 s (q * 2 ^ e) (2 ^ 2404) q (e - 1330) (pow-pos 2404) Q (lt-of-lt-of-le (shl-lt 53 (e - 1330) Q) (pow-mono (room e hi)))
-    (ap (λ (z : ℕ). q * 2 ^ z * 2 ^ 1074) (back e lo)
-    ∙ ap (λ (z : ℕ). q * z * 2 ^ 1074) (pow-add 2 (e - 1330) 1330)
-    ∙ turn q (2 ^ (e - 1330)) (2 ^ 1330) (2 ^ 1074)
-    ∙ ap (λ (z : ℕ). q * 2 ^ (e - 1330) * z) (sym (pow-add 2 1330 1074)))
-  where
-    room : (e : ℕ) → e ≤ 3375 → 53 + (e - 1330) ≤ 2098
-    room e h = omega arith
-
-    back : (e : ℕ) → 1330 ≤ e → e ≡ e - 1330 + 1330
-    back e h = omega arith
-
-    turn : (a x y z : ℕ) → a * (x * y) * z ≡ a * x * (y * z)
-    turn a x y z = simp (mul-assoc, mul-comm, mul-left-comm)
+    round-exact binary64 s (q * 2 ^ e) (2 ^ 2404) q (e - 1330) (pow-pos 2404) Q (lt-of-lt-of-le (shl-lt 53 (e - 1330) Q) (pow-mono {i = 53 + (e - 1330)} {j = 2098} (omega arith)))
+    (same-power q e 1074 (e - 1330) 2404 (omega arith))
 
 module _ (x y : Float) (s : Bool) (a b e : ℕ) (lo : 1330 ≤ e) (hi : e ≤ 3375) (p : HasValue x s (a * 2 ^ e) (2 ^ 2404)) (q : HasValue y s (b * 2 ^ e) (2 ^ 2404)) where
   pub sub-up : b < a → a - b < 2 ^ 53 → HasValue (sub binary64 x y) s ((a - b) * 2 ^ e) (2 ^ 2404)
@@ -63,7 +51,7 @@ module _ (x y : Float) (s : Bool) (a b e : ℕ) (lo : 1330 ≤ e) (hi : e ≤ 33
       (exact (not s) (b - a) e u lo hi)
 
 pub shift : (q u j : ℕ) → q * 2 ^ (u + j) ≡ q * 2 ^ j * 2 ^ u
-shift q u j = ap (λ (z : ℕ). q * z) (pow-add 2 u j ∙ mul-comm (2 ^ u) (2 ^ j)) ∙ sym (mul-assoc q (2 ^ j) (2 ^ u))
+shift q u j = split-power q (u + j) j u (add-comm u j)
 
 -- ---- `placed`
 module _ (x y z : Float) (s : Bool) (hi lo m k : ℕ) (K : Middling k) (M : Marked 13 lo m) (L : lo < 2 ^ 64) (N : m < 2 ^ 52) (H : hi < 2 ^ 52)
@@ -162,49 +150,23 @@ module _ (c x y : Float) (n cn : Bool) (p m d k r : ℕ) (K : Middling k) (M : M
   abbrev h : ℕ
   h = m * 2 ^ (d - 55)
 
-  place : (k : ℕ) → 1536 ≤ k → k - 1021 + 1329 ≡ k + 254 + 54
-  place k g = omega arith
-
-  low-unit : (k : ℕ) → 1536 ≤ k → 1330 ≤ k + 254
-  low-unit k g = omega arith
-
-  low-place : (k : ℕ) → 1536 ≤ k → 1330 ≤ k + 254 + 54
-  low-place k g = omega arith
-
-  high-place : (k : ℕ) → k < 2559 → k + 254 + 54 ≤ 3375
-  high-place k g = omega arith
-
-  some-digits : (r p : ℕ) → r / 2 ≡ p / 2 ^ 55 → 2 ^ 104 ≤ p → 2 ^ 52 + 0 < 2 ^ 52 + r
-  some-digits r p e l = omega arith
-
-  few-digits : (r : ℕ) → r < 2 ^ 52 → 2 ^ 52 + r - (2 ^ 52 + 0) < 2 ^ 53
-  few-digits r l = omega arith
-
-  less-lead : (r : ℕ) → 2 ^ 52 + r - (2 ^ 52 + 0) ≡ r
-  less-lead r = omega arith
-
   W : HasValue (sub binary64 x y) n (r * 2 ^ (v + 54)) (2 ^ 2404)
   W =
-      subst (λ (w : ℕ). HasValue (sub binary64 x y) n (w * 2 ^ (v + 54)) (2 ^ 2404)) (less-lead r)
-      (sub-up x y n (2 ^ 52 + r) (2 ^ 52 + 0) (v + 54) (low-place k (K .low)) (high-place k (K .high))
-      (subst (λ (w : ℕ). HasValue x n ((2 ^ 52 + r) * 2 ^ w) (2 ^ 2404)) (place k (K .low)) X)
-      (subst (λ (w : ℕ). HasValue y n ((2 ^ 52 + 0) * 2 ^ w) (2 ^ 2404)) (place k (K .low)) Y)
-      (some-digits r p (M .whole) lo) (few-digits r R))
+      subst (λ (w : ℕ). HasValue (sub binary64 x y) n (w * 2 ^ (v + 54)) (2 ^ 2404)) (omega arith)
+      (sub-up x y n (2 ^ 52 + r) (2 ^ 52 + 0) (v + 54) (omega arith) (omega arith)
+      (subst (λ (w : ℕ). HasValue x n ((2 ^ 52 + r) * 2 ^ w) (2 ^ 2404)) (omega arith) X)
+      (subst (λ (w : ℕ). HasValue y n ((2 ^ 52 + 0) * 2 ^ w) (2 ^ 2404)) (omega arith) Y)
+      (omega arith) (omega arith))
 
   high-digits : m * 2 ^ (v + d) ≡ h * 2 ^ 55 * 2 ^ v
-  high-digits = shift m v d ∙ ap (λ (w : ℕ). w * 2 ^ v) (ap (λ (w : ℕ). m * 2 ^ w) (back d D) ∙ ap (λ (w : ℕ). m * w) (pow-add 2 (d - 55) 55) ∙ sym (mul-assoc m (2 ^ (d - 55)) (2 ^ 55)))
-    where
-      back : (d : ℕ) → 62 ≤ d → d ≡ d - 55 + 55
-      back d g = omega arith
+  high-digits = shift m v d ∙ ap (λ (w : ℕ). w * 2 ^ v) (split-power m d (d - 55) 55 (omega arith))
 
   h-large : 2 ^ 59 ≤ h
-  h-large = mul-le-mul L (pow-mono (seven d D))
-    where
-      seven : (d : ℕ) → 62 ≤ d → 7 ≤ d - 55
-      seven d g = omega arith
+  h-large = mul-le-mul L (pow-mono {i = 7} {j = d - 55} (omega arith))
 
   pub beyond-is : add binary64 c (sub binary64 x y) ≡ sum binary64 n (p * 2 ^ (k + 254)) cn (m * 2 ^ (k + 254 + d)) (2 ^ 2404)
   beyond-is =
+      let l = h-large in
       add-at c (sub binary64 x y) cn n (m * 2 ^ (v + d)) (r * 2 ^ (v + 54)) (2 ^ 2404) (pow-pos 2404) C W
       ∙ ap (λ (w : ℕ). sum binary64 cn w n (r * 2 ^ (v + 54)) (2 ^ 2404)) high-digits
       ∙ ap (λ (w : ℕ). sum binary64 cn (h * 2 ^ 55 * 2 ^ v) n w (2 ^ 2404)) (shift r v 54)
@@ -212,30 +174,18 @@ module _ (c x y : Float) (n cn : Bool) (p m d k r : ℕ) (K : Middling k) (M : M
         | inl e ↦
             sum-same binary64 cn n (h * 2 ^ 55 * 2 ^ v) (r * 2 ^ 54 * 2 ^ v) (2 ^ 2404) (e .0)
             ∙ ap (λ (w : ℕ). round binary64 cn w (2 ^ 2404)) (sym (add-mul (h * 2 ^ 55) (r * 2 ^ 54) (2 ^ v)))
-            ∙ sym (round-alike cn 55 (h * 2 ^ 55 + p) (h * 2 ^ 55 + r * 2 ^ 54) v (low-unit k (K .low)) (plus-alike 54 p r M h (large h h-large)))
+            ∙ sym (round-alike cn 55 (h * 2 ^ 55 + p) (h * 2 ^ 55 + r * 2 ^ 54) v (omega arith) (plus-alike 54 p r M h (omega arith)))
             ∙ ap (λ (w : ℕ). round binary64 cn w (2 ^ 2404)) (add-mul (h * 2 ^ 55) p (2 ^ v))
             ∙ sym (sum-same binary64 cn n (h * 2 ^ 55 * 2 ^ v) (p * 2 ^ v) (2 ^ 2404) (e .0))
         | inr e ↦
-            sum-more binary64 cn n (h * 2 ^ 55 * 2 ^ v) (r * 2 ^ 54 * 2 ^ v) (2 ^ 2404) (e .0) (mul-lt-mul-of-pos-right (less h r h-large R) (pow-pos v))
+            sum-more binary64 cn n (h * 2 ^ 55 * 2 ^ v) (r * 2 ^ 54 * 2 ^ v) (2 ^ 2404) (e .0) (mul-lt-mul-of-pos-right (omega arith) (pow-pos v))
             ∙ ap (λ (w : ℕ). round binary64 cn w (2 ^ 2404)) (sym (sub-mul (h * 2 ^ 55) (r * 2 ^ 54) (2 ^ v)))
-            ∙ sym (round-alike cn 55 (h * 2 ^ 55 - p) (h * 2 ^ 55 - r * 2 ^ 54) v (low-unit k (K .low)) (minus-alike 54 p r M h (larger h p h-large hi)))
+            ∙ sym (round-alike cn 55 (h * 2 ^ 55 - p) (h * 2 ^ 55 - r * 2 ^ 54) v (omega arith) (minus-alike 54 p r M h (omega arith)))
             ∙ ap (λ (w : ℕ). round binary64 cn w (2 ^ 2404)) (sub-mul (h * 2 ^ 55) p (2 ^ v))
-            ∙ sym (sum-more binary64 cn n (h * 2 ^ 55 * 2 ^ v) (p * 2 ^ v) (2 ^ 2404) (e .0) (mul-lt-mul-of-pos-right (over h p h-large hi) (pow-pos v)))
+            ∙ sym (sum-more binary64 cn n (h * 2 ^ 55 * 2 ^ v) (p * 2 ^ v) (2 ^ 2404) (e .0) (mul-lt-mul-of-pos-right (omega arith) (pow-pos v)))
       ]
       ∙ ap (λ (w : ℕ). sum binary64 cn w n (p * 2 ^ v) (2 ^ 2404)) (sym high-digits)
       ∙ sum-comm binary64 cn n (m * 2 ^ (v + d)) (p * 2 ^ v) (2 ^ 2404)
-    where
-      large : (h : ℕ) → 2 ^ 59 ≤ h → 2 ^ 54 ≤ h
-      large h l = omega arith
-
-      less : (h r : ℕ) → 2 ^ 59 ≤ h → r < 2 ^ 52 → r * 2 ^ 54 < h * 2 ^ 55
-      less h r l g = omega arith
-
-      larger : (h p : ℕ) → 2 ^ 59 ≤ h → p < 2 ^ 106 → 2 ^ 54 + p / 2 ^ 55 < h
-      larger h p l g = omega arith
-
-      over : (h p : ℕ) → 2 ^ 59 ≤ h → p < 2 ^ 106 → p < h * 2 ^ 55
-      over h p l g = omega arith
 
 -- ---- `opened`
 module _ (x : Float) (F : T (fits binary64 x)) where
@@ -319,7 +269,7 @@ module _ (f h : ℕ) (l : f < h + 1075) where
       ends e = omega arith
 
   addend-is : (m : ℕ) → m * 2 ^ spot ≡ m * 2 ^ (h + 63) * (2 ^ 128 * 2 ^ 1138)
-  addend-is m = ap (λ (w : ℕ). m * 2 ^ w) as-shifted ∙ ap (λ (w : ℕ). m * w) (pow-add 2 (h + 63) 1266) ∙ sym (mul-assoc m (2 ^ (h + 63)) (2 ^ 1266)) ∙ ap (λ (w : ℕ). m * 2 ^ (h + 63) * w) (pow-add 2 128 1138)
+  addend-is m = split-power m spot (h + 63) 1266 as-shifted
 
 product-is : (a b i j : ℕ) → a * b * 2 ^ (i + j + 254) ≡ a * 2 ^ (i + 63) * (b * 2 ^ (j + 63)) * 2 ^ 128
 product-is a b i j = ap (λ (w : ℕ). a * b * 2 ^ w) (sums i j) ∙ product-form a b (i + 63) (j + 63)

@@ -3,7 +3,7 @@ use mathlib.Core.Path.{_≡_, refl, sym, ap, _∙_, subst}
 use mathlib.Core.Logic.{inl, inr}
 use mathlib.Core.Bool.{Bool, true, false, _&&_, Bool·beq, cond}
 use Prim.Native.Nat.{ℕ, zero, suc, _+_, _-_, _*_, _/_, _%_, _^_, _≤_, _<_}
-use native.Mathlib.Nat.{le-trans, le-of-eq, le-of-lt, lt-of-lt-of-le, not-le-of-lt, eq-or-lt-of-le, eq-zero-or-pos, lt-irrefl, mul-assoc, mul-comm, mul-left-comm, mul-pos, mul-le-mul-right, mul-lt-mul-of-pos-right, div-add-mod', add-mul, suc-mul, zero-mul, mod-lt, mul-div-mul-right, add-zero, mul-add-div-right, mul-add-mod-self-right}
+use native.Mathlib.Nat.{add-comm, le-trans, le-of-eq, le-of-lt, lt-of-lt-of-le, not-le-of-lt, eq-or-lt-of-le, eq-zero-or-pos, lt-irrefl, mul-assoc, mul-comm, mul-left-comm, mul-pos, mul-le-mul-right, mul-lt-mul-of-pos-right, div-add-mod', add-mul, suc-mul, zero-mul, mod-lt, mul-div-mul-right, add-zero, mul-add-div-right, mul-add-mod-self-right}
 use native.Mathlib.Omega.{arith}
 use lib.Dec.{T, ltb, lt→ltb, ltb→lt, not-T, lit≤}
 use lib.Arith.{digits-div, digits-mod}
@@ -13,6 +13,7 @@ use lib.Ieee.Bits.{is-true, is-false}
 use Rattle.elementary.specs.Round.{Cut, Same}
 use Rattle.elementary.proofs.Leaf.{mul-mod-mul, zero-of-mul}
 use Rattle.elementary.proofs.Adding.{sub-mul}
+use Rattle.elementary.proofs.Decode.{split-power}
 
 -- ---- `sum` by its cases
 pub sum-same : (f : Format) (s t : Bool) (a b c : ℕ) → Bool·beq s t ≡ true → sum f s a t b c ≡ round f s (a + b) c
@@ -79,7 +80,7 @@ scale-pos (suc v) q h = is-true (ltb 0 (suc v * q)) (lt→ltb 0 (suc v * q) (mul
 
 -- l * 2 ^ (e + d), where x is l * 2 ^ d
 raise : (l x d e : ℕ) → x ≡ l * 2 ^ d → l * 2 ^ (e + d) ≡ x * 2 ^ e
-raise l x d e h = ap (λ (z : ℕ). l * z) (pow-add 2 e d) ∙ mul-left-comm l (2 ^ e) (2 ^ d) ∙ mul-comm (2 ^ e) (l * 2 ^ d) ∙ ap (λ (z : ℕ). z * 2 ^ e) (sym h)
+raise l x d e h = split-power l (e + d) d e (add-comm e d) ∙ ap (λ (z : ℕ). z * 2 ^ e) (sym h)
 
 module _ (f : Format) (s t : Bool) (l x y v d e c : ℕ) (X : x ≡ l * 2 ^ d) where
   at-unit : sum f s (x * 2 ^ e) t (y * 2 ^ e) c ≡ sum f s (l * 2 ^ (e + d)) t (y * 2 ^ e) c
@@ -182,7 +183,7 @@ module _ (l s d e : ℕ) (D : d ≤ e) where
       back h = omega arith
 
   higher : l * 2 ^ e ≡ l * 2 ^ d * 2 ^ (e - d)
-  higher = ap (λ (z : ℕ). l * z) unit ∙ sym (mul-assoc l (2 ^ d) (2 ^ (e - d)))
+  higher = split-power l e d (e - d) (omega arith)
 
   pub far-plus : {v x : ℕ} (T : ℕ) → 0 < T → Cut (l * 2 ^ d + s) (2 ^ d) v x → Cut ((l * 2 ^ e + s * 2 ^ (e - d)) * T) (T * 2 ^ e) v x
   far-plus T t C =
