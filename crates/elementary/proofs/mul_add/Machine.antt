@@ -3,14 +3,14 @@ use mathlib.Core.Path.{_≡_, refl, sym, ap, _∙_, subst}
 use mathlib.Core.Logic.{inl, inr}
 use mathlib.Core.Bool.{Bool, true, false, not, Bool·beq, true≢false, false≢true}
 use Prim.Native.Nat.{ℕ, _+_, _-_, _*_, _/_, _%_, _^_, _≤_, _<_}
-use native.Mathlib.Nat.{lt-of-lt-of-le, mod-lt, mul-le-mul, mul-lt-mul-of-pos-right, add-mul, add-comm}
+use native.Mathlib.Nat.{lt-of-lt-of-le, mul-le-mul, mul-lt-mul-of-pos-right, add-mul, add-comm}
 use native.Mathlib.Omega.{arith}
 use lib.Dec.{T, leb}
 use lib.Pow.{pow-pos, pow-mono, shl-lt}
 use lib.Ieee.{Float, nan, inf, fin, binary64, toBits, fits, isNan, eq, add, sub, mul, sum, round, unlike}
 use lib.Ieee.Exact.{HasValue, round-exact}
 use Rattle.elementary.specs.Round.{wide, Decoded}
-use Rattle.elementary.specs.MulAdd.Steps.{Marked, Middling, Opened}
+use Rattle.elementary.specs.MulAdd.Steps.{Marked, Middling, Opened, Apart}
 use Rattle.elementary.proofs.Decode.{split-power, same-power, same-value, normal-value}
 use Rattle.elementary.proofs.mul_add.Sums.{sum-same, sum-more}
 use Rattle.elementary.proofs.Adding.{sub-mul, add-at, sub-at}
@@ -118,7 +118,7 @@ other-sign false true e = (refl, refl)
 other-sign false false e = absurd (true≢false e)
 
 module _ (n cn : Bool) (p m d u : ℕ) where
-  pub near-same : Bool·beq n cn ≡ true → round binary64 cn ((m * 2 ^ d + p) * 2 ^ u) (2 ^ 2404) ≡ sum binary64 n (p * 2 ^ u) cn (m * 2 ^ (u + d)) (2 ^ 2404)
+  near-same : Bool·beq n cn ≡ true → round binary64 cn ((m * 2 ^ d + p) * 2 ^ u) (2 ^ 2404) ≡ sum binary64 n (p * 2 ^ u) cn (m * 2 ^ (u + d)) (2 ^ 2404)
   near-same e =
       ap (λ (b : Bool). round binary64 b ((m * 2 ^ d + p) * 2 ^ u) (2 ^ 2404)) (same-sign n cn e)
       ∙ ap (λ (w : ℕ). round binary64 n (w * 2 ^ u) (2 ^ 2404)) (add-comm (m * 2 ^ d) p)
@@ -126,19 +126,46 @@ module _ (n cn : Bool) (p m d u : ℕ) where
       ∙ sym (sum-same binary64 n cn (p * 2 ^ u) (m * 2 ^ d * 2 ^ u) (2 ^ 2404) e)
       ∙ scaled-addend n cn p m d u
 
-  pub near-more : Bool·beq n cn ≡ false → m * 2 ^ d < p → round binary64 (not cn) ((p - m * 2 ^ d) * 2 ^ u) (2 ^ 2404) ≡ sum binary64 n (p * 2 ^ u) cn (m * 2 ^ (u + d)) (2 ^ 2404)
+  near-more : Bool·beq n cn ≡ false → m * 2 ^ d < p → round binary64 (not cn) ((p - m * 2 ^ d) * 2 ^ u) (2 ^ 2404) ≡ sum binary64 n (p * 2 ^ u) cn (m * 2 ^ (u + d)) (2 ^ 2404)
   near-more e l =
       ap (λ (b : Bool). round binary64 b ((p - m * 2 ^ d) * 2 ^ u) (2 ^ 2404)) (other-sign n cn e .0)
       ∙ ap (λ (w : ℕ). round binary64 n w (2 ^ 2404)) (sub-mul p (m * 2 ^ d) (2 ^ u))
       ∙ sym (sum-more binary64 n cn (p * 2 ^ u) (m * 2 ^ d * 2 ^ u) (2 ^ 2404) e (mul-lt-mul-of-pos-right l (pow-pos u)))
       ∙ scaled-addend n cn p m d u
 
-  pub near-less : Bool·beq n cn ≡ false → p < m * 2 ^ d → round binary64 cn ((m * 2 ^ d - p) * 2 ^ u) (2 ^ 2404) ≡ sum binary64 n (p * 2 ^ u) cn (m * 2 ^ (u + d)) (2 ^ 2404)
+  near-less : Bool·beq n cn ≡ false → p < m * 2 ^ d → round binary64 cn ((m * 2 ^ d - p) * 2 ^ u) (2 ^ 2404) ≡ sum binary64 n (p * 2 ^ u) cn (m * 2 ^ (u + d)) (2 ^ 2404)
   near-less e l =
       ap (λ (w : ℕ). round binary64 cn w (2 ^ 2404)) (sub-mul (m * 2 ^ d) p (2 ^ u))
       ∙ sym (sum-more binary64 cn n (m * 2 ^ d * 2 ^ u) (p * 2 ^ u) (2 ^ 2404) (other-sign n cn e .1) (mul-lt-mul-of-pos-right l (pow-pos u)))
       ∙ sum-comm binary64 cn n (m * 2 ^ d * 2 ^ u) (p * 2 ^ u) (2 ^ 2404)
       ∙ scaled-addend n cn p m d u
+
+-- v stands for 2 ^ 115 plus the sum, and is turned back
+module _ (n cn : Bool) (p m d u vh vl : ℕ) (S : Bool·beq n cn ≡ true → wide vh vl ≡ 2 ^ 115 + (m * 2 ^ d + p)) (O : Bool·beq n cn ≡ false → wide vh vl + p ≡ 2 ^ 115 + m * 2 ^ d) where
+  pub near-top : m * 2 ^ d < 2 ^ 114 → p < 2 ^ 106 → vh < 2 ^ 52
+  near-top t h = elim (beq-cases n cn) [
+    | inl e ↦ let v = S (e .0) in omega arith
+    | inr e ↦ let v = O (e .0) in omega arith
+  ]
+
+  pub near-is : (r : Float) → vl < 2 ^ 64 → Apart vh → (2 ^ 51 ≤ vh → r ≡ round binary64 cn (wide (vh - 2 ^ 51) vl * 2 ^ u) (2 ^ 2404)) → (vh < 2 ^ 51 → r ≡ round binary64 (not cn) (((2 ^ 51 - vh) * 2 ^ 64 - vl) * 2 ^ u) (2 ^ 2404))
+      → r ≡ sum binary64 n (p * 2 ^ u) cn (m * 2 ^ (u + d)) (2 ^ 2404)
+  near-is r L A f g = elim (beq-cases n cn) [
+    | inl e ↦ let v = S (e .0) in elim (A .off) [
+      | inl q ↦
+          let w : wide (vh - 2 ^ 51) vl ≡ m * 2 ^ d + p = omega arith in
+          f (omega arith) ∙ ap (λ (z : ℕ). round binary64 cn (z * 2 ^ u) (2 ^ 2404)) w ∙ near-same n cn p m d u (e .0)
+      | inr q ↦ absurd (omega arith)
+    ]
+    | inr e ↦ let v = O (e .0) in elim (A .off) [
+      | inl q ↦
+          let w : wide (vh - 2 ^ 51) vl ≡ m * 2 ^ d - p = omega arith in
+          f (omega arith) ∙ ap (λ (z : ℕ). round binary64 cn (z * 2 ^ u) (2 ^ 2404)) w ∙ near-less n cn p m d u (e .0) (omega arith)
+      | inr q ↦
+          let w : (2 ^ 51 - vh) * 2 ^ 64 - vl ≡ p - m * 2 ^ d = omega arith in
+          g (omega arith) ∙ ap (λ (z : ℕ). round binary64 (not cn) (z * 2 ^ u) (2 ^ 2404)) w ∙ near-more n cn p m d u (e .0) (omega arith)
+    ]
+  ]
 
 -- ---- `beyond`, with p for the product and r for its leading digits
 module _ (c x y : Float) (n cn : Bool) (p m d k r : ℕ) (K : Middling k) (M : Marked 55 p r) (R : r < 2 ^ 52) (D : 62 ≤ d) (L : 2 ^ 52 ≤ m) (lo : 2 ^ 104 ≤ p) (hi : p < 2 ^ 106)
@@ -193,21 +220,7 @@ module _ (x : Float) (F : T (fits binary64 x)) where
   b = toBits binary64 x
 
   pub opened-is : Opened x (leb (2 ^ 63) b) (2 ^ 52 + b % 2 ^ 52) (b % 2 ^ 63 / 2 ^ 52)
-  opened-is = record {
-    lead = lead (b % 2 ^ 52);
-    top = top (b % 2 ^ 52) (mod-lt b (pow-pos 52));
-    field = field b;
-    value = normal-value x F;
-  }
-    where
-      lead : (t : ℕ) → 2 ^ 52 ≤ 2 ^ 52 + t
-      lead t = omega arith
-
-      top : (t : ℕ) → t < 2 ^ 52 → 2 ^ 52 + t < 2 ^ 53
-      top t h = omega arith
-
-      field : (b : ℕ) → b % 2 ^ 63 / 2 ^ 52 < 2 ^ 11
-      field b = omega arith
+  opened-is = record { lead = omega arith; top = omega arith; field = omega arith; value = normal-value x F }
 
 -- ---- no operand is a NaN where the plain result is none
 eq-nan : (x : Float) → eq x x ≡ true → T (not (isNan x))
