@@ -276,19 +276,13 @@ module _ (f h : ℕ) (l : f < h + 1075) where
   as-shifted = omega arith
 
   pub addend-value : (x : Float) (s : Bool) (m : ℕ) → Decoded x s m (h + 63) → HasValue x s (m * 2 ^ spot) (2 ^ 2404)
-  addend-value x s m A = same-value x s (m * 2 ^ (h + 63)) (2 ^ 1138) (m * 2 ^ spot) (2 ^ 2404) (pow-pos 1138) (same-power m (h + 63) 2404 spot 1138 (ends as-shifted)) (A .value)
-    where
-      ends : {p : ℕ} → p ≡ h + 63 + 1266 → h + 63 + 2404 ≡ p + 1138
-      ends e = omega arith
+  addend-value x s m A = same-value x s (m * 2 ^ (h + 63)) (2 ^ 1138) (m * 2 ^ spot) (2 ^ 2404) (pow-pos 1138) (same-power m (h + 63) 2404 spot 1138 (omega arith)) (A .value)
 
   addend-is : (m : ℕ) → m * 2 ^ spot ≡ m * 2 ^ (h + 63) * (2 ^ 128 * 2 ^ 1138)
   addend-is m = split-power m spot (h + 63) 1266 as-shifted
 
 product-is : (a b i j : ℕ) → a * b * 2 ^ (i + j + 254) ≡ a * 2 ^ (i + 63) * (b * 2 ^ (j + 63)) * 2 ^ 128
-product-is a b i j = ap (λ (w : ℕ). a * b * 2 ^ w) (sums i j) ∙ product-form a b (i + 63) (j + 63)
-  where
-    sums : (i j : ℕ) → i + j + 254 ≡ i + 63 + (j + 63) + 128
-    sums i j = omega arith
+product-is a b i j = ap (λ (w : ℕ). a * b * 2 ^ w) (omega arith) ∙ product-form a b (i + 63) (j + 63)
 
 pub fma-is : (x y z : Float) (s t v : Bool) (a b c i j h p : ℕ) → i + j < h + 1075 → Decoded x s a (i + 63) → Decoded y t b (j + 63) → Decoded z v c (h + 63) → p ≡ a * b
     → sum binary64 (unlike s t) (p * 2 ^ (i + j + 254)) v (c * 2 ^ (i + j + 254 + (h + 1075 - (i + j)))) (2 ^ 2404) ≡ fma binary64 x y z
