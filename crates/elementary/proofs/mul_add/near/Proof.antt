@@ -1,4 +1,4 @@
--- `mul_add::near` meets its contract. Assumes nothing.
+-- `mul_add::near` meets its contract: the 115 digits hold the sum, which `placed` rounds (Machine). Assumes nothing.
 use mathlib.Core.Path.{_≡_, refl, sym, ap, _∙_, subst}
 use mathlib.Core.Bool.{Bool, true, false, not, cond, Bool·beq, false≢true}
 use Prim.Native.Nat.{ℕ, zero, suc, _+_, _*_, _%_, _^_, _≤_, _<_}
@@ -14,8 +14,6 @@ use Rattle.elementary.proofs.mul_add.near.Statement.{statement}
 use Rattle.elementary.proofs.mul_add.near.Tie as tie
 
 -- ---- the addend shifted
-alone : (m : ℕ) → wide 0 m ≡ m
-alone m = omega arith
 
 addend-lt : (m d : ℕ) → m < 2 ^ 53 → d < 62 → m * 2 ^ d < 2 ^ 114
 addend-lt m d h k = lt-of-lt-of-le (shl-lt 53 d h) (pow-mono (room d k))
@@ -24,7 +22,7 @@ addend-lt m d h k = lt-of-lt-of-le (shl-lt 53 d h) (pow-mono (room d k))
     room d k = omega arith
 
 addend-is : (c : tie.After-left-wide) → wide (c .left-wide .result .hi) (c .left-wide .result .lo) ≡ c .before .args .m * 2 ^ c .before .args .d
-addend-is c = c .left-wide .ensures ∙ ap (λ (z : ℕ). z * 2 ^ c .before .args .d) (alone (c .before .args .m))
+addend-is c = c .left-wide .ensures ∙ ap (λ (z : ℕ). z * 2 ^ c .before .args .d) (omega arith)
 
 small : (c : tie.After-left-wide) → c .before .args .m * 2 ^ c .before .args .d < 2 ^ 114
 small c = addend-lt (c .before .args .m) (c .before .args .d) (c .before .pre .0 .top) (c .before .pre .1 .1)
@@ -102,7 +100,7 @@ module _ (c : tie.After-add-wide) where
   other e = other-total p y o t v (c .before .before .before .turned .ensures .turn (ap not e)) (c .before .before .one-if .ensures ∙ ap (λ (b : Bool). cond (not b) 1 0) e) v-is
 
 left-wide-requires : tie.Need-left-wide-requires
-left-wide-requires c κs = (close (c .args .d) (c .pre .1 .1), subst (λ (z : ℕ). z * 2 ^ c .args .d < 2 ^ 128) (sym (alone (c .args .m))) (lt-of-lt-of-le (addend-lt (c .args .m) (c .args .d) (c .pre .0 .top) (c .pre .1 .1)) (lit≤ tt)))
+left-wide-requires c κs = (close (c .args .d) (c .pre .1 .1), subst (λ (z : ℕ). z * 2 ^ c .args .d < 2 ^ 128) (sym (omega arith)) (lt-of-lt-of-le (addend-lt (c .args .m) (c .args .d) (c .pre .0 .top) (c .pre .1 .1)) (lit≤ tt)))
 
 turned-requires : tie.Need-turned-requires
 turned-requires c κs = high-word (c .before .args .ph) (c .before .args .pl) (c .before .pre .0 .large .high)
