@@ -3,7 +3,7 @@ use mathlib.Core.Path.{_≡_, refl, sym, ap, _∙_, subst}
 use mathlib.Core.Logic.{inl, inr}
 use mathlib.Core.Bool.{Bool, true, false, not, true≢false, false≢true}
 use Prim.Native.Nat.{ℕ, suc, _+_, _-_, _*_, _/_, _%_, _^_, _≤_, _<_}
-use native.Mathlib.Nat.{lt-of-lt-of-le, not-le-of-lt, le-of-suc-le-suc, lt-of-not-le, eq-or-lt-of-le, mul-assoc, mul-right-comm, mul-one, lt-of-mul-lt-mul-right, le-of-mul-le-mul-right, mod-lt, mul-mod-left, eq-of-mul-eq-mul-right, lt-irrefl}
+use native.Mathlib.Nat.{lt-of-lt-of-le, not-le-of-lt, le-of-suc-le-suc, lt-of-not-le, eq-or-lt-of-le, mul-assoc, mul-right-comm, lt-of-mul-lt-mul-right, le-of-mul-le-mul-right, mul-mod-left, eq-of-mul-eq-mul-right, lt-irrefl}
 use native.Mathlib.Omega.{arith}
 use lib.Dec.{T, leb, lit<}
 use lib.Pow.{pow-add, pow-pos, pow-mono, shl-lt}
@@ -40,11 +40,11 @@ finite-no (inf s) h = refl
 finite-no (fin s m e) h = absurd (true≢false h)
 
 -- ---- the same value as another fraction
+pub split-power : (q i k l : ℕ) → i ≡ k + l → q * 2 ^ i ≡ q * 2 ^ k * 2 ^ l
+split-power q i k l e = ap (λ (z : ℕ). q * z) (ap (λ (z : ℕ). 2 ^ z) e ∙ pow-add 2 k l) ∙ sym (mul-assoc q (2 ^ k) (2 ^ l))
+
 pub same-power : (q i j k l : ℕ) → i + j ≡ k + l → q * 2 ^ i * 2 ^ j ≡ q * 2 ^ k * 2 ^ l
-same-power q i j k l e =
-    mul-assoc q (2 ^ i) (2 ^ j)
-    ∙ ap (λ (z : ℕ). q * z) (sym (pow-add 2 i j) ∙ ap (λ (z : ℕ). 2 ^ z) e ∙ pow-add 2 k l)
-    ∙ sym (mul-assoc q (2 ^ k) (2 ^ l))
+same-power q i j k l e = sym (split-power q (i + j) i j refl) ∙ split-power q (i + j) k l e
 
 pub same-value : (x : Float) (s : Bool) (a c b d : ℕ) → 0 < c → a * d ≡ b * c → HasValue x s a c → HasValue x s b d
 same-value nan s a c b d P e h = h
@@ -84,64 +84,31 @@ module _ (x : Float) (F : T (fits binary64 x)) where
 
   pub low-value : f ≡ 0 → (m e : ℕ) → Lifted t m e → Decoded x s m e
   low-value z m e L =
-      let v : HasValue x s (b % 2 ^ 63) (2 ^ 1074) = rw (ofBits-toBits binary64 x F) at (value-low b (under b z)) in
+      let v : HasValue x s (b % 2 ^ 63) (2 ^ 1074) = rw (ofBits-toBits binary64 x F) at (value-low b (omega arith)) in
       record {
         value = same-value x s (b % 2 ^ 63) (2 ^ 1074) (m * 2 ^ e) (2 ^ 1138) (pow-pos 1074)
-            (ap (λ (w : ℕ). w * 2 ^ 1138) (small b z) ∙ ap (λ (w : ℕ). t * w) (pow-add 2 64 1074) ∙ sym (mul-assoc t (2 ^ 64) (2 ^ 1074)) ∙ ap (λ (w : ℕ). w * 2 ^ 1074) (sym (L .same))) v;
+            (ap (λ (w : ℕ). w * 2 ^ 1138) (omega arith) ∙ split-power t 1138 64 1074 refl ∙ ap (λ (w : ℕ). w * 2 ^ 1074) (sym (L .same))) v;
         whole = ap (λ (w : ℕ). w % 2 ^ 64) (L .same) ∙ mul-mod-left t (2 ^ 64);
         room = L .room;
         digits = L .digits;
       }
-    where
-      under : (b : ℕ) → b % 2 ^ 63 / 2 ^ 52 ≡ 0 → b % 2 ^ 63 < 2 ^ 52
-      under b z = omega arith
-
-      small : (b : ℕ) → b % 2 ^ 63 / 2 ^ 52 ≡ 0 → b % 2 ^ 63 ≡ b % 2 ^ 52
-      small b z = omega arith
 
   pub normal-value : 0 < f → f < 2047 → Decoded x s (2 ^ 52 + t) (f + 63)
   normal-value p h =
-      let v : HasValue x s ((2 ^ 52 + t) * 2 ^ (f - 1)) (2 ^ 1074) = rw (ofBits-toBits binary64 x F) at (value-mid b (f - 1) (next f p) (less f h)) in
+      let v : HasValue x s ((2 ^ 52 + t) * 2 ^ (f - 1)) (2 ^ 1074) = rw (ofBits-toBits binary64 x F) at (value-mid b (f - 1) (omega arith) (omega arith)) in
       record {
-        value = same-value x s ((2 ^ 52 + t) * 2 ^ (f - 1)) (2 ^ 1074) ((2 ^ 52 + t) * 2 ^ (f + 63)) (2 ^ 1138) (pow-pos 1074) (same-power (2 ^ 52 + t) (f - 1) 1138 (f + 63) 1074 (place f p)) v;
-        whole = ap (λ (w : ℕ). w % 2 ^ 64) (sym (mul-one ((2 ^ 52 + t) * 2 ^ (f + 63))) ∙ same-power (2 ^ 52 + t) (f + 63) 0 (f - 1) 64 (place' f p)) ∙ mul-mod-left ((2 ^ 52 + t) * 2 ^ (f - 1)) (2 ^ 64);
-        room = room b;
-        digits = λ _. record { lead = lead t; top = under t (mod-lt b (pow-pos 52)); least = least f; room = room b };
+        value = same-value x s ((2 ^ 52 + t) * 2 ^ (f - 1)) (2 ^ 1074) ((2 ^ 52 + t) * 2 ^ (f + 63)) (2 ^ 1138) (pow-pos 1074) (same-power (2 ^ 52 + t) (f - 1) 1138 (f + 63) 1074 (omega arith)) v;
+        whole = ap (λ (w : ℕ). w % 2 ^ 64) (split-power (2 ^ 52 + t) (f + 63) (f - 1) 64 (omega arith)) ∙ mul-mod-left ((2 ^ 52 + t) * 2 ^ (f - 1)) (2 ^ 64);
+        room = omega arith;
+        digits = λ _. record { lead = omega arith; top = omega arith; least = omega arith; room = omega arith };
       }
-    where
-      next : (f : ℕ) → 0 < f → f ≡ suc (f - 1)
-      next f p = omega arith
-
-      less : (f : ℕ) → f < 2047 → f - 1 < 2046
-      less f h = omega arith
-
-      place : (f : ℕ) → 0 < f → f - 1 + 1138 ≡ f + 63 + 1074
-      place f p = omega arith
-
-      place' : (f : ℕ) → 0 < f → f + 63 + 0 ≡ f - 1 + 64
-      place' f p = omega arith
-
-      lead : (t : ℕ) → 2 ^ 52 ≤ 2 ^ 52 + t
-      lead t = omega arith
-
-      under : (t : ℕ) → t < 2 ^ 52 → 2 ^ 52 + t < 2 ^ 53
-      under t h = omega arith
-
-      least : (f : ℕ) → 12 ≤ f + 63
-      least f = omega arith
-
-      room : (b : ℕ) → b % 2 ^ 63 / 2 ^ 52 + 63 < 2 ^ 12
-      room b = omega arith
 
   -- the field of an infinity or a NaN is not a finite value's
   pub finite-field : T (finite x) → f < 2047
-  finite-field held = lt-of-not-le (λ (g : 2047 ≤ f). elim (eq-or-lt-of-le (from b g)) [
+  finite-field held = lt-of-not-le (λ (g : 2047 ≤ f). elim (eq-or-lt-of-le {n = 2047 * 2 ^ 52} {m = b % 2 ^ 63} (omega arith)) [
     | inl e ↦ rw (← ofBits-toBits binary64 x F, value-inf b (sym e)) at held
     | inr l ↦ rw (← ofBits-toBits binary64 x F, nan-pattern b l) at held
   ])
-    where
-      from : (b : ℕ) → 2047 ≤ b % 2 ^ 63 / 2 ^ 52 → 2047 * 2 ^ 52 ≤ b % 2 ^ 63
-      from b g = omega arith
 
 -- ---- the digits of a subnormal value
 pub far-up : (t z : ℕ) → t < 2 ^ 52 → Lead t z → 12 ≤ z
@@ -152,10 +119,7 @@ far-up t z h L = le-of-suc-le-suc (lt-of-not-le (λ (g : suc z ≤ 12). not-le-o
 
 module _ (t z : ℕ) (h : t < 2 ^ 52) (L : Lead t z) where
   split : t * 2 ^ z ≡ t * 2 ^ (z - 11) * 2 ^ 11
-  split = sym (mul-one (t * 2 ^ z)) ∙ same-power t z 0 (z - 11) 11 (back z (far-up t z h L))
-    where
-      back : (z : ℕ) → 12 ≤ z → z + 0 ≡ z - 11 + 11
-      back z g = omega arith
+  split = split-power t z (z - 11) 11 (omega (arith, far-up t z h L))
 
   pub up-lead : 2 ^ 52 ≤ t * 2 ^ (z - 11)
   up-lead = le-of-mul-le-mul-right {k = 2 ^ 11} (subst (λ (w : ℕ). 2 ^ 63 ≤ w) split (L .low)) (pow-pos 11)
@@ -165,19 +129,10 @@ module _ (t z : ℕ) (h : t < 2 ^ 52) (L : Lead t z) where
 
   pub up-lifted : (m : ℕ) → m ≡ t * 2 ^ (z - 11) → Lifted t m (64 - (z - 11))
   up-lifted m e = record {
-    same = ap (λ (w : ℕ). w * 2 ^ (64 - (z - 11))) e ∙ same-power t (z - 11) (64 - (z - 11)) 0 64 (whole z (L .small)) ∙ ap (λ (w : ℕ). w * 2 ^ 64) (mul-one t);
-    room = small z;
-    digits = λ _. record { lead = rw e up-lead; top = rw e up-top; least = least z (L .small); room = small z };
+    same = ap (λ (w : ℕ). w * 2 ^ (64 - (z - 11))) e ∙ sym (split-power t 64 (z - 11) (64 - (z - 11)) (omega arith));
+    room = omega arith;
+    digits = λ _. record { lead = rw e up-lead; top = rw e up-top; least = omega arith; room = omega arith };
   }
-    where
-      whole : (z : ℕ) → z < 64 → z - 11 + (64 - (z - 11)) ≡ 0 + 64
-      whole z g = omega arith
-
-      least : (z : ℕ) → z < 64 → 12 ≤ 64 - (z - 11)
-      least z g = omega arith
-
-      small : (z : ℕ) → 64 - (z - 11) < 2 ^ 12
-      small z = omega arith
 
 pub zero-lifted : (t : ℕ) → t ≡ 0 → Lifted t 0 64
 zero-lifted t e = record {

@@ -1,7 +1,7 @@
 -- The value of a float that is made from a sign's bit r, an exponent's field f and digits t. Assumes nothing.
 use mathlib.Core.Path.{_≡_, ap}
 use mathlib.Core.Bool.{Bool, true, false, not, cond}
-use Prim.Native.Nat.{ℕ, suc, _+_, _-_, _*_, _/_, _%_, _^_, _≤_, _<_}
+use Prim.Native.Nat.{ℕ, _+_, _-_, _*_, _/_, _%_, _^_, _≤_, _<_}
 use native.Mathlib.Omega.{arith}
 use lib.Arith.{lt→nleb}
 use lib.Dec.{T, leb, le→leb}
@@ -43,14 +43,5 @@ module _ (s : Bool) (f t r : ℕ) (h : f < 2047) (k : t < 2 ^ 52) (e : r ≡ con
       let b = pattern r f t in
       let v = reads s f t r h k e in
       same-value (ofBits binary64 b) s ((2 ^ 52 + t) * 2 ^ (f - 1)) (2 ^ 1074) ((2 ^ 52 + t) * 2 ^ (f + 1329)) (2 ^ 2404) (pow-pos 1074)
-      (same-power (2 ^ 52 + t) (f - 1) 2404 (f + 1329) 1074 (place f p))
-      (recast (ofBits binary64 b) (2 ^ 1074) (v .sign) (ap (λ (z : ℕ). (2 ^ 52 + z) * 2 ^ (f - 1)) (v .digits)) (value-mid b (f - 1) (next b (v .field) p) (less f h)))
-    where
-      place : (f : ℕ) → 0 < f → f - 1 + 2404 ≡ f + 1329 + 1074
-      place f p = omega arith
-
-      next : (b : ℕ) → b % 2 ^ 63 / 2 ^ 52 ≡ f → 0 < f → b % 2 ^ 63 / 2 ^ 52 ≡ suc (f - 1)
-      next b q p = omega arith
-
-      less : (f : ℕ) → f < 2047 → f - 1 < 2046
-      less f h = omega arith
+      (same-power (2 ^ 52 + t) (f - 1) 2404 (f + 1329) 1074 (omega arith))
+      (recast (ofBits binary64 b) (2 ^ 1074) (v .sign) (ap (λ (z : ℕ). (2 ^ 52 + z) * 2 ^ (f - 1)) (v .digits)) (value-mid b (f - 1) (omega arith) (omega arith)))

@@ -50,7 +50,7 @@ at-most p e a K n den D h l = div-lt-iff-lt-mul D .1 (lt-of-mul-lt-mul-right (2 
 drops : (K n den e k : ℕ) → 0 < den → 11 ≤ K → 2 ^ 63 * (den * 2 ^ e) ≤ n * 2 ^ K → n * 2 ^ K < 2 ^ 64 * (den * 2 ^ e) → k ≡ e + 11 - K → size (n / den) - 53 ≡ k
 drops K n den e k D big lo hi h = elim (eq-zero-or-pos k) [
   | inl z ↦
-      let small : n / den < 2 ^ 53 = at-most 64 (K - 11) 53 K n den D (omega arith) (lt-of-lt-of-le hi (mul-le-mul-left (2 ^ 64) (mul-le-mul-left den (pow-mono (before z))))) in
+      let small : n / den < 2 ^ 53 = at-most 64 (K - 11) 53 K n den D (omega arith) (lt-of-lt-of-le hi (mul-le-mul-left (2 ^ 64) (mul-le-mul-left den (pow-mono (omega arith))))) in
       none (size (n / den)) (size-le (n / den) 53 small) ∙ sym z
   | inr p ↦
       let a = 52 + k in
@@ -58,9 +58,6 @@ drops K n den e k D big lo hi h = elim (eq-zero-or-pos k) [
       ap (λ (z : ℕ). z - 53) s ∙ over k
 ]
   where
-    before : k ≡ 0 → e ≤ K - 11
-    before z = omega arith
-
     none : (z : ℕ) → z ≤ 53 → z - 53 ≡ 0
     none z l = omega arith
 
@@ -81,11 +78,8 @@ module _ (K n den e k d : ℕ) (D : 0 < den) (sum : d + e ≡ K + k) where
   unit-is : E * 2 ^ d ≡ den * 2 ^ k * 2 ^ K
   unit-is =
       mul-assoc den (2 ^ e) (2 ^ d)
-      ∙ ap (λ (z : ℕ). den * z) (sym (pow-add 2 e d) ∙ ap (λ (z : ℕ). 2 ^ z) (swap sum) ∙ pow-add 2 k K)
+      ∙ ap (λ (z : ℕ). den * z) (sym (pow-add 2 e d) ∙ ap (λ (z : ℕ). 2 ^ z) (omega arith) ∙ pow-add 2 k K)
       ∙ sym (mul-assoc den (2 ^ k) (2 ^ K))
-    where
-      swap : d + e ≡ K + k → e + d ≡ k + K
-      swap s = omega arith
 
   pub halves-cut : N / E / 2 ^ d ≡ n * 2 / (den * 2 ^ k)
   halves-cut =
@@ -103,13 +97,7 @@ module _ (K n den e k d : ℕ) (D : 0 < den) (sum : d + e ≡ K + k) where
 
 pub zero-of-mul : (a b : ℕ) → 0 < b → a * b ≡ 0 → a ≡ 0
 zero-of-mul zero b B h = refl
-zero-of-mul (suc a) b B h = absurd (clash (suc a * b) (mul-pos (le-refl-suc a) B) h)
-  where
-    clash : (x : ℕ) → 0 < x → x ≡ 0 → ⊥
-    clash x p e = omega arith
-
-    le-refl-suc : (a : ℕ) → 0 < suc a
-    le-refl-suc a = omega arith
+zero-of-mul (suc a) b B h = absurd (omega arith)
 
 pub sum-zero-l : (a b : ℕ) → a + b ≡ 0 → a ≡ 0
 sum-zero-l a b h = omega arith
@@ -213,12 +201,9 @@ module _ {m x e k d y q : ℕ} (S : Steps m x e k d y q) where
 -- some y and q there are
 pub half-of : (h y : ℕ) → (q : ℕ) × Halved h y q
 half-of h y = elim (eq-zero-or-pos y) [
-  | inl z ↦ ((h + h / 2 % 2) / 2, record { tie = λ _. refl; more = λ p. absurd (no y z p) })
-  | inr p ↦ ((h + 1) / 2, record { tie = λ z. absurd (no y z p); more = λ _. refl })
+  | inl z ↦ ((h + h / 2 % 2) / 2, record { tie = λ _. refl; more = λ p. absurd (omega arith) })
+  | inr p ↦ ((h + 1) / 2, record { tie = λ z. absurd (omega arith); more = λ _. refl })
 ]
-  where
-    no : (y : ℕ) → y ≡ 0 → 0 < y → ⊥
-    no y z p = omega arith
 
 any-of : (a b : ℕ) → Any a b (a + b)
 any-of a b = record { left = λ z. omega arith; right = λ z. omega arith; none = λ y z. omega arith }

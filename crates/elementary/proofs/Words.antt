@@ -67,9 +67,6 @@ pub cut-up : {N den e v x : ℕ} (z : ℕ) → 0 < den → z ≤ e → x ≡ 0 �
 cut-up {N} {den} {e} {v} z D h n C =
     exact-cut N (den * 2 ^ (e - z)) (v * 2 ^ z) (mul-pos D (pow-pos (e - z)))
     (cut-exact n C
-    ∙ ap (λ (t : ℕ). v * (den * 2 ^ t)) (back z e h)
+    ∙ ap (λ (t : ℕ). v * (den * 2 ^ t)) (omega arith)
     ∙ ap (λ (t : ℕ). v * (den * t)) (pow-add 2 z (e - z))
     ∙ simp (mul-assoc, mul-comm, mul-left-comm))
-  where
-    back : (z e : ℕ) → z ≤ e → e ≡ z + (e - z)
-    back z e h = omega arith

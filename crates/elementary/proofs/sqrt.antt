@@ -1,3 +1,3 @@
 -- What the proofs of the square root use.
 mod Laws
-mod Walk
+mod Steps

@@ -2,7 +2,7 @@
 use mathlib.Core.Path.{_≡_}
 use mathlib.Core.Bool.{Bool}
 use Prim.Native.Nat.{ℕ, _+_, _*_, _^_, _/_, _%_, _<_, _≤_}
-use lib.Ieee.{Float}
+use lib.Ieee.{Float, binary64, round}
 use lib.Ieee.Exact.{HasValue}
 
 -- m is the fraction N / E cut to a whole number, and x is 0 just where nothing was cut off.
@@ -10,6 +10,10 @@ pub record Cut (N E m x : ℕ) : Type 0 where
   pub whole : N / E ≡ m
   pub none : x ≡ 0 → N % E ≡ 0
   pub some : N % E ≡ 0 → x ≡ 0
+
+-- r is the float nearest to every fraction that is cut to m * 2 ^ e / 2 ^ 2404
+abbrev pub Rounds : Float → Bool → ℕ → ℕ → ℕ → Type 0
+Rounds r s m x e = (num den : ℕ) → 0 < den → Cut (num * 2 ^ 2404) (den * 2 ^ e) m x → r ≡ round binary64 s num den
 
 -- r is h / 2 to the nearest whole number, where h is itself cut, x being 0 just where nothing was cut off, and at a tie to the even one.
 pub record Halved (h x r : ℕ) : Type 0 where

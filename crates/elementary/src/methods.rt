@@ -29,7 +29,7 @@ pub fn abs(x: f64) -> f64
 }
 
 // The greater; the other one if one is NaN; of two zeros of unequal sign +0. Where one is greater,
-// two comparisons decide.
+// at most two comparisons decide.
 pub fn max(a: f64, b: f64) -> f64
     ensures { λ r. ⌜ r ≡ maxOf a b ⌝ }
 {
@@ -52,7 +52,7 @@ pub fn max(a: f64, b: f64) -> f64
     }
 }
 
-// The bits of x, 7FF8000000000000 at a NaN. Floats become bits here and nowhere else.
+// The bits of x, 7FF8000000000000 at a NaN. What leaves the engine as bits leaves through here.
 pub fn bits_of(x: f64) -> u64
     ensures { λ r. ⌜ r ≡ Ieee.toBits binary64 x ⌝ }
 {
@@ -62,7 +62,8 @@ pub fn bits_of(x: f64) -> u64
     f64::to_bits(x)
 }
 
-// The float with the bits b. Bits become floats here and nowhere else.
+// The float with the bits b; every pattern of a NaN is the one NaN. What comes in as bits comes in
+// through here.
 pub fn float_of(b: u64) -> f64
     ensures { λ r. ⌜ r ≡ Ieee.ofBits binary64 b ⌝ }
 {

@@ -1,4 +1,5 @@
-// IEEE 754's fusedMultiplyAdd in integer arithmetic.
+// IEEE 754's fusedMultiplyAdd, a × b + c rounded once, in two ways: `quick` finds two floats whose
+// exact sum rounds alike and lets the machine add them, `general` works in numbers of two words.
 use crate::round::Parts;
 use crate::round::Wide;
 use crate::round::any;
@@ -40,6 +41,7 @@ fn product(a: u64, b: u64) -> Wide
     }
 }
 
+// a + b, for numbers of two words.
 fn add_wide(ah: u64, al: u64, bh: u64, bl: u64) -> Wide
     requires { ⌜ wide ah al + wide bh bl < 2 ^ 128 ⌝ }
     ensures { λ r. ⌜ wide (r .hi) (r .lo) ≡ wide ah al + wide bh bl ⌝ }
@@ -57,6 +59,7 @@ fn add_wide(ah: u64, al: u64, bh: u64, bl: u64) -> Wide
     }
 }
 
+// a − b.
 fn sub_wide(ah: u64, al: u64, bh: u64, bl: u64) -> Wide
     requires { ⌜ wide bh bl ≤ wide ah al ⌝ }
     ensures { λ r. ⌜ wide (r .hi) (r .lo) ≡ wide ah al - wide bh bl ⌝ }
@@ -74,6 +77,7 @@ fn sub_wide(ah: u64, al: u64, bh: u64, bl: u64) -> Wide
     }
 }
 
+// a − 1.
 fn less_one(ah: u64, al: u64) -> Wide
     requires { ⌜ 0 < wide ah al ⌝ }
     ensures { λ r. ⌜ wide (r .hi) (r .lo) ≡ wide ah al - 1 ⌝ }
@@ -222,6 +226,7 @@ fn fused(n: bool, am: u64, ae: u64, bm: u64, be: u64, cn: bool, cm: u64, ce: u64
     )
 }
 
+// `mul_add` for finite operands. With a zero among them the plain operations round once or not at all.
 fn fused_finite(a: f64, b: f64, c: f64) -> f64
     requires { ⌜ T (Scale.finite a) ⌝ ∗ ⌜ T (Scale.finite b) ⌝ ∗ ⌜ T (Scale.finite c) ⌝ }
     ensures { λ r. ⌜ r ≡ fma binary64 a b c ⌝ }
@@ -241,7 +246,8 @@ fn fused_finite(a: f64, b: f64, c: f64) -> f64
     fused(p.neg != q.neg, p.m, p.e, q.m, q.e, r.neg, r.m, r.e)
 }
 
-// `mul_add` for any operands.
+// `mul_add` for any operands. Only where a finite product meets an infinite addend would the plain
+// operations go wrong: the product may overflow.
 fn general(a: f64, b: f64, c: f64) -> f64
     ensures { λ r. ⌜ r ≡ fma binary64 a b c ⌝ }
 {
@@ -320,6 +326,7 @@ fn turned(neg: bool, ph: u64, pl: u64) -> Wide
     }
 }
 
+// 1 where t holds.
 fn one_if(t: bool) -> u64
     ensures { λ r. ⌜ r ≡ cond t 1 0 ⌝ }
 {

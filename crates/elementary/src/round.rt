@@ -1,15 +1,17 @@
 // The rounding leaf: the one place that packs a float from whole numbers, and the one that takes a
-// float apart into them.
+// float apart into them. An exponent e counts from 2^−2404, which is below the product of any two
+// floats, so that none is negative.
 ghost use mathlib.Core.Path.{_≡_};
 ghost use mathlib.Core.Bool.{false, cond};
-ghost use Prim.Native.Nat.{ℕ, _+_, _-_, _*_, _/_, _%_, _^_, _<_, _≤_};
+ghost use Prim.Native.Nat.{_+_, _-_, _*_, _/_, _%_, _^_, _<_, _≤_};
 ghost use lib.Dec.{T, ltb};
 ghost use lib.Ieee as Ieee;
 ghost use lib.Ieee.{binary64, round};
 ghost use lib.Ieee.Exact.{HasValue};
 ghost use lib.Ieee.Scale as Scale;
-ghost use Rattle.elementary.specs.Round.{Cut, Halved, Any, Lead, wide, Decoded, Lifted};
+ghost use Rattle.elementary.specs.Round.{Halved, Any, Rounds, Lead, wide, Decoded, Lifted};
 
+// Neither an infinity nor a NaN.
 pub(crate) fn finite(x: f64) -> bool
     ensures { λ r. ⌜ r ≡ Scale.finite x ⌝ }
 {
@@ -50,7 +52,7 @@ fn halved(h: u64, x: u64) -> u64
     }
 }
 
-// How many digits are dropped.
+// How many digits below the 53 kept ones are dropped: none of a subnormal value.
 fn dropped(e: u64) -> u64
     requires { ⌜ e < 2 ^ 32 ⌝ }
     ensures { λ r. ⌜ r ≡ e + 11 - 1330 ⌝ }
@@ -58,12 +60,12 @@ fn dropped(e: u64) -> u64
     if e + 11 > 1330 { e + 11 - 1330 } else { 0 }
 }
 
-// The float nearest to num / den, where m is num / den * 2^2404 / 2^e cut to a whole number of 64
-// digits, and x is 0 just where nothing was cut off.
+// The float nearest to a fraction that has the 64 leading digits m at the exponent e, where x is 0
+// just if nothing lies below them. The pattern k * 2^52 + q serves subnormals too, and a carry of q
+// runs into the exponent's field by itself, up to the infinity.
 fn rounded(m: u64, x: u64, e: u64) -> f64
     requires { ⌜ 2 ^ 63 ≤ m ⌝ ∗ ⌜ e < 2 ^ 32 ⌝ }
-    ensures { λ r. ⌜ ((num den : ℕ) → 0 < den → Cut (num * 2 ^ 2404) (den * 2 ^ e) m x
-        → r ≡ round binary64 false num den) ⌝ }
+    ensures { λ r. ⌜ Rounds r false m x e ⌝ }
 {
     let k = dropped(e);
     if k > 2045 {
@@ -75,7 +77,7 @@ fn rounded(m: u64, x: u64, e: u64) -> f64
     f64::from_bits((k << 52) + q)
 }
 
-// How far x can be shifted left.
+// The leading zeros: how far x can be shifted left.
 fn zeros(x: u64) -> u64
     requires { ⌜ 0 < x ⌝ }
     ensures { λ r. ⌜ Lead x r ⌝ }
@@ -100,9 +102,7 @@ pub(crate) struct Wide {
 // As `rounded`, for two words. Where something was cut off, they have more than 64 digits.
 fn rounded_wide(hi: u64, lo: u64, x: u64, e: u64) -> f64
     requires { ⌜ 0 < wide hi lo ⌝ ∗ ⌜ (wide hi lo < 2 ^ 64 → x ≡ 0) ⌝ ∗ ⌜ 64 ≤ e ⌝ ∗ ⌜ e < 2 ^ 31 ⌝ }
-    ensures { λ r. ⌜ ((num den : ℕ) → 0 < den
-        → Cut (num * 2 ^ 2404) (den * 2 ^ e) (wide hi lo) x
-        → r ≡ round binary64 false num den) ⌝ }
+    ensures { λ r. ⌜ Rounds r false (wide hi lo) x e ⌝ }
 {
     if hi == 0 {
         let z = zeros(lo);
@@ -125,13 +125,12 @@ fn signed(neg: bool, r: f64) -> f64
 // As `rounded_wide`, with a sign.
 pub(crate) fn rounded_signed(neg: bool, hi: u64, lo: u64, x: u64, e: u64) -> f64
     requires { ⌜ 0 < wide hi lo ⌝ ∗ ⌜ (wide hi lo < 2 ^ 64 → x ≡ 0) ⌝ ∗ ⌜ 64 ≤ e ⌝ ∗ ⌜ e < 2 ^ 31 ⌝ }
-    ensures { λ r. ⌜ ((num den : ℕ) → 0 < den
-        → Cut (num * 2 ^ 2404) (den * 2 ^ e) (wide hi lo) x
-        → r ≡ round binary64 neg num den) ⌝ }
+    ensures { λ r. ⌜ Rounds r neg (wide hi lo) x e ⌝ }
 {
     signed(neg, rounded_wide(hi, lo, x, e))
 }
 
+// Whether the two words are not 0.
 pub(crate) fn nonzero(hi: u64, lo: u64) -> bool
     ensures { λ r. ⌜ r ≡ ltb 0 (wide hi lo) ⌝ }
 {
@@ -150,14 +149,14 @@ pub(crate) fn rounded_exact(neg: bool, hi: u64, lo: u64, e: u64) -> f64
     }
 }
 
-// A finite float taken apart.
+// A finite float taken apart: ±m * 2^e / 2^1138.
 pub(crate) struct Parts {
     pub(crate) neg: bool,
     pub(crate) m: u64,
     pub(crate) e: u64,
 }
 
-// The digits of a subnormal value, shifted up.
+// The digits of a subnormal value, shifted up to their place in a normal one.
 fn lifted(neg: bool, t: u64) -> Parts
     requires { ⌜ t < 2 ^ 52 ⌝ }
     ensures { λ r. ⌜ r .neg ≡ neg ⌝ ∗ ⌜ Lifted t (r .m) (r .e) ⌝ }
@@ -179,6 +178,7 @@ fn lifted(neg: bool, t: u64) -> Parts
     }
 }
 
+// A finite float as its sign, its 53 digits and its exponent.
 pub(crate) fn taken_apart(x: f64) -> Parts
     requires { ⌜ T (Scale.finite x) ⌝ }
     ensures { λ r. ⌜ Decoded x (r .neg) (r .m) (r .e) ⌝ }

@@ -1,42 +1,48 @@
 // The square root, correctly rounded, in whole numbers.
 ghost use mathlib.Core.Path.{_≡_};
-ghost use Prim.Native.Nat.{ℕ, _+_, _*_, _^_, _<_, _≤_};
+ghost use Prim.Native.Nat.{_+_, _*_, _/_, _^_, _<_, _≤_};
 ghost use lib.Ieee.{binary64, ofBits};
 ghost use Rattle.elementary.specs.Sqrt.{sqrtOf, roundRoot};
+ghost use Rattle.elementary.specs.Sqrt.Isqrt.{Root};
 
-// The whole part of √(a * 2^44). The candidate digit r walks down; s is twice the root so far, in its
-// place, and rem what is left of a, doubled each turn. The two words stay in registers, and the test
-// decides only what is taken off: a compare, a choice and a difference follow one another in a turn.
-// The first two digits come before, where rem is not doubled yet.
-fn digits(a: u64) -> u64
-    ensures { λ r. ⌜ (r * r ≤ a * 2 ^ 44) × (a * 2 ^ 44 < (r + 1) * (r + 1)) × (r < 2 ^ 54) ⌝ }
+// A root with one digit more, in any base, as in long division. g is the root of the digits so far,
+// u what is left of them with the radicand's next digit, l the digit after. The quotient is the
+// root's digit, or one more (P. Zimmermann, Karatsuba Square Root, 1999).
+fn extend(g: u64, u: u64, l: u64, base: u64) -> u64
+    requires { ⌜ (g < 2 ^ 32) × (base ≤ 2 * g) × (base ≤ 2 ^ 22) × (l < base) × (u < (2 * g + 1) * base) ⌝ }
+    ensures { λ r. ⌜ Root ((g * g * base + u) * base + l) r ⌝ }
 {
-    let mut rem = a;
-    let mut s: u64 = 0;
-    if 0x4000_0000_0000_0000 <= rem {
-        rem -= 0x4000_0000_0000_0000;
-        s = 0x2000_0000_0000_0000;
+    let h = u / (2 * g);
+    let w = g * base + h;
+    if u % (2 * g) * base + l < h * h {
+        return w - 1;
     }
-    let first = s * 2 + 0x1000_0000_0000_0000;
-    if first <= rem {
-        rem -= first;
-        s += 0x1000_0000_0000_0000;
+    w
+}
+
+// The root of n, with twice the digits of g, the root of its first half.
+fn twice(n: u64, g: u64, base: u64) -> u64
+    requires { ⌜ Root (n / base / base) g × (0 < base) × (base ≤ 2 * g) × (g < 2 ^ 16) ⌝ }
+    ensures { λ r. ⌜ Root n r ⌝ }
+{
+    extend(g, n / base - g * g * base, n % base, base)
+}
+
+// The whole part of √(a * 2^44), for an a of 63 or 64 digits: 2 digits of the root, then 4, 8, 16,
+// 32 and 54.
+fn digits(a: u64) -> u64
+    requires { ⌜ 2 ^ 62 ≤ a ⌝ }
+    ensures { λ r. ⌜ Root (a * 2 ^ 44) r ⌝ }
+{
+    let mut first: u64 = 2;
+    if a >= 0x9000_0000_0000_0000 {
+        first = 3;
     }
-    let mut r: u64 = 0x0400_0000_0000_0000;
-    let mut i: u64 = 0;
-    while i < 52 {
-        let t = s + r;
-        let mut off = t * 2;
-        if rem < t {
-            off = 0;
-        } else {
-            s = t + r;
-        }
-        rem = rem * 2 - off;
-        r = r / 2;
-        i += 1;
-    }
-    s / 256
+    let g4 = twice(a / 0x100_0000_0000_0000, first, 4);
+    let g8 = twice(a / 0x1_0000_0000_0000, g4, 16);
+    let g16 = twice(a / 0x1_0000_0000, g8, 256);
+    let g = twice(a, g16, 65536);
+    extend(g, (a - g * g) * 0x40_0000, 0, 0x40_0000)
 }
 
 // The root of m * 2^(e - 1) of the smallest values of an `f64`, for an m above 0. m is shifted up by

@@ -45,12 +45,9 @@ pub far-is : (x : Float) (s : Bool) (m i e : ℕ) → 960 ≤ e → HasValue x s
 far-is x s m i e h v =
     round-same binary64 s ((0 * 2 ^ 64 + m) * 2 ^ (i + e - 782)) (2 ^ 2404) (m * 2 ^ i * 2 ^ e) (2 ^ 1138 * 2 ^ 2048) (pow-pos 2404) (mul-pos (pow-pos 1138) (pow-pos 2048))
     (ap (λ (z : ℕ). z * 2 ^ (i + e - 782) * 2 ^ 3186) (zero-add m)
-    ∙ same-power m (i + e - 782) 3186 (i + e) 2404 (place i e h)
+    ∙ same-power m (i + e - 782) 3186 (i + e) 2404 (omega arith)
     ∙ ap (λ (z : ℕ). z * 2 ^ 2404) (ap (λ (z : ℕ). m * z) (pow-add 2 i e) ∙ sym (mul-assoc m (2 ^ i) (2 ^ e))))
     ∙ sym (scaled-at binary64 x s (m * 2 ^ i) (2 ^ 1138) e 2048 (pow-pos 1138) v)
-  where
-    place : (i e : ℕ) → 960 ≤ e → i + e - 782 + 3186 ≡ i + e + 2404
-    place i e h = omega arith
 
 pub far-special : (f : Format) (x : Float) (k : ℤ) → finite x ≡ false → x ≡ scaled f x k
 unfolding scaled
@@ -88,7 +85,4 @@ mul-power f (fin s m g) (fin t n d) e l h =
 pub field-power : (x : Float) (e : ℕ) → 1026 ≤ e → HasValue x false ((2 ^ 52 + 0) * 2 ^ (e - 1025 + 1329)) (2 ^ 2404) → HasValue x false (2 ^ e) (2 ^ 2048)
 field-power x e h v =
     same-value x false ((2 ^ 52 + 0) * 2 ^ (e - 1025 + 1329)) (2 ^ 2404) (2 ^ e) (2 ^ 2048) (pow-pos 2404)
-    (same-power (2 ^ 52) (e - 1025 + 1329) 2048 e 2352 (place e h) ∙ ap (λ (z : ℕ). z * 2 ^ 2352) (mul-comm (2 ^ 52) (2 ^ e)) ∙ mul-assoc (2 ^ e) (2 ^ 52) (2 ^ 2352)) v
-  where
-    place : (e : ℕ) → 1026 ≤ e → e - 1025 + 1329 + 2048 ≡ e + 2352
-    place e h = omega arith
+    (same-power (2 ^ 52) (e - 1025 + 1329) 2048 e 2352 (omega arith) ∙ ap (λ (z : ℕ). z * 2 ^ 2352) (mul-comm (2 ^ 52) (2 ^ e)) ∙ mul-assoc (2 ^ e) (2 ^ 52) (2 ^ 2352)) v

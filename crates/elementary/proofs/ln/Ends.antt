@@ -1,7 +1,7 @@
 -- What ln's tests leave over is finite and above 0. Assumes nothing.
 use mathlib.Core.Path.{_≡_, sym, ap, _∙_, subst}
 use mathlib.Core.Bool.{Bool, true, false, true≢false}
-use Prim.Native.Nat.{ℕ, zero, suc, _+_, _*_, _^_, _≤_, _<_}
+use Prim.Native.Nat.{ℕ, zero, suc, _+_, _*_, _^_, _<_}
 use native.Mathlib.Nat.{zero-mul, zero-lt-suc, mul-pos}
 use native.Mathlib.Omega.{arith}
 use borrow.Author.Tests.{ltb-false}
@@ -24,10 +24,7 @@ above (inf true) n l z t = absurd (true≢false l)
 above (inf false) n l z t = absurd (true≢false t)
 above (fin true m e) n l z t =
     let h = ltb-false 0 (m * up e * 1 + 0 * 1 * down e) l in
-    absurd (true≢false (sym (level-zero true (m * up e * 1) (0 * 1 * down e) (left (m * up e * 1) (0 * 1 * down e) h) (zero-mul (down e))) ∙ z))
-  where
-    left : (a b : ℕ) → a + b ≤ 0 → a ≡ 0
-    left a b h = omega arith
+    absurd (true≢false (sym (level-zero true (m * up e * 1) (0 * 1 * down e) (omega arith) (zero-mul (down e))) ∙ z))
 above (fin false zero e) n l z t =
     absurd (true≢false (sym (level-zero false (0 * up e * 1) (0 * 1 * down e) (ap (λ (w : ℕ). w * 1) (zero-mul (up e)) ∙ zero-mul 1) (zero-mul (down e))) ∙ z))
 above (fin false (suc m) e) n l z t = lt→ltb 0 (suc m) (zero-lt-suc m)

@@ -36,22 +36,16 @@ module _ (y : Float) (s : Bool) (m i : ℕ) (D : Decoded y s m i) (G : Digits m 
   further : (j k l : ℕ) → j + l ≡ i + k → u * 2 ^ (64 + k) ≡ m * 2 ^ j * 2 ^ l
   further j k l e = ap (λ (z : ℕ). u * z) (pow-add 2 64 k) ∙ sym (mul-assoc u (2 ^ 64) (2 ^ k)) ∙ ap (λ (z : ℕ). z * 2 ^ k) raised ∙ same-power m i k j l (sym e)
 
-  back : 12 ≤ i → i - 12 + 64 ≡ 52 + i
-  back h = omega arith
-
   low-end : 2 ^ (i - 12) ≤ u
   low-end = le-of-mul-le-mul-right {k = 2 ^ 64}
-      (subst (λ (z : ℕ). z ≤ u * 2 ^ 64) (sym (pow-add 2 52 i) ∙ ap (λ (z : ℕ). 2 ^ z) (sym (back (G .least))) ∙ pow-add 2 (i - 12) 64)
+      (subst (λ (z : ℕ). z ≤ u * 2 ^ 64) (sym (pow-add 2 52 i) ∙ ap (λ (z : ℕ). 2 ^ z) (sym (omega arith)) ∙ pow-add 2 (i - 12) 64)
       (subst (λ (z : ℕ). 2 ^ 52 * 2 ^ i ≤ z) (sym raised) (mul-le-mul-right (2 ^ i) (G .lead))))
       (pow-pos 64)
 
   high-end : u < 2 ^ suc (i - 12)
   high-end = lt-of-mul-lt-mul-right (2 ^ 64)
-      (subst (λ (z : ℕ). u * 2 ^ 64 < z) (ap (λ (z : ℕ). 2 ^ z) (next (G .least)) ∙ pow-add 2 (suc (i - 12)) 64)
+      (subst (λ (z : ℕ). u * 2 ^ 64 < z) (ap (λ (z : ℕ). 2 ^ z) (omega arith) ∙ pow-add 2 (suc (i - 12)) 64)
       (subst (λ (z : ℕ). z < 2 ^ (53 + i)) (sym raised) (shl-lt 53 i (G .top))))
-    where
-      next : 12 ≤ i → 53 + i ≡ suc (i - 12) + 64
-      next h = omega arith
 
   pub place-is : i - 12 ≡ placeOf y
   unfolding placeOf
@@ -63,12 +57,9 @@ module _ (y : Float) (s : Bool) (m i : ℕ) (D : Decoded y s m i) (G : Digits m 
   -- both are m * 2 ^ 1022 of the smallest values
   exact : HasValue (round binary64 false u (2 ^ (i - 12))) false (m * 2 ^ 1022) (2 ^ 1074)
   exact =
-      let e = further 1022 1010 (i - 12) (spot (G .least)) in
+      let e = further 1022 1010 (i - 12) (omega arith) in
       same-value (round binary64 false u (2 ^ (i - 12))) false u (2 ^ (i - 12)) (m * 2 ^ 1022) (2 ^ 1074) (pow-pos (i - 12)) e
       (round-exact binary64 false u (2 ^ (i - 12)) m 1022 (pow-pos (i - 12)) (G .top) (lt-of-lt-of-le (shl-lt 53 1022 (G .top)) (pow-mono {i = 1075} {j = 2098} (omega arith))) e)
-    where
-      spot : 12 ≤ i → 1022 + (i - 12) ≡ i + 1010
-      spot h = omega arith
 
   pub significand-is : (r : Float) → T (fits binary64 r) → HasValue r false (m * 2 ^ 2352) (2 ^ 2404) → r ≡ significandOf y
   unfolding significandOf

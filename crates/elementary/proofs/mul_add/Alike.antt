@@ -56,12 +56,9 @@ module _ (g i w : ℕ) where
 
   unit : 2 ^ 1074 * 2 ^ k ≡ 2 ^ (g + i) * scale
   unit =
-      ap (λ (z : ℕ). 2 ^ 1074 * z) (pow-succ' 2 (i + g + w) ∙ ap (λ (z : ℕ). 2 * z) (pow-add 2 (i + g) w ∙ ap (λ (z : ℕ). 2 ^ z * 2 ^ w) (swap i g)))
+      ap (λ (z : ℕ). 2 ^ 1074 * z) (pow-succ' 2 (i + g + w) ∙ ap (λ (z : ℕ). 2 * z) (pow-add 2 (i + g) w ∙ ap (λ (z : ℕ). 2 ^ z * 2 ^ w) (omega arith)))
       ∙ turn (2 ^ 1074) (2 ^ (g + i)) (2 ^ w)
     where
-      swap : (i g : ℕ) → i + g ≡ g + i
-      swap i g = omega arith
-
       turn : (x y z : ℕ) → x * (2 * (y * z)) ≡ y * (z * x * 2)
       turn x y z = simp (mul-assoc, mul-comm, mul-left-comm)
 
@@ -89,16 +86,13 @@ module _ (g i w : ℕ) where
       ∙ ap (λ (z : ℕ). z - 53) (size-of (a * 2 ^ w) (i + 53 + g + w) low high)
       ∙ over i g w
     where
-      outer : (i g w : ℕ) → suc (i + 53) + g + w ≡ suc (i + 53 + g + w)
-      outer i g w = omega arith
-
       low : 2 ^ (i + 53 + g + w) ≤ a * 2 ^ w
       low = le-trans (le-of-eq (pow-add 2 (i + 53 + g) w)) (mul-le-mul-right (2 ^ w) (le-trans (le-of-eq (pow-add 2 (i + 53) g)) (le-div-iff-mul-le (pow-pos g) .0 (subst (λ (z : ℕ). 2 ^ (i + 53) ≤ z) (sym e) lo))))
 
       high : a * 2 ^ w < 2 ^ suc (i + 53 + g + w)
       high =
           lt-of-lt-of-le (mul-lt-mul-of-pos-right (div-lt-iff-lt-mul (pow-pos g) .0 (subst (λ (z : ℕ). z < 2 ^ suc (i + 53)) (sym e) hi)) (pow-pos w))
-          (le-of-eq (ap (λ (z : ℕ). z * 2 ^ w) (sym (pow-add 2 (suc (i + 53)) g)) ∙ sym (pow-add 2 (suc (i + 53) + g) w) ∙ ap (λ (z : ℕ). 2 ^ z) (outer i g w)))
+          (le-of-eq (ap (λ (z : ℕ). z * 2 ^ w) (sym (pow-add 2 (suc (i + 53)) g)) ∙ sym (pow-add 2 (suc (i + 53) + g) w) ∙ ap (λ (z : ℕ). 2 ^ z) (omega arith)))
 
       over : (i g w : ℕ) → suc (i + 53 + g + w) - 53 ≡ suc (i + g + w)
       over i g w = omega arith
@@ -132,20 +126,14 @@ round-alike s g a b u U L =
     let h : 54 < z = lt-of-not-le (λ (q : z ≤ 54). not-le-of-lt (lt-of-lt-of-le (size-lt t) (pow-mono q)) (L .big)) in
     let i = z - 54 in
     let e : z ≡ suc (i + 53) = split z h in
-    ap (λ (x : ℕ). round binary64 s (a * 2 ^ x) (2 ^ 2404)) (back u U)
+    ap (λ (x : ℕ). round binary64 s (a * 2 ^ x) (2 ^ 2404)) (omega arith)
     ∙ coarse s a w
-    ∙ same-units g i w s a b t L refl (size-reaches t (i + 53) (lt-of-lt-of-le (next (i + 53)) (le-of-eq (sym e)))) (subst (λ (x : ℕ). t < 2 ^ x) e (size-lt t))
+    ∙ same-units g i w s a b t L refl (size-reaches t (i + 53) (lt-of-lt-of-le (omega arith) (le-of-eq (sym e)))) (subst (λ (x : ℕ). t < 2 ^ x) e (size-lt t))
     ∙ sym (coarse s b w)
-    ∙ ap (λ (x : ℕ). round binary64 s (b * 2 ^ x) (2 ^ 2404)) (sym (back u U))
+    ∙ ap (λ (x : ℕ). round binary64 s (b * 2 ^ x) (2 ^ 2404)) (sym (omega arith))
   where
     split : (z : ℕ) → 54 < z → z ≡ suc (z - 54 + 53)
     split z h = omega arith
-
-    next : (x : ℕ) → x < suc x
-    next x = omega arith
-
-    back : (u : ℕ) → 1330 ≤ u → u ≡ u - 1330 + 1330
-    back u h = omega arith
 
 -- ---- a marked number
 module _ (g v r : ℕ) (M : Marked (suc g) v r) where
@@ -180,11 +168,8 @@ module _ (g v r : ℕ) (M : Marked (suc g) v r) where
         whole = a .whole ∙ sym (b .whole);
         to = λ z. b .none (mark-to (a .some z));
         from = λ z. a .none (mark-from (b .some z));
-        big = subst (λ (x : ℕ). 2 ^ 54 ≤ x) (sym (a .whole)) (le-trans H (more h (v / G)));
+        big = subst (λ (x : ℕ). 2 ^ 54 ≤ x) (sym (a .whole)) (le-trans H (omega arith));
       }
-    where
-      more : (x y : ℕ) → x ≤ x + y
-      more x y = omega arith
 
   pub minus-alike : (h : ℕ) → 2 ^ 54 + v / 2 ^ suc g < h → Alike (suc g) (h * 2 ^ suc g - v) (h * 2 ^ suc g - r * 2 ^ g)
   minus-alike h H =

@@ -1,6 +1,6 @@
 -- Arithmetic on numbers of two digits in any base P, and the shifts of numbers of two words. P is a variable here, since `omega` takes no number of more than 38 digits. Assumes nothing.
 use mathlib.Core.Path.{_≡_, refl, sym, ap, _∙_, subst}
-use Prim.Native.Nat.{ℕ, suc, _+_, _-_, _*_, _/_, _%_, _^_, _≤_, _<_}
+use Prim.Native.Nat.{ℕ, _+_, _-_, _*_, _/_, _%_, _^_, _≤_, _<_}
 use native.Mathlib.Nat.{le-trans, le-of-eq, le-of-lt, lt-of-lt-of-le, lt-of-le-of-lt, le-of-suc-le-suc, mul-assoc, mul-comm, mul-left-comm, mul-right-comm, mul-le-mul-left, mul-le-mul-right, lt-of-mul-lt-mul-right, div-add-mod', add-mul, mul-add, add-assoc, add-comm, add-left-comm, suc-mul, zero-mul, mul-div-mul-right, mod-lt, mul-lt-mul-of-pos-right}
 use native.Mathlib.Omega.{arith}
 use lib.Dec.{leb, ltb, le→leb, leb→le, lt→ltb, ltb→lt}
@@ -19,10 +19,7 @@ module _ (P ah al bh bl : ℕ) where
       go x y z e = omega arith
 
   pub add-fits : ah * P + al + (bh * P + bl) < P * P → ah + bh < P
-  add-fits h = lt-of-mul-lt-mul-right P (lt-of-le-of-lt (le-trans (le-add ((ah + bh) * P) (al + bl)) (le-of-eq add-flat)) h)
-    where
-      le-add : (x y : ℕ) → x ≤ x + y
-      le-add x y = omega arith
+  add-fits h = lt-of-mul-lt-mul-right P (lt-of-le-of-lt (le-trans (omega arith) (le-of-eq add-flat)) h)
 
   one-more : (ah + bh + 1) * P ≡ ah * P + bh * P + P
   one-more = add-mul (ah + bh) 1 P ∙ ap (λ (z : ℕ). z + 1 * P) (add-mul ah bh P) ∙ ap (λ (z : ℕ). ah * P + bh * P + z) (suc-mul 0 P ∙ ap (λ (z : ℕ). z + P) (zero-mul P) ∙ zero-plus P)
@@ -60,23 +57,17 @@ module _ (P ah al bh bl : ℕ) where
 
   pub sub-flat : bh ≤ ah → bl ≤ al → (ah - bh) * P + (al - bl) ≡ ah * P + al - (bh * P + bl)
   sub-flat h l =
-      let e : ah * P ≡ bh * P + (ah - bh) * P = ap (λ (z : ℕ). z * P) (join h) ∙ add-mul bh (ah - bh) P in
+      let e : ah * P ≡ bh * P + (ah - bh) * P = ap (λ (z : ℕ). z * P) (omega arith) ∙ add-mul bh (ah - bh) P in
       go (ah * P) (bh * P) ((ah - bh) * P) e
     where
-      join : bh ≤ ah → ah ≡ bh + (ah - bh)
-      join k = omega arith
-
       go : (x y z : ℕ) → x ≡ y + z → z + (al - bl) ≡ x + al - (y + bl)
       go x y z e = omega arith
 
   pub sub-borrow : bh < ah → bl < P → (ah - bh - 1) * P + (al + (P - 1 - bl) + 1) ≡ ah * P + al - (bh * P + bl)
   sub-borrow h l =
-      let e : ah * P ≡ bh * P + (ah - bh - 1) * P + P = ap (λ (z : ℕ). z * P) (join h) ∙ suc-mul (bh + (ah - bh - 1)) P ∙ ap (λ (z : ℕ). z + P) (add-mul bh (ah - bh - 1) P) in
+      let e : ah * P ≡ bh * P + (ah - bh - 1) * P + P = ap (λ (z : ℕ). z * P) (omega arith) ∙ suc-mul (bh + (ah - bh - 1)) P ∙ ap (λ (z : ℕ). z + P) (add-mul bh (ah - bh - 1) P) in
       go (ah * P) (bh * P) ((ah - bh - 1) * P) e
     where
-      join : bh < ah → ah ≡ suc (bh + (ah - bh - 1))
-      join k = omega arith
-
       go : (x y z : ℕ) → x ≡ y + z + P → z + (al + (P - 1 - bl) + 1) ≡ x + al - (y + bl)
       go x y z e = omega arith
 
@@ -115,12 +106,9 @@ module _ (P h : ℕ) (Q : 0 < P) where
 
   pub one-less : 0 < h → (h - 1) * P + (P - 1) ≡ h * P + 0 - 1
   one-less k =
-      let e : h * P ≡ (h - 1) * P + P = ap (λ (z : ℕ). z * P) (join k) ∙ suc-mul (h - 1) P in
+      let e : h * P ≡ (h - 1) * P + P = ap (λ (z : ℕ). z * P) (omega arith) ∙ suc-mul (h - 1) P in
       go (h * P) ((h - 1) * P) e
     where
-      join : 0 < h → h ≡ suc (h - 1)
-      join k = omega arith
-
       go : (x y : ℕ) → x ≡ y + P → y + (P - 1) ≡ x + 0 - 1
       go x y e = omega arith
 
@@ -135,16 +123,10 @@ module _ (P h l Q : ℕ) where
       ∙ sym (add-mul (h * P) l Q)
 
   pub left-fits : (h * P + l) * Q < P * P → h * Q + l * Q / P < P
-  left-fits k = lt-of-mul-lt-mul-right P (lt-of-le-of-lt (le-trans (le-add ((h * Q + l * Q / P) * P) (l * Q % P)) (le-of-eq left-flat)) k)
-    where
-      le-add : (x y : ℕ) → x ≤ x + y
-      le-add x y = omega arith
+  left-fits k = lt-of-mul-lt-mul-right P (lt-of-le-of-lt (le-trans (omega arith) (le-of-eq left-flat)) k)
 
   pub left-high : (h * P + l) * Q < P * P → h * Q < P
-  left-high k = lt-of-le-of-lt (le-add (h * Q) (l * Q / P)) (left-fits k)
-    where
-      le-add : (x y : ℕ) → x ≤ x + y
-      le-add x y = omega arith
+  left-high k = lt-of-le-of-lt (omega arith) (left-fits k)
 
 carried : (l d z : ℕ) → z + d ≡ 64 → l / 2 ^ z ≡ l * 2 ^ d / 2 ^ 64
 carried l d z s = sym (ap (λ (t : ℕ). l * 2 ^ d / t) (ap (λ (t : ℕ). 2 ^ t) (sym s) ∙ pow-add 2 z d) ∙ mul-div-mul-right l (2 ^ z) (pow-pos d))
@@ -183,16 +165,13 @@ module _ (h l z d : ℕ) (s : z + d ≡ 64) where
       ∙ ap (λ (t : ℕ). t + l / 2 ^ d) (div-add-mod' (h * 2 ^ z) (2 ^ 64))
       ∙ sym (wide-div h l z d s)
 
-far-split : (d : ℕ) → 64 ≤ d → d ≡ 64 + (d - 64)
-far-split d h = omega arith
-
 pub right-far : (h l d u : ℕ) → 64 ≤ d → l < 2 ^ 64 → u ≡ h / 2 ^ (d - 64) → wide 0 u ≡ wide h l / 2 ^ d
 right-far h l d u D L e =
     zero-high u
     ∙ e
     ∙ ap (λ (t : ℕ). t / 2 ^ (d - 64)) (sym (high h 64 L))
     ∙ shr-shr (wide h l) 64 (d - 64)
-    ∙ ap (λ (t : ℕ). wide h l / 2 ^ t) (sym (far-split d D))
+    ∙ ap (λ (t : ℕ). wide h l / 2 ^ t) (sym (omega arith))
   where
     zero-high : (u : ℕ) → wide 0 u ≡ u
     zero-high u = omega arith
@@ -200,16 +179,13 @@ right-far h l d u D L e =
 -- ---- what is dropped
 pub lost-near : (h l d r : ℕ) → d < 64 → r ≡ l % 2 ^ d → Same r (wide h l % 2 ^ d)
 lost-near h l d r D e =
-    let f : wide h l % 2 ^ d ≡ r = wide-mod h l (64 - d) d (whole D) ∙ sym e in
+    let f : wide h l % 2 ^ d ≡ r = wide-mod h l (64 - d) d (omega arith) ∙ sym e in
     record { to = λ z. f ∙ z; from = λ z. sym f ∙ z }
-  where
-    whole : d < 64 → 64 - d + d ≡ 64
-    whole k = omega arith
 
 pub lost-far : (h l d r : ℕ) → 64 ≤ d → l < 2 ^ 64 → Any l (h % 2 ^ (d - 64)) r → Same r (wide h l % 2 ^ d)
 lost-far h l d r D L A =
     let f : wide h l % 2 ^ d ≡ h % 2 ^ (d - 64) * 2 ^ 64 + l =
-    ap (λ (t : ℕ). wide h l % t) (ap (λ (t : ℕ). 2 ^ t) (far-split d D) ∙ pow-add 2 64 (d - 64) ∙ mul-comm (2 ^ 64) (2 ^ (d - 64)))
+    ap (λ (t : ℕ). wide h l % t) (ap (λ (t : ℕ). 2 ^ t) (omega arith) ∙ pow-add 2 64 (d - 64) ∙ mul-comm (2 ^ 64) (2 ^ (d - 64)))
     ∙ mod-mul (wide h l) (pow-pos (d - 64)) (pow-pos 64)
     ∙ ap (λ (t : ℕ). t % 2 ^ (d - 64) * 2 ^ 64 + wide h l % 2 ^ 64) (high h 64 L)
     ∙ ap (λ (t : ℕ). h % 2 ^ (d - 64) * 2 ^ 64 + t) (low-word h l L) in

@@ -34,10 +34,7 @@ and-true true = refl
 and-true false = refl
 
 positive-is : (a b : ℕ) → a < b → ltb 0 (b - a) ≡ true
-positive-is a b h = same-test (ltb 0 (b - a)) true (λ t. tt) (λ t. lt→ltb 0 (b - a) (some h))
-  where
-    some : a < b → 0 < b - a
-    some h = omega arith
+positive-is a b h = same-test (ltb 0 (b - a)) true (λ t. tt) (λ t. lt→ltb 0 (b - a) (omega arith))
 
 pub sum-comm : (f : Format) (s t : Bool) (a b c : ℕ) → sum f s a t b c ≡ sum f t b s a c
 sum-comm f s t a b c = elim (beq-cases s t) [

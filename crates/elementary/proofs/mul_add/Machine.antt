@@ -3,15 +3,15 @@ use mathlib.Core.Path.{_≡_, refl, sym, ap, _∙_, subst}
 use mathlib.Core.Logic.{inl, inr}
 use mathlib.Core.Bool.{Bool, true, false, not, Bool·beq, true≢false, false≢true}
 use Prim.Native.Nat.{ℕ, _+_, _-_, _*_, _/_, _%_, _^_, _≤_, _<_}
-use native.Mathlib.Nat.{lt-of-lt-of-le, mod-lt, mul-le-mul, mul-assoc, mul-comm, mul-left-comm, mul-lt-mul-of-pos-right, add-mul, add-comm}
+use native.Mathlib.Nat.{lt-of-lt-of-le, mul-le-mul, mul-lt-mul-of-pos-right, add-mul, add-comm}
 use native.Mathlib.Omega.{arith}
 use lib.Dec.{T, leb}
-use lib.Pow.{pow-add, pow-pos, pow-mono, shl-lt}
-use lib.Ieee.{Float, nan, inf, fin, binary64, low, toBits, fits, isNan, eq, add, sub, mul, sum, round, unlike}
+use lib.Pow.{pow-pos, pow-mono, shl-lt}
+use lib.Ieee.{Float, nan, inf, fin, binary64, toBits, fits, isNan, eq, add, sub, mul, sum, round, unlike}
 use lib.Ieee.Exact.{HasValue, round-exact}
 use Rattle.elementary.specs.Round.{wide, Decoded}
-use Rattle.elementary.specs.MulAdd.Steps.{Marked, Middling, Opened}
-use Rattle.elementary.proofs.Decode.{same-power, same-value, normal-value}
+use Rattle.elementary.specs.MulAdd.Steps.{Marked, Middling, Opened, Apart}
+use Rattle.elementary.proofs.Decode.{split-power, same-power, same-value, normal-value}
 use Rattle.elementary.proofs.mul_add.Sums.{sum-same, sum-more}
 use Rattle.elementary.proofs.Adding.{sub-mul, add-at, sub-at}
 use Rattle.elementary.specs.MulAdd.{fma}
@@ -29,20 +29,8 @@ not-beq false = refl
 
 pub exact : (s : Bool) (q e : ℕ) → q < 2 ^ 53 → 1330 ≤ e → e ≤ 3375 → HasValue (round binary64 s (q * 2 ^ e) (2 ^ 2404)) s (q * 2 ^ e) (2 ^ 2404)
 exact s q e Q lo hi =
-    round-exact binary64 s (q * 2 ^ e) (2 ^ 2404) q (e - 1330) (pow-pos 2404) Q (lt-of-lt-of-le (shl-lt 53 (e - 1330) Q) (pow-mono (room e hi)))
-    (ap (λ (z : ℕ). q * 2 ^ z * 2 ^ 1074) (back e lo)
-    ∙ ap (λ (z : ℕ). q * z * 2 ^ 1074) (pow-add 2 (e - 1330) 1330)
-    ∙ turn q (2 ^ (e - 1330)) (2 ^ 1330) (2 ^ 1074)
-    ∙ ap (λ (z : ℕ). q * 2 ^ (e - 1330) * z) (sym (pow-add 2 1330 1074)))
-  where
-    room : (e : ℕ) → e ≤ 3375 → 53 + (e - 1330) ≤ 2098
-    room e h = omega arith
-
-    back : (e : ℕ) → 1330 ≤ e → e ≡ e - 1330 + 1330
-    back e h = omega arith
-
-    turn : (a x y z : ℕ) → a * (x * y) * z ≡ a * x * (y * z)
-    turn a x y z = simp (mul-assoc, mul-comm, mul-left-comm)
+    round-exact binary64 s (q * 2 ^ e) (2 ^ 2404) q (e - 1330) (pow-pos 2404) Q (lt-of-lt-of-le (shl-lt 53 (e - 1330) Q) (pow-mono {i = 53 + (e - 1330)} {j = 2098} (omega arith)))
+    (same-power q e 1074 (e - 1330) 2404 (omega arith))
 
 module _ (x y : Float) (s : Bool) (a b e : ℕ) (lo : 1330 ≤ e) (hi : e ≤ 3375) (p : HasValue x s (a * 2 ^ e) (2 ^ 2404)) (q : HasValue y s (b * 2 ^ e) (2 ^ 2404)) where
   pub sub-up : b < a → a - b < 2 ^ 53 → HasValue (sub binary64 x y) s ((a - b) * 2 ^ e) (2 ^ 2404)
@@ -63,7 +51,7 @@ module _ (x y : Float) (s : Bool) (a b e : ℕ) (lo : 1330 ≤ e) (hi : e ≤ 33
       (exact (not s) (b - a) e u lo hi)
 
 pub shift : (q u j : ℕ) → q * 2 ^ (u + j) ≡ q * 2 ^ j * 2 ^ u
-shift q u j = ap (λ (z : ℕ). q * z) (pow-add 2 u j ∙ mul-comm (2 ^ u) (2 ^ j)) ∙ sym (mul-assoc q (2 ^ j) (2 ^ u))
+shift q u j = split-power q (u + j) j u (add-comm u j)
 
 -- ---- `placed`
 module _ (x y z : Float) (s : Bool) (hi lo m k : ℕ) (K : Middling k) (M : Marked 13 lo m) (L : lo < 2 ^ 64) (N : m < 2 ^ 52) (H : hi < 2 ^ 52)
@@ -72,90 +60,46 @@ module _ (x y z : Float) (s : Bool) (hi lo m k : ℕ) (K : Middling k) (M : Mark
   abbrev u : ℕ
   u = k + 254
 
-  upper : (k : ℕ) → 1536 ≤ k → k - 1011 + 1329 ≡ k + 254 + 64
-  upper k h = omega arith
-
-  lower : (k : ℕ) → 1536 ≤ k → k - 1063 + 1329 ≡ k + 254 + 12
-  lower k h = omega arith
-
-  least : (k : ℕ) → 1536 ≤ k → 1330 ≤ k + 254
-  least k h = omega arith
-
-  least' : (k : ℕ) → 1536 ≤ k → 1330 ≤ k + 254 + 64
-  least' k h = omega arith
-
-  most : (k : ℕ) → k < 2559 → k + 254 + 64 ≤ 3375
-  most k h = omega arith
-
   p' : HasValue x s ((2 ^ 52 + hi) * 2 ^ (u + 64)) (2 ^ 2404)
-  p' = subst (λ (w : ℕ). HasValue x s ((2 ^ 52 + hi) * 2 ^ w) (2 ^ 2404)) (upper k (K .low)) p
+  p' = subst (λ (w : ℕ). HasValue x s ((2 ^ 52 + hi) * 2 ^ w) (2 ^ 2404)) (omega arith) p
 
   q' : HasValue y s ((2 ^ 52 + 0x8_0000_0000_0001) * 2 ^ (u + 64)) (2 ^ 2404)
-  q' = subst (λ (w : ℕ). HasValue y s ((2 ^ 52 + 0x8_0000_0000_0001) * 2 ^ w) (2 ^ 2404)) (upper k (K .low)) q
+  q' = subst (λ (w : ℕ). HasValue y s ((2 ^ 52 + 0x8_0000_0000_0001) * 2 ^ w) (2 ^ 2404)) (omega arith) q
 
   r' : HasValue z s ((2 ^ 52 + m) * 2 ^ (u + 12)) (2 ^ 2404)
-  r' = subst (λ (w : ℕ). HasValue z s ((2 ^ 52 + m) * 2 ^ w) (2 ^ 2404)) (lower k (K .low)) r
+  r' = subst (λ (w : ℕ). HasValue z s ((2 ^ 52 + m) * 2 ^ w) (2 ^ 2404)) (omega arith) r
 
   pub placed-up : 2 ^ 51 + 8 ≤ hi → add binary64 (sub binary64 x y) z ≡ round binary64 s (wide (hi - 2 ^ 51) lo * 2 ^ (k + 254)) (2 ^ 2404)
   placed-up g =
       let d = 2 ^ 52 + hi - (2 ^ 52 + 0x8_0000_0000_0001) in
       let t = 2 ^ 52 + m in
       let h = (hi - 2 ^ 51) * 2 ^ 51 in
-      add-at (sub binary64 x y) z s s (d * 2 ^ (u + 64)) (t * 2 ^ (u + 12)) (2 ^ 2404) (pow-pos 2404) (sub-up x y s (2 ^ 52 + hi) (2 ^ 52 + 0x8_0000_0000_0001) (u + 64) (least' k (K .low)) (most k (K .high)) p' q' (above hi g) (small hi H)) r'
+      let joined : d * 2 ^ 64 + t * 2 ^ 12 ≡ h * 2 ^ 13 + m * 2 ^ 12 = omega arith in
+      let whole : h * 2 ^ 13 + lo ≡ wide (hi - 2 ^ 51) lo = omega arith in
+      add-at (sub binary64 x y) z s s (d * 2 ^ (u + 64)) (t * 2 ^ (u + 12)) (2 ^ 2404) (pow-pos 2404) (sub-up x y s (2 ^ 52 + hi) (2 ^ 52 + 0x8_0000_0000_0001) (u + 64) (omega arith) (omega arith) p' q' (omega arith) (omega arith)) r'
       ∙ sum-same binary64 s s (d * 2 ^ (u + 64)) (t * 2 ^ (u + 12)) (2 ^ 2404) (beq-refl s)
       ∙ ap (λ (w : ℕ). round binary64 s (w + t * 2 ^ (u + 12)) (2 ^ 2404)) (shift d u 64)
       ∙ ap (λ (w : ℕ). round binary64 s (d * 2 ^ 64 * 2 ^ u + w) (2 ^ 2404)) (shift t u 12)
       ∙ ap (λ (w : ℕ). round binary64 s w (2 ^ 2404)) (sym (add-mul (d * 2 ^ 64) (t * 2 ^ 12) (2 ^ u)))
-      ∙ ap (λ (w : ℕ). round binary64 s (w * 2 ^ u) (2 ^ 2404)) (join hi m g)
-      ∙ sym (round-alike s 13 (h * 2 ^ 13 + lo) (h * 2 ^ 13 + m * 2 ^ 12) u (least k (K .low)) (plus-alike 12 lo m M h (big hi g)))
-      ∙ ap (λ (w : ℕ). round binary64 s (w * 2 ^ u) (2 ^ 2404)) (whole hi lo)
-    where
-      above : (hi : ℕ) → 2 ^ 51 + 8 ≤ hi → 2 ^ 52 + 0x8_0000_0000_0001 < 2 ^ 52 + hi
-      above hi g = omega arith
-
-      small : (hi : ℕ) → hi < 2 ^ 52 → 2 ^ 52 + hi - (2 ^ 52 + 0x8_0000_0000_0001) < 2 ^ 53
-      small hi h = omega arith
-
-      join : (hi m : ℕ) → 2 ^ 51 + 8 ≤ hi → (2 ^ 52 + hi - (2 ^ 52 + 0x8_0000_0000_0001)) * 2 ^ 64 + (2 ^ 52 + m) * 2 ^ 12 ≡ (hi - 2 ^ 51) * 2 ^ 51 * 2 ^ 13 + m * 2 ^ 12
-      join hi m g = omega arith
-
-      big : (hi : ℕ) → 2 ^ 51 + 8 ≤ hi → 2 ^ 54 ≤ (hi - 2 ^ 51) * 2 ^ 51
-      big hi g = omega arith
-
-      whole : (hi lo : ℕ) → (hi - 2 ^ 51) * 2 ^ 51 * 2 ^ 13 + lo ≡ wide (hi - 2 ^ 51) lo
-      whole hi lo = omega arith
+      ∙ ap (λ (w : ℕ). round binary64 s (w * 2 ^ u) (2 ^ 2404)) joined
+      ∙ sym (round-alike s 13 (h * 2 ^ 13 + lo) (h * 2 ^ 13 + m * 2 ^ 12) u (omega arith) (plus-alike 12 lo m M h (omega arith)))
+      ∙ ap (λ (w : ℕ). round binary64 s (w * 2 ^ u) (2 ^ 2404)) whole
 
   pub placed-down : hi + 9 ≤ 2 ^ 51 → add binary64 (sub binary64 x y) z ≡ round binary64 (not s) (((2 ^ 51 - hi) * 2 ^ 64 - lo) * 2 ^ (k + 254)) (2 ^ 2404)
   placed-down g =
       let d = 2 ^ 52 + 0x8_0000_0000_0001 - (2 ^ 52 + hi) in
       let t = 2 ^ 52 + m in
       let h = (2 ^ 51 - hi) * 2 ^ 51 in
-      add-at (sub binary64 x y) z (not s) s (d * 2 ^ (u + 64)) (t * 2 ^ (u + 12)) (2 ^ 2404) (pow-pos 2404) (sub-down x y s (2 ^ 52 + hi) (2 ^ 52 + 0x8_0000_0000_0001) (u + 64) (least' k (K .low)) (most k (K .high)) p' q' (under hi g) (small hi)) r'
+      let joined : d * 2 ^ 64 - t * 2 ^ 12 ≡ h * 2 ^ 13 - m * 2 ^ 12 = omega arith in
+      let whole : h * 2 ^ 13 - lo ≡ (2 ^ 51 - hi) * 2 ^ 64 - lo = omega arith in
+      add-at (sub binary64 x y) z (not s) s (d * 2 ^ (u + 64)) (t * 2 ^ (u + 12)) (2 ^ 2404) (pow-pos 2404) (sub-down x y s (2 ^ 52 + hi) (2 ^ 52 + 0x8_0000_0000_0001) (u + 64) (omega arith) (omega arith) p' q' (omega arith) (omega arith)) r'
       ∙ ap (λ (w : ℕ). sum binary64 (not s) w s (t * 2 ^ (u + 12)) (2 ^ 2404)) (shift d u 64)
       ∙ ap (λ (w : ℕ). sum binary64 (not s) (d * 2 ^ 64 * 2 ^ u) s w (2 ^ 2404)) (shift t u 12)
-      ∙ sum-more binary64 (not s) s (d * 2 ^ 64 * 2 ^ u) (t * 2 ^ 12 * 2 ^ u) (2 ^ 2404) (not-beq s) (mul-lt-mul-of-pos-right (order hi m g N) (pow-pos u))
+      ∙ sum-more binary64 (not s) s (d * 2 ^ 64 * 2 ^ u) (t * 2 ^ 12 * 2 ^ u) (2 ^ 2404) (not-beq s) (mul-lt-mul-of-pos-right (omega arith) (pow-pos u))
       ∙ ap (λ (w : ℕ). round binary64 (not s) w (2 ^ 2404)) (sym (sub-mul (d * 2 ^ 64) (t * 2 ^ 12) (2 ^ u)))
-      ∙ ap (λ (w : ℕ). round binary64 (not s) (w * 2 ^ u) (2 ^ 2404)) (join hi m g N)
-      ∙ sym (round-alike (not s) 13 (h * 2 ^ 13 - lo) (h * 2 ^ 13 - m * 2 ^ 12) u (least k (K .low)) (minus-alike 12 lo m M h (big hi lo g L)))
-      ∙ ap (λ (w : ℕ). round binary64 (not s) (w * 2 ^ u) (2 ^ 2404)) (whole hi lo)
-    where
-      under : (hi : ℕ) → hi + 9 ≤ 2 ^ 51 → 2 ^ 52 + hi < 2 ^ 52 + 0x8_0000_0000_0001
-      under hi g = omega arith
-
-      small : (hi : ℕ) → 2 ^ 52 + 0x8_0000_0000_0001 - (2 ^ 52 + hi) < 2 ^ 53
-      small hi = omega arith
-
-      order : (hi m : ℕ) → hi + 9 ≤ 2 ^ 51 → m < 2 ^ 52 → (2 ^ 52 + m) * 2 ^ 12 < (2 ^ 52 + 0x8_0000_0000_0001 - (2 ^ 52 + hi)) * 2 ^ 64
-      order hi m g n = omega arith
-
-      join : (hi m : ℕ) → hi + 9 ≤ 2 ^ 51 → m < 2 ^ 52 → (2 ^ 52 + 0x8_0000_0000_0001 - (2 ^ 52 + hi)) * 2 ^ 64 - (2 ^ 52 + m) * 2 ^ 12 ≡ (2 ^ 51 - hi) * 2 ^ 51 * 2 ^ 13 - m * 2 ^ 12
-      join hi m g n = omega arith
-
-      big : (hi lo : ℕ) → hi + 9 ≤ 2 ^ 51 → lo < 2 ^ 64 → 2 ^ 54 + lo / 2 ^ 13 < (2 ^ 51 - hi) * 2 ^ 51
-      big hi lo g l = omega arith
-
-      whole : (hi lo : ℕ) → (2 ^ 51 - hi) * 2 ^ 51 * 2 ^ 13 - lo ≡ (2 ^ 51 - hi) * 2 ^ 64 - lo
-      whole hi lo = omega arith
+      ∙ ap (λ (w : ℕ). round binary64 (not s) (w * 2 ^ u) (2 ^ 2404)) joined
+      ∙ sym (round-alike (not s) 13 (h * 2 ^ 13 - lo) (h * 2 ^ 13 - m * 2 ^ 12) u (omega arith) (minus-alike 12 lo m M h (omega arith)))
+      ∙ ap (λ (w : ℕ). round binary64 (not s) (w * 2 ^ u) (2 ^ 2404)) whole
 
 -- ---- `near`, with p for the product and c for the addend, both by the unit 2 ^ u
 scaled-addend : (n cn : Bool) (p m d u : ℕ) → sum binary64 n (p * 2 ^ u) cn (m * 2 ^ d * 2 ^ u) (2 ^ 2404) ≡ sum binary64 n (p * 2 ^ u) cn (m * 2 ^ (u + d)) (2 ^ 2404)
@@ -174,7 +118,7 @@ other-sign false true e = (refl, refl)
 other-sign false false e = absurd (true≢false e)
 
 module _ (n cn : Bool) (p m d u : ℕ) where
-  pub near-same : Bool·beq n cn ≡ true → round binary64 cn ((m * 2 ^ d + p) * 2 ^ u) (2 ^ 2404) ≡ sum binary64 n (p * 2 ^ u) cn (m * 2 ^ (u + d)) (2 ^ 2404)
+  near-same : Bool·beq n cn ≡ true → round binary64 cn ((m * 2 ^ d + p) * 2 ^ u) (2 ^ 2404) ≡ sum binary64 n (p * 2 ^ u) cn (m * 2 ^ (u + d)) (2 ^ 2404)
   near-same e =
       ap (λ (b : Bool). round binary64 b ((m * 2 ^ d + p) * 2 ^ u) (2 ^ 2404)) (same-sign n cn e)
       ∙ ap (λ (w : ℕ). round binary64 n (w * 2 ^ u) (2 ^ 2404)) (add-comm (m * 2 ^ d) p)
@@ -182,19 +126,46 @@ module _ (n cn : Bool) (p m d u : ℕ) where
       ∙ sym (sum-same binary64 n cn (p * 2 ^ u) (m * 2 ^ d * 2 ^ u) (2 ^ 2404) e)
       ∙ scaled-addend n cn p m d u
 
-  pub near-more : Bool·beq n cn ≡ false → m * 2 ^ d < p → round binary64 (not cn) ((p - m * 2 ^ d) * 2 ^ u) (2 ^ 2404) ≡ sum binary64 n (p * 2 ^ u) cn (m * 2 ^ (u + d)) (2 ^ 2404)
+  near-more : Bool·beq n cn ≡ false → m * 2 ^ d < p → round binary64 (not cn) ((p - m * 2 ^ d) * 2 ^ u) (2 ^ 2404) ≡ sum binary64 n (p * 2 ^ u) cn (m * 2 ^ (u + d)) (2 ^ 2404)
   near-more e l =
       ap (λ (b : Bool). round binary64 b ((p - m * 2 ^ d) * 2 ^ u) (2 ^ 2404)) (other-sign n cn e .0)
       ∙ ap (λ (w : ℕ). round binary64 n w (2 ^ 2404)) (sub-mul p (m * 2 ^ d) (2 ^ u))
       ∙ sym (sum-more binary64 n cn (p * 2 ^ u) (m * 2 ^ d * 2 ^ u) (2 ^ 2404) e (mul-lt-mul-of-pos-right l (pow-pos u)))
       ∙ scaled-addend n cn p m d u
 
-  pub near-less : Bool·beq n cn ≡ false → p < m * 2 ^ d → round binary64 cn ((m * 2 ^ d - p) * 2 ^ u) (2 ^ 2404) ≡ sum binary64 n (p * 2 ^ u) cn (m * 2 ^ (u + d)) (2 ^ 2404)
+  near-less : Bool·beq n cn ≡ false → p < m * 2 ^ d → round binary64 cn ((m * 2 ^ d - p) * 2 ^ u) (2 ^ 2404) ≡ sum binary64 n (p * 2 ^ u) cn (m * 2 ^ (u + d)) (2 ^ 2404)
   near-less e l =
       ap (λ (w : ℕ). round binary64 cn w (2 ^ 2404)) (sub-mul (m * 2 ^ d) p (2 ^ u))
       ∙ sym (sum-more binary64 cn n (m * 2 ^ d * 2 ^ u) (p * 2 ^ u) (2 ^ 2404) (other-sign n cn e .1) (mul-lt-mul-of-pos-right l (pow-pos u)))
       ∙ sum-comm binary64 cn n (m * 2 ^ d * 2 ^ u) (p * 2 ^ u) (2 ^ 2404)
       ∙ scaled-addend n cn p m d u
+
+-- v stands for 2 ^ 115 plus the sum, and is turned back
+module _ (n cn : Bool) (p m d u vh vl : ℕ) (S : Bool·beq n cn ≡ true → wide vh vl ≡ 2 ^ 115 + (m * 2 ^ d + p)) (O : Bool·beq n cn ≡ false → wide vh vl + p ≡ 2 ^ 115 + m * 2 ^ d) where
+  pub near-top : m * 2 ^ d < 2 ^ 114 → p < 2 ^ 106 → vh < 2 ^ 52
+  near-top t h = elim (beq-cases n cn) [
+    | inl e ↦ let v = S (e .0) in omega arith
+    | inr e ↦ let v = O (e .0) in omega arith
+  ]
+
+  pub near-is : (r : Float) → vl < 2 ^ 64 → Apart vh → (2 ^ 51 ≤ vh → r ≡ round binary64 cn (wide (vh - 2 ^ 51) vl * 2 ^ u) (2 ^ 2404)) → (vh < 2 ^ 51 → r ≡ round binary64 (not cn) (((2 ^ 51 - vh) * 2 ^ 64 - vl) * 2 ^ u) (2 ^ 2404))
+      → r ≡ sum binary64 n (p * 2 ^ u) cn (m * 2 ^ (u + d)) (2 ^ 2404)
+  near-is r L A f g = elim (beq-cases n cn) [
+    | inl e ↦ let v = S (e .0) in elim (A .off) [
+      | inl q ↦
+          let w : wide (vh - 2 ^ 51) vl ≡ m * 2 ^ d + p = omega arith in
+          f (omega arith) ∙ ap (λ (z : ℕ). round binary64 cn (z * 2 ^ u) (2 ^ 2404)) w ∙ near-same n cn p m d u (e .0)
+      | inr q ↦ absurd (omega arith)
+    ]
+    | inr e ↦ let v = O (e .0) in elim (A .off) [
+      | inl q ↦
+          let w : wide (vh - 2 ^ 51) vl ≡ m * 2 ^ d - p = omega arith in
+          f (omega arith) ∙ ap (λ (z : ℕ). round binary64 cn (z * 2 ^ u) (2 ^ 2404)) w ∙ near-less n cn p m d u (e .0) (omega arith)
+      | inr q ↦
+          let w : (2 ^ 51 - vh) * 2 ^ 64 - vl ≡ p - m * 2 ^ d = omega arith in
+          g (omega arith) ∙ ap (λ (z : ℕ). round binary64 (not cn) (z * 2 ^ u) (2 ^ 2404)) w ∙ near-more n cn p m d u (e .0) (omega arith)
+    ]
+  ]
 
 -- ---- `beyond`, with p for the product and r for its leading digits
 module _ (c x y : Float) (n cn : Bool) (p m d k r : ℕ) (K : Middling k) (M : Marked 55 p r) (R : r < 2 ^ 52) (D : 62 ≤ d) (L : 2 ^ 52 ≤ m) (lo : 2 ^ 104 ≤ p) (hi : p < 2 ^ 106)
@@ -206,49 +177,23 @@ module _ (c x y : Float) (n cn : Bool) (p m d k r : ℕ) (K : Middling k) (M : M
   abbrev h : ℕ
   h = m * 2 ^ (d - 55)
 
-  place : (k : ℕ) → 1536 ≤ k → k - 1021 + 1329 ≡ k + 254 + 54
-  place k g = omega arith
-
-  low-unit : (k : ℕ) → 1536 ≤ k → 1330 ≤ k + 254
-  low-unit k g = omega arith
-
-  low-place : (k : ℕ) → 1536 ≤ k → 1330 ≤ k + 254 + 54
-  low-place k g = omega arith
-
-  high-place : (k : ℕ) → k < 2559 → k + 254 + 54 ≤ 3375
-  high-place k g = omega arith
-
-  some-digits : (r p : ℕ) → r / 2 ≡ p / 2 ^ 55 → 2 ^ 104 ≤ p → 2 ^ 52 + 0 < 2 ^ 52 + r
-  some-digits r p e l = omega arith
-
-  few-digits : (r : ℕ) → r < 2 ^ 52 → 2 ^ 52 + r - (2 ^ 52 + 0) < 2 ^ 53
-  few-digits r l = omega arith
-
-  less-lead : (r : ℕ) → 2 ^ 52 + r - (2 ^ 52 + 0) ≡ r
-  less-lead r = omega arith
-
   W : HasValue (sub binary64 x y) n (r * 2 ^ (v + 54)) (2 ^ 2404)
   W =
-      subst (λ (w : ℕ). HasValue (sub binary64 x y) n (w * 2 ^ (v + 54)) (2 ^ 2404)) (less-lead r)
-      (sub-up x y n (2 ^ 52 + r) (2 ^ 52 + 0) (v + 54) (low-place k (K .low)) (high-place k (K .high))
-      (subst (λ (w : ℕ). HasValue x n ((2 ^ 52 + r) * 2 ^ w) (2 ^ 2404)) (place k (K .low)) X)
-      (subst (λ (w : ℕ). HasValue y n ((2 ^ 52 + 0) * 2 ^ w) (2 ^ 2404)) (place k (K .low)) Y)
-      (some-digits r p (M .whole) lo) (few-digits r R))
+      subst (λ (w : ℕ). HasValue (sub binary64 x y) n (w * 2 ^ (v + 54)) (2 ^ 2404)) (omega arith)
+      (sub-up x y n (2 ^ 52 + r) (2 ^ 52 + 0) (v + 54) (omega arith) (omega arith)
+      (subst (λ (w : ℕ). HasValue x n ((2 ^ 52 + r) * 2 ^ w) (2 ^ 2404)) (omega arith) X)
+      (subst (λ (w : ℕ). HasValue y n ((2 ^ 52 + 0) * 2 ^ w) (2 ^ 2404)) (omega arith) Y)
+      (omega arith) (omega arith))
 
   high-digits : m * 2 ^ (v + d) ≡ h * 2 ^ 55 * 2 ^ v
-  high-digits = shift m v d ∙ ap (λ (w : ℕ). w * 2 ^ v) (ap (λ (w : ℕ). m * 2 ^ w) (back d D) ∙ ap (λ (w : ℕ). m * w) (pow-add 2 (d - 55) 55) ∙ sym (mul-assoc m (2 ^ (d - 55)) (2 ^ 55)))
-    where
-      back : (d : ℕ) → 62 ≤ d → d ≡ d - 55 + 55
-      back d g = omega arith
+  high-digits = shift m v d ∙ ap (λ (w : ℕ). w * 2 ^ v) (split-power m d (d - 55) 55 (omega arith))
 
   h-large : 2 ^ 59 ≤ h
-  h-large = mul-le-mul L (pow-mono (seven d D))
-    where
-      seven : (d : ℕ) → 62 ≤ d → 7 ≤ d - 55
-      seven d g = omega arith
+  h-large = mul-le-mul L (pow-mono {i = 7} {j = d - 55} (omega arith))
 
   pub beyond-is : add binary64 c (sub binary64 x y) ≡ sum binary64 n (p * 2 ^ (k + 254)) cn (m * 2 ^ (k + 254 + d)) (2 ^ 2404)
   beyond-is =
+      let l = h-large in
       add-at c (sub binary64 x y) cn n (m * 2 ^ (v + d)) (r * 2 ^ (v + 54)) (2 ^ 2404) (pow-pos 2404) C W
       ∙ ap (λ (w : ℕ). sum binary64 cn w n (r * 2 ^ (v + 54)) (2 ^ 2404)) high-digits
       ∙ ap (λ (w : ℕ). sum binary64 cn (h * 2 ^ 55 * 2 ^ v) n w (2 ^ 2404)) (shift r v 54)
@@ -256,30 +201,18 @@ module _ (c x y : Float) (n cn : Bool) (p m d k r : ℕ) (K : Middling k) (M : M
         | inl e ↦
             sum-same binary64 cn n (h * 2 ^ 55 * 2 ^ v) (r * 2 ^ 54 * 2 ^ v) (2 ^ 2404) (e .0)
             ∙ ap (λ (w : ℕ). round binary64 cn w (2 ^ 2404)) (sym (add-mul (h * 2 ^ 55) (r * 2 ^ 54) (2 ^ v)))
-            ∙ sym (round-alike cn 55 (h * 2 ^ 55 + p) (h * 2 ^ 55 + r * 2 ^ 54) v (low-unit k (K .low)) (plus-alike 54 p r M h (large h h-large)))
+            ∙ sym (round-alike cn 55 (h * 2 ^ 55 + p) (h * 2 ^ 55 + r * 2 ^ 54) v (omega arith) (plus-alike 54 p r M h (omega arith)))
             ∙ ap (λ (w : ℕ). round binary64 cn w (2 ^ 2404)) (add-mul (h * 2 ^ 55) p (2 ^ v))
             ∙ sym (sum-same binary64 cn n (h * 2 ^ 55 * 2 ^ v) (p * 2 ^ v) (2 ^ 2404) (e .0))
         | inr e ↦
-            sum-more binary64 cn n (h * 2 ^ 55 * 2 ^ v) (r * 2 ^ 54 * 2 ^ v) (2 ^ 2404) (e .0) (mul-lt-mul-of-pos-right (less h r h-large R) (pow-pos v))
+            sum-more binary64 cn n (h * 2 ^ 55 * 2 ^ v) (r * 2 ^ 54 * 2 ^ v) (2 ^ 2404) (e .0) (mul-lt-mul-of-pos-right (omega arith) (pow-pos v))
             ∙ ap (λ (w : ℕ). round binary64 cn w (2 ^ 2404)) (sym (sub-mul (h * 2 ^ 55) (r * 2 ^ 54) (2 ^ v)))
-            ∙ sym (round-alike cn 55 (h * 2 ^ 55 - p) (h * 2 ^ 55 - r * 2 ^ 54) v (low-unit k (K .low)) (minus-alike 54 p r M h (larger h p h-large hi)))
+            ∙ sym (round-alike cn 55 (h * 2 ^ 55 - p) (h * 2 ^ 55 - r * 2 ^ 54) v (omega arith) (minus-alike 54 p r M h (omega arith)))
             ∙ ap (λ (w : ℕ). round binary64 cn w (2 ^ 2404)) (sub-mul (h * 2 ^ 55) p (2 ^ v))
-            ∙ sym (sum-more binary64 cn n (h * 2 ^ 55 * 2 ^ v) (p * 2 ^ v) (2 ^ 2404) (e .0) (mul-lt-mul-of-pos-right (over h p h-large hi) (pow-pos v)))
+            ∙ sym (sum-more binary64 cn n (h * 2 ^ 55 * 2 ^ v) (p * 2 ^ v) (2 ^ 2404) (e .0) (mul-lt-mul-of-pos-right (omega arith) (pow-pos v)))
       ]
       ∙ ap (λ (w : ℕ). sum binary64 cn w n (p * 2 ^ v) (2 ^ 2404)) (sym high-digits)
       ∙ sum-comm binary64 cn n (m * 2 ^ (v + d)) (p * 2 ^ v) (2 ^ 2404)
-    where
-      large : (h : ℕ) → 2 ^ 59 ≤ h → 2 ^ 54 ≤ h
-      large h l = omega arith
-
-      less : (h r : ℕ) → 2 ^ 59 ≤ h → r < 2 ^ 52 → r * 2 ^ 54 < h * 2 ^ 55
-      less h r l g = omega arith
-
-      larger : (h p : ℕ) → 2 ^ 59 ≤ h → p < 2 ^ 106 → 2 ^ 54 + p / 2 ^ 55 < h
-      larger h p l g = omega arith
-
-      over : (h p : ℕ) → 2 ^ 59 ≤ h → p < 2 ^ 106 → p < h * 2 ^ 55
-      over h p l g = omega arith
 
 -- ---- `opened`
 module _ (x : Float) (F : T (fits binary64 x)) where
@@ -287,21 +220,7 @@ module _ (x : Float) (F : T (fits binary64 x)) where
   b = toBits binary64 x
 
   pub opened-is : Opened x (leb (2 ^ 63) b) (2 ^ 52 + b % 2 ^ 52) (b % 2 ^ 63 / 2 ^ 52)
-  opened-is = record {
-    lead = lead (b % 2 ^ 52);
-    top = top (b % 2 ^ 52) (mod-lt b (pow-pos 52));
-    field = field b;
-    value = normal-value x F;
-  }
-    where
-      lead : (t : ℕ) → 2 ^ 52 ≤ 2 ^ 52 + t
-      lead t = omega arith
-
-      top : (t : ℕ) → t < 2 ^ 52 → 2 ^ 52 + t < 2 ^ 53
-      top t h = omega arith
-
-      field : (b : ℕ) → b % 2 ^ 63 / 2 ^ 52 < 2 ^ 11
-      field b = omega arith
+  opened-is = record { lead = omega arith; top = omega arith; field = omega arith; value = normal-value x F }
 
 -- ---- no operand is a NaN where the plain result is none
 eq-nan : (x : Float) → eq x x ≡ true → T (not (isNan x))
@@ -357,19 +276,13 @@ module _ (f h : ℕ) (l : f < h + 1075) where
   as-shifted = omega arith
 
   pub addend-value : (x : Float) (s : Bool) (m : ℕ) → Decoded x s m (h + 63) → HasValue x s (m * 2 ^ spot) (2 ^ 2404)
-  addend-value x s m A = same-value x s (m * 2 ^ (h + 63)) (2 ^ 1138) (m * 2 ^ spot) (2 ^ 2404) (pow-pos 1138) (same-power m (h + 63) 2404 spot 1138 (ends as-shifted)) (A .value)
-    where
-      ends : {p : ℕ} → p ≡ h + 63 + 1266 → h + 63 + 2404 ≡ p + 1138
-      ends e = omega arith
+  addend-value x s m A = same-value x s (m * 2 ^ (h + 63)) (2 ^ 1138) (m * 2 ^ spot) (2 ^ 2404) (pow-pos 1138) (same-power m (h + 63) 2404 spot 1138 (omega arith)) (A .value)
 
   addend-is : (m : ℕ) → m * 2 ^ spot ≡ m * 2 ^ (h + 63) * (2 ^ 128 * 2 ^ 1138)
-  addend-is m = ap (λ (w : ℕ). m * 2 ^ w) as-shifted ∙ ap (λ (w : ℕ). m * w) (pow-add 2 (h + 63) 1266) ∙ sym (mul-assoc m (2 ^ (h + 63)) (2 ^ 1266)) ∙ ap (λ (w : ℕ). m * 2 ^ (h + 63) * w) (pow-add 2 128 1138)
+  addend-is m = split-power m spot (h + 63) 1266 as-shifted
 
 product-is : (a b i j : ℕ) → a * b * 2 ^ (i + j + 254) ≡ a * 2 ^ (i + 63) * (b * 2 ^ (j + 63)) * 2 ^ 128
-product-is a b i j = ap (λ (w : ℕ). a * b * 2 ^ w) (sums i j) ∙ product-form a b (i + 63) (j + 63)
-  where
-    sums : (i j : ℕ) → i + j + 254 ≡ i + 63 + (j + 63) + 128
-    sums i j = omega arith
+product-is a b i j = ap (λ (w : ℕ). a * b * 2 ^ w) (omega arith) ∙ product-form a b (i + 63) (j + 63)
 
 pub fma-is : (x y z : Float) (s t v : Bool) (a b c i j h p : ℕ) → i + j < h + 1075 → Decoded x s a (i + 63) → Decoded y t b (j + 63) → Decoded z v c (h + 63) → p ≡ a * b
     → sum binary64 (unlike s t) (p * 2 ^ (i + j + 254)) v (c * 2 ^ (i + j + 254 + (h + 1075 - (i + j)))) (2 ^ 2404) ≡ fma binary64 x y z

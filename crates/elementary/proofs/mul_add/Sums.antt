@@ -3,7 +3,7 @@ use mathlib.Core.Path.{_≡_, refl, sym, ap, _∙_, subst}
 use mathlib.Core.Logic.{inl, inr}
 use mathlib.Core.Bool.{Bool, true, false, _&&_, Bool·beq, cond}
 use Prim.Native.Nat.{ℕ, zero, suc, _+_, _-_, _*_, _/_, _%_, _^_, _≤_, _<_}
-use native.Mathlib.Nat.{le-trans, le-of-eq, le-of-lt, lt-of-lt-of-le, not-le-of-lt, eq-or-lt-of-le, eq-zero-or-pos, lt-irrefl, mul-assoc, mul-comm, mul-left-comm, mul-pos, mul-le-mul-right, mul-lt-mul-of-pos-right, div-add-mod', add-mul, suc-mul, zero-mul, mod-lt, mul-div-mul-right, add-zero, mul-add-div-right, mul-add-mod-self-right}
+use native.Mathlib.Nat.{add-comm, le-trans, le-of-eq, le-of-lt, lt-of-lt-of-le, not-le-of-lt, eq-or-lt-of-le, eq-zero-or-pos, lt-irrefl, mul-assoc, mul-comm, mul-left-comm, mul-pos, mul-le-mul-right, mul-lt-mul-of-pos-right, div-add-mod', add-mul, suc-mul, zero-mul, mod-lt, mul-div-mul-right, add-zero, mul-add-div-right, mul-add-mod-self-right}
 use native.Mathlib.Omega.{arith}
 use lib.Dec.{T, ltb, lt→ltb, ltb→lt, not-T, lit≤}
 use lib.Arith.{digits-div, digits-mod}
@@ -13,6 +13,7 @@ use lib.Ieee.Bits.{is-true, is-false}
 use Rattle.elementary.specs.Round.{Cut, Same}
 use Rattle.elementary.proofs.Leaf.{mul-mod-mul, zero-of-mul}
 use Rattle.elementary.proofs.Adding.{sub-mul}
+use Rattle.elementary.proofs.Decode.{split-power}
 
 -- ---- `sum` by its cases
 pub sum-same : (f : Format) (s t : Bool) (a b c : ℕ) → Bool·beq s t ≡ true → sum f s a t b c ≡ round f s (a + b) c
@@ -52,7 +53,7 @@ module _ (f : Format) (s t : Bool) (a b c : ℕ) (e : Bool·beq s t ≡ false) w
         ∙ ap (λ (z : Bool). cond z (round f t (b - a) c) (round f (s && ltb b a) (a - b) c)) (no a b (le-of-eq (sym p)))
         ∙ ap (λ (z : Bool). round f (s && z) (a - b) c) (no b a (le-of-eq p))
         ∙ ap (λ (z : Bool). round f z (a - b) c) (and-false s)
-        ∙ ap (λ (z : ℕ). round f false z c) (level a b p)
+        ∙ ap (λ (z : ℕ). round f false z c) (omega arith)
         ∙ ap (λ (z : Bool). round f z (b - a) c) (sym (ap (λ (z : Bool). t && z) (no 0 (b - a) (none a b p)) ∙ and-false t))
     | inr l ↦
         apart
@@ -60,9 +61,6 @@ module _ (f : Format) (s t : Bool) (a b c : ℕ) (e : Bool·beq s t ≡ false) w
         ∙ ap (λ (z : Bool). round f z (b - a) c) (sym (ap (λ (z : Bool). t && z) (yes 0 (b - a) (some a b l)) ∙ and-true t))
   ]
     where
-      level : (a b : ℕ) → a ≡ b → a - b ≡ b - a
-      level a b e = omega arith
-
       none : (a b : ℕ) → a ≡ b → b - a ≤ 0
       none a b e = omega arith
 
@@ -72,14 +70,11 @@ module _ (f : Format) (s t : Bool) (a b c : ℕ) (e : Bool·beq s t ≡ false) w
 -- ---- both by one unit Q
 scale-pos : (v q : ℕ) → 0 < q → ltb 0 (v * q) ≡ ltb 0 v
 scale-pos zero q h = ap (λ (z : ℕ). ltb 0 z) (zero-mul q)
-scale-pos (suc v) q h = is-true (ltb 0 (suc v * q)) (lt→ltb 0 (suc v * q) (mul-pos (pos' v) h)) ∙ sym (is-true (ltb 0 (suc v)) (lt→ltb 0 (suc v) (pos' v)))
-  where
-    pos' : (v : ℕ) → 0 < suc v
-    pos' v = omega arith
+scale-pos (suc v) q h = is-true (ltb 0 (suc v * q)) (lt→ltb 0 (suc v * q) (mul-pos (omega arith) h)) ∙ sym (is-true (ltb 0 (suc v)) (lt→ltb 0 (suc v) (omega arith)))
 
 -- l * 2 ^ (e + d), where x is l * 2 ^ d
 raise : (l x d e : ℕ) → x ≡ l * 2 ^ d → l * 2 ^ (e + d) ≡ x * 2 ^ e
-raise l x d e h = ap (λ (z : ℕ). l * z) (pow-add 2 e d) ∙ mul-left-comm l (2 ^ e) (2 ^ d) ∙ mul-comm (2 ^ e) (l * 2 ^ d) ∙ ap (λ (z : ℕ). z * 2 ^ e) (sym h)
+raise l x d e h = split-power l (e + d) d e (add-comm e d) ∙ ap (λ (z : ℕ). z * 2 ^ e) (sym h)
 
 module _ (f : Format) (s t : Bool) (l x y v d e c : ℕ) (X : x ≡ l * 2 ^ d) where
   at-unit : sum f s (x * 2 ^ e) t (y * 2 ^ e) c ≡ sum f s (l * 2 ^ (e + d)) t (y * 2 ^ e) c
@@ -147,28 +142,19 @@ module _ (l s Q y x : ℕ) (P : 0 < Q) (Y : y ≡ s / Q) (X : Same x (s % Q)) wh
   cut-minus w p h W =
       let r = s % Q in
       let R : 0 < r = not-none (X .from) p in
-      let e : l * Q ≡ w * Q + y * Q + Q = ap (λ (z : ℕ). z * Q) (join h W) ∙ suc-mul (w + y) Q ∙ ap (λ (z : ℕ). z + Q) (add-mul w y Q) in
+      let e : l * Q ≡ w * Q + y * Q + Q = ap (λ (z : ℕ). z * Q) (omega arith) ∙ suc-mul (w + y) Q ∙ ap (λ (z : ℕ). z + Q) (add-mul w y Q) in
       let f : l * Q - s ≡ w * Q + (Q - r) = ap (λ (z : ℕ). l * Q - z) split ∙ go (l * Q) (w * Q) (y * Q) r e (mod-lt s P) in
       record {
-        whole = ap (λ (t : ℕ). t / Q) f ∙ digits-div w (less r R (mod-lt s P));
-        none = λ z. absurd (clash z p);
-        some = λ z. absurd (left r (mod-lt s P) (sym (ap (λ (t : ℕ). t % Q) f ∙ digits-mod w (less r R (mod-lt s P))) ∙ z));
+        whole = ap (λ (t : ℕ). t / Q) f ∙ digits-div w (omega arith);
+        none = λ z. absurd (omega arith);
+        some = λ z. absurd (left r (mod-lt s P) (sym (ap (λ (t : ℕ). t % Q) f ∙ digits-mod w (omega arith)) ∙ z));
       }
     where
       not-none : {r : ℕ} → (r ≡ 0 → x ≡ 0) → 0 < x → 0 < r
       not-none {r} g p = elim (eq-zero-or-pos r) [ inl z ↦ absurd (lt-irrefl 0 (subst (λ (t : ℕ). 0 < t) (g z) p)) | inr q ↦ q ]
 
-      join : y < l → w ≡ l - y - 1 → l ≡ suc (w + y)
-      join a b = omega arith
-
       go : (L W Y r : ℕ) → L ≡ W + Y + Q → r < Q → L - (Y + r) ≡ W + (Q - r)
       go L W Y r a b = omega arith
-
-      less : (r : ℕ) → 0 < r → r < Q → Q - r < Q
-      less r a b = omega arith
-
-      clash : x ≡ 0 → 0 < x → ⊥
-      clash a b = omega arith
 
       left : (r : ℕ) → r < Q → Q - r ≡ 0 → ⊥
       left r a b = omega arith
@@ -176,13 +162,10 @@ module _ (l s Q y x : ℕ) (P : 0 < Q) (Y : y ≡ s / Q) (X : Same x (s % Q)) wh
 -- ---- l * 2 ^ e and s * 2 ^ (e - d)
 module _ (l s d e : ℕ) (D : d ≤ e) where
   unit : 2 ^ e ≡ 2 ^ d * 2 ^ (e - d)
-  unit = ap (λ (z : ℕ). 2 ^ z) (back D) ∙ pow-add 2 d (e - d)
-    where
-      back : d ≤ e → e ≡ d + (e - d)
-      back h = omega arith
+  unit = ap (λ (z : ℕ). 2 ^ z) (omega arith) ∙ pow-add 2 d (e - d)
 
   higher : l * 2 ^ e ≡ l * 2 ^ d * 2 ^ (e - d)
-  higher = ap (λ (z : ℕ). l * z) unit ∙ sym (mul-assoc l (2 ^ d) (2 ^ (e - d)))
+  higher = split-power l e d (e - d) (omega arith)
 
   pub far-plus : {v x : ℕ} (T : ℕ) → 0 < T → Cut (l * 2 ^ d + s) (2 ^ d) v x → Cut ((l * 2 ^ e + s * 2 ^ (e - d)) * T) (T * 2 ^ e) v x
   far-plus T t C =

@@ -3,7 +3,8 @@ use mathlib.Core.Path.{_≡_, refl, sym, ap, _∙_, subst}
 use mathlib.Core.Logic.{_⊎_, inl, inr}
 use mathlib.Core.Bool.{true, false, not, true≢false}
 use Prim.Native.Nat.{ℕ, zero, suc, _+_, _-_, _*_, _/_, _%_, _^_, _≤_, _<_, compare, Ordering, Ordering·lt, Ordering·eq, Ordering·gt}
-use native.Mathlib.Nat.{le-trans, lt-of-not-le, not-le-of-lt, lt-of-lt-of-le, le-antisymm, eq-or-lt-of-le, mul-assoc, mul-comm, mul-left-comm, suc-mul, pow-suc, mul-le-mul-right, mul-lt-mul-of-pos-right, mul-pos, zero-mul, div-eq-of-lt-le, div-div-eq-div-mul}
+use native.Mathlib.Nat.{le-trans, lt-of-not-le, not-le-of-lt, lt-of-lt-of-le, le-antisymm, eq-or-lt-of-le, mul-assoc, mul-comm, mul-left-comm, suc-mul, pow-suc}
+use native.Mathlib.Nat.{mul-le-mul-right, mul-lt-mul-of-pos-right, mul-pos, zero-mul, div-eq-of-lt-le, div-div-eq-div-mul}
 use native.Mathlib.Decide.{decLe}
 use native.Mathlib.Numerals.{add-one}
 use native.Mathlib.Omega.{arith}
@@ -18,7 +19,7 @@ use lib.Ieee.Exact.{HasValue, units-val}
 use lib.Ieee.Bits.{is-false, ofBits-fits}
 use Rattle.elementary.specs.Sqrt.{isqrt, roundRoot, sqrtOf}
 use Rattle.elementary.specs.Sqrt.Nearest.{Cmp, cmp, units-of, units-fits}
-use Rattle.elementary.specs.Sqrt.Isqrt.{sq-lt, sq-suc, sq-twice, isqrt-root}
+use Rattle.elementary.specs.Sqrt.Isqrt.{Root, sq-lt, sq-suc, sq-twice, isqrt-root}
 use Rattle.elementary.proofs.Bits.{nan-pattern, no-nan-pattern}
 use Rattle.elementary.proofs.Values.{recast, value-low, value-mid, value-inf, value-packed, value-unique}
 
@@ -83,7 +84,7 @@ rounded-is n = refl
 regroup : (w p : ℕ) → w * p * (w * p) ≡ w * w * p * p
 regroup w p = simp (mul-assoc, mul-comm, mul-left-comm)
 
-module _ (a w h : ℕ) (lo : 2 ^ 62 ≤ a) (hi : a + 2 ^ 11 ≤ 2 ^ 64) (below : w * w ≤ a * 2 ^ 44) (above : a * 2 ^ 44 < suc w * suc w) where
+module _ (a w h : ℕ) (lo : 2 ^ 62 ≤ a) (hi : a + 2 ^ 11 ≤ 2 ^ 64) (root : Root (a * 2 ^ 44) w) where
   w-lo : 2 ^ 53 ≤ w
   w-lo = omega (arith, sq-lt (2 ^ 53) (suc w) (omega arith))
 
@@ -96,12 +97,12 @@ module _ (a w h : ℕ) (lo : 2 ^ 62 ≤ a) (hi : a + 2 ^ 11 ≤ 2 ^ 64) (below :
   v-lo : w * 2 ^ h ≤ isqrt n
   v-lo =
       let r = isqrt-root n in
-      omega (arith, sq-lt (w * 2 ^ h) (suc (isqrt n)) (omega (arith, regroup w (2 ^ h), mul-le-mul-right (2 ^ h) (mul-le-mul-right (2 ^ h) below))))
+      omega (arith, sq-lt (w * 2 ^ h) (suc (isqrt n)) (omega (arith, regroup w (2 ^ h), mul-le-mul-right (2 ^ h) (mul-le-mul-right (2 ^ h) (root .0)))))
 
   v-hi : isqrt n < suc w * 2 ^ h
   v-hi =
       let r = isqrt-root n in
-      sq-lt (isqrt n) (suc w * 2 ^ h) (omega (arith, regroup (suc w) (2 ^ h), mul-lt-mul-of-pos-right (mul-lt-mul-of-pos-right above (pow-pos h)) (pow-pos h)))
+      sq-lt (isqrt n) (suc w * 2 ^ h) (omega (arith, regroup (suc w) (2 ^ h), mul-lt-mul-of-pos-right (mul-lt-mul-of-pos-right (root .1) (pow-pos h)) (pow-pos h)))
 
   v-size : size (isqrt n) ≡ 54 + h
   v-size =
@@ -118,7 +119,7 @@ module _ (a w h : ℕ) (lo : 2 ^ 62 ≤ a) (hi : a + 2 ^ 11 ≤ 2 ^ 64) (below :
       let k : size (isqrt n) - 53 ≡ suc h = omega (arith, v-size) in
       rounded-is n
       ∙ ap (λ (z : ℕ). rounded n (isqrt n) z) k
-      ∙ rw (first-digits, pow-suc 2 h) (ap (λ (z : ℕ). units binary64 false z (suc h)) (choice w (a * 2 ^ 44) (2 ^ h) (pow-pos h) (side w (a * 2 ^ 44) below above (omega arith))))
+      ∙ rw (first-digits, pow-suc 2 h) (ap (λ (z : ℕ). units binary64 false z (suc h)) (choice w (a * 2 ^ 44) (2 ^ h) (pow-pos h) (side w (a * 2 ^ 44) (root .0) (root .1) (omega arith))))
 
 -- ---- the bits of a rounded root
 pub written : (r k : ℕ) → 2 ^ 52 ≤ r → r < 2 ^ 53 → k < 2000 → ofBits binary64 (k * 2 ^ 52 + r) ≡ units binary64 false r k
@@ -189,15 +190,15 @@ module _ (m e : ℕ) (m-pos : 0 < m) (m-lt : m < 2 ^ 53) (e-lo : 1 ≤ e) (e-hi 
       let i : e + 1073 ≡ s + (44 + (h + h)) = omega (arith, z-in) in
       ap (λ (x : ℕ). m * 2 ^ x) i ∙ rw (pow-add 2 s (44 + (h + h)), pow-add 2 44 (h + h), pow-add 2 h h) (simp mul-assoc)
 
-  module _ (w : ℕ) (below : w * w ≤ (m * 2 ^ s) % 2 ^ 64 * 2 ^ 44) (above : (m * 2 ^ s) % 2 ^ 64 * 2 ^ 44 < (w + 1) * (w + 1)) where
-    below' : w * w ≤ m * 2 ^ s * 2 ^ 44
-    below' = omega (arith, shl-is)
+  pub shifted-lo : 2 ^ 62 ≤ (m * 2 ^ s) % 2 ^ 64
+  shifted-lo = rw shl-is a-lo
 
-    above' : m * 2 ^ s * 2 ^ 44 < suc w * suc w
-    above' = omega (arith, shl-is, ap (λ (x : ℕ). x * x) (add-one w))
+  module _ (w : ℕ) (root : Root ((m * 2 ^ s) % 2 ^ 64 * 2 ^ 44) w) where
+    root' : Root (m * 2 ^ s * 2 ^ 44) w
+    root' = rw shl-is at root
 
-    root-in : (2 ^ 53 ≤ w) × (w < 2 ^ 54 - 1)
-    root-in = (w-lo (m * 2 ^ s) w h a-lo a-hi below' above', w-hi (m * 2 ^ s) w h a-lo a-hi below' above')
+    pub root-in : (2 ^ 53 ≤ w) × (w < 2 ^ 54 - 1)
+    root-in = (w-lo (m * 2 ^ s) w h a-lo a-hi root', w-hi (m * 2 ^ s) w h a-lo a-hi root')
 
     pub made-no-nan : T (not (nanBits binary64 ((e + 1031 - s) / 2 * 2 ^ 52 + (w + 1) / 2)))
     made-no-nan = no-nan-pattern ((e + 1031 - s) / 2 * 2 ^ 52 + (w + 1) / 2) (omega (arith, root-in))
@@ -207,7 +208,7 @@ module _ (m e : ℕ) (m-pos : 0 < m) (m-lt : m < 2 ^ 53) (e-lo : 1 ≤ e) (e-hi 
         let k : (e + 1031 - s) / 2 ≡ suc h = omega (arith, z-in) in
         rw (k, radicand)
         (written ((w + 1) / 2) (suc h) (omega (arith, root-in)) (omega (arith, root-in)) (omega arith)
-        ∙ sym (root-rounded (m * 2 ^ s) w h a-lo a-hi below' above'))
+        ∙ sym (root-rounded (m * 2 ^ s) w h a-lo a-hi root'))
 
 -- ---- `sqrtOf` at a pattern above 0
 module _ (b : ℕ) (plus : b < 2 ^ 63) where

@@ -2,7 +2,9 @@
 use mathlib.Core.Path.{_≡_, refl, sym, _∙_}
 use mathlib.Core.Bool.{Bool, true, false}
 use Prim.Native.Nat.{ℕ, zero, suc, _+_, _-_, _*_, _/_, _^_, _≤_, _<_}
-use native.Mathlib.Nat.{le-refl, le-trans, le-antisymm, lt-of-le-of-lt, mul-assoc, mul-comm, mul-right-comm, mul-one, suc-mul, add-mul, mul-le-mul-right, mul-lt-mul-of-pos-right, le-of-mul-le-mul-right, lt-of-mul-lt-mul-right, le-mul-of-pos-right, div-mul-le-self, div-lt-iff-lt-mul, lt-of-not-le}
+use native.Mathlib.Nat.{le-refl, le-trans, le-antisymm, lt-of-le-of-lt, mul-assoc, mul-comm, mul-right-comm, mul-one, suc-mul, add-mul, mul-le-mul-right}
+use native.Mathlib.Nat.{mul-lt-mul-of-pos-right, le-of-mul-le-mul-right, lt-of-mul-lt-mul-right, le-mul-of-pos-right, div-mul-le-self, div-lt-iff-lt-mul}
+use native.Mathlib.Nat.{lt-of-not-le}
 use native.Mathlib.Omega.{arith}
 use lib.IntN.{ℤ, pos, negsuc}
 use lib.Dec.{T}

@@ -1,4 +1,4 @@
--- `mul_add::add_wide` meets its contract. Assumes nothing.
+-- `mul_add::add_wide` meets its contract: the low words carry just where their sum leaves a word, in any base (Carry). Assumes nothing.
 use Prim.Native.Nat.{ℕ, _+_, _^_, _<_}
 use native.Mathlib.Omega.{arith}
 use Rattle.elementary.proofs.mul_add.Carry as carry

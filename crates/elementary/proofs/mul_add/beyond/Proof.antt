@@ -1,4 +1,4 @@
--- `mul_add::beyond` meets its contract. Assumes nothing.
+-- `mul_add::beyond` meets its contract: the difference is exact, and beside the addend the product counts only by its marked digits (Machine). Assumes nothing.
 use Prim.Native.Nat.{ℕ, _^_, _<_}
 use native.Mathlib.Omega.{arith}
 use Rattle.elementary.specs.Round.{wide}

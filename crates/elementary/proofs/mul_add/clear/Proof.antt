@@ -1,4 +1,4 @@
--- `mul_add::clear` meets its contract. Assumes nothing.
+-- `mul_add::clear` meets its contract: the two tests. Assumes nothing.
 use mathlib.Core.Path.{sym, subst}
 use mathlib.Core.Logic.{inl, inr}
 use Prim.Native.Nat.{ℕ, _+_, _^_, _≤_, _<_}

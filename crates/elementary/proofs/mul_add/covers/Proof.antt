@@ -1,4 +1,4 @@
--- `mul_add::covers` meets its contract. Assumes nothing.
+-- `mul_add::covers` meets its contract: the high words decide where they differ. Assumes nothing.
 use Prim.Native.Nat.{_^_}
 use Rattle.elementary.proofs.mul_add.Carry as carry
 use Rattle.elementary.proofs.mul_add.covers.Statement.{statement}

@@ -1,4 +1,4 @@
--- `mul_add::fused` meets its contract. Assumes nothing.
+-- `mul_add::fused` meets its contract: the addend is shifted up to the 105 or 106 digits that the product has. Assumes nothing.
 use mathlib.Core.Path.{_≡_, sym, ap, _∙_, subst}
 use Prim.Native.Nat.{ℕ, _+_, _*_, _/_, _%_, _^_, _≤_, _<_}
 use native.Mathlib.Nat.{lt-of-lt-of-le, mul-le-mul, mul-le-mul-right, div-add-mod', mul-div-mul-right}
@@ -28,9 +28,6 @@ high a b h k = omega arith
 low-c : (a : ℕ) → 64 ≤ a + 1214
 low-c a = omega arith
 
-high-c : (a : ℕ) → a < 2 ^ 12 → a + 1214 < 2 ^ 30
-high-c a h = omega arith
-
 product-requires : tie.Need-product-requires
 product-requires c κs = search needs
 
@@ -52,7 +49,7 @@ sum-wide-requires c κs =
       low = low (a .args .ae) (a .args .be);
       high = high (a .args .ae) (a .args .be) (a .pre .0 .room) (a .pre .1 .0 .room);
       low' = low-c (a .args .ce);
-      high' = high-c (a .args .ce) (a .pre .1 .1 .room);
+      high' = omega arith;
     }
 
 returns : tie.Need-returns

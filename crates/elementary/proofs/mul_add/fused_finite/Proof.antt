@@ -1,4 +1,4 @@
--- `mul_add::fused_finite` meets its contract. Assumes nothing.
+-- `mul_add::fused_finite` meets its contract: the three values give `fma` as one sum of fractions; a zero by the plain operations (Exactly). Assumes nothing.
 use mathlib.Core.Path.{_≡_, sym, ap, _∙_}
 use Prim.Native.Nat.{ℕ, _+_, _*_, _^_, _<_}
 use native.Mathlib.Nat.{mul-pos, mul-comm, zero-mul}

@@ -1,4 +1,4 @@
--- `mul_add::general` meets its contract. Assumes nothing.
+-- `mul_add::general` meets its contract: infinite and NaN operands by the cases of `fma` (Exactly). Assumes nothing.
 use mathlib.Core.Path.{_≡_, sym, ap, _∙_, subst}
 use mathlib.Core.Bool.{Bool, _&&_}
 use lib.Dec.{T}

@@ -1,4 +1,4 @@
--- `mul_add::left_wide` meets its contract. Assumes nothing.
+-- `mul_add::left_wide` meets its contract: what leaves the low word is its quotient by 2^(64 − d) (Carry). Assumes nothing.
 use mathlib.Core.Path.{_≡_}
 use Prim.Native.Nat.{ℕ, _+_, _-_, _^_, _<_}
 use native.Mathlib.Omega.{arith}

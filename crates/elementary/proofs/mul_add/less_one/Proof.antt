@@ -1,4 +1,4 @@
--- `mul_add::less_one` meets its contract. Assumes nothing.
+-- `mul_add::less_one` meets its contract: the low word borrows just where it is 0. Assumes nothing.
 use mathlib.Core.Path.{_≡_, sym, ap, _∙_}
 use Prim.Native.Nat.{ℕ, _+_, _-_, _*_, _^_, _≤_}
 use native.Mathlib.Omega.{arith}

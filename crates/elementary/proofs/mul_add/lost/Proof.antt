@@ -1,4 +1,4 @@
--- `mul_add::lost` meets its contract. Assumes nothing.
+-- `mul_add::lost` meets its contract: the remainder by 2^d is 0 just where both parts of it are (Carry). Assumes nothing.
 use mathlib.Core.Path.{subst}
 use Prim.Native.Nat.{ℕ}
 use Rattle.elementary.specs.Round.{Any}

@@ -1,4 +1,4 @@
--- `mul_add::marked` meets its contract. Assumes nothing.
+-- `mul_add::marked` meets its contract: the quotient and whether the remainder is 0, as one number. Assumes nothing.
 use mathlib.Core.Path.{_≡_}
 use Prim.Native.Nat.{ℕ, _+_, _*_, _/_, _%_, _^_, _<_}
 use native.Mathlib.Omega.{arith}
@@ -12,11 +12,8 @@ below : (v x : ℕ) → v < 2 ^ 64 → x < 2 → v / 8192 * 2 + x < 2 ^ 52
 below v x h k = omega arith
 
 law : (v x : ℕ) → x < 2 → Same x (v % 8192) → Marked 13 v (v / 8192 * 2 + x)
-law v x k S = record { whole = omega arith; to = λ z. S .to (last z); from = λ z. even (S .from z) }
+law v x k S = record { whole = omega arith; to = λ z. S .to (omega arith); from = λ z. even (S .from z) }
   where
-    last : (v / 8192 * 2 + x) % 2 ≡ 0 → x ≡ 0
-    last z = omega arith
-
     even : x ≡ 0 → (v / 8192 * 2 + x) % 2 ≡ 0
     even z = omega arith
 

@@ -1,4 +1,4 @@
--- `mul_add::marked_wide` meets its contract. Assumes nothing.
+-- `mul_add::marked_wide` meets its contract: as `marked`, where the high word lies above the 55 digits. Assumes nothing.
 use mathlib.Core.Path.{_≡_, sym, _∙_}
 use Prim.Native.Nat.{ℕ, _+_, _*_, _/_, _%_, _^_, _<_}
 use native.Mathlib.Omega.{arith}
@@ -34,10 +34,7 @@ law hi lo x h l k S = record {
     half p k = omega arith
 
     last : (p : ℕ) → (p * 2 + x) % 2 ≡ 0 → x ≡ 0
-    last p z = go z k
-      where
-        go : (p * 2 + x) % 2 ≡ 0 → x < 2 → x ≡ 0
-        go z k = omega arith
+    last p z = omega arith
 
     even : (p : ℕ) → x ≡ 0 → (p * 2 + x) % 2 ≡ 0
     even p z = omega arith

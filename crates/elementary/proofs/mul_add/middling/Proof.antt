@@ -1,4 +1,4 @@
--- `mul_add::middling` meets its contract. Assumes nothing.
+-- `mul_add::middling` meets its contract: the two tests. Assumes nothing.
 use mathlib.Core.Bool.{false≢true}
 use borrow.Author.Needs.{needs}
 use Rattle.elementary.proofs.mul_add.middling.Statement.{statement}

@@ -1,4 +1,4 @@
--- `mul_add::mul_add` meets its contract. Assumes nothing.
+-- `mul_add::mul_add` meets its contract: the first way where it is done, else the second; where the plain result is no NaN, no operand is one. Assumes nothing.
 use Rattle.elementary.proofs.mul_add.Machine as machine
 use borrow.Author.Needs.{needs}
 use Rattle.elementary.proofs.mul_add.mul_add.Statement.{statement}

@@ -1,24 +1,19 @@
--- `mul_add::near` meets its contract. Assumes nothing.
+-- `mul_add::near` meets its contract: the 115 digits hold the sum, which `placed` rounds (Machine). Assumes nothing.
 use mathlib.Core.Path.{_≡_, refl, sym, ap, _∙_, subst}
-use mathlib.Core.Logic.{inl, inr}
 use mathlib.Core.Bool.{Bool, true, false, not, cond, Bool·beq, false≢true}
-use Prim.Native.Nat.{ℕ, zero, suc, _+_, _-_, _*_, _%_, _^_, _≤_, _<_}
+use Prim.Native.Nat.{ℕ, zero, suc, _+_, _*_, _%_, _^_, _≤_, _<_}
 use native.Mathlib.Nat.{lt-of-lt-of-le, lt-irrefl, mul-assoc, mul-comm, pow-succ', add-assoc}
 use native.Mathlib.Omega.{arith}
 use lib.Dec.{lit≤}
 use lib.Pow.{pow-mono, shl-lt, add-lt-pow}
-use lib.Ieee.{Float, binary64, round, sum}
 use Rattle.elementary.specs.Round.{wide}
-use Rattle.elementary.specs.MulAdd.Steps.{Turned, Apart}
-use Rattle.elementary.proofs.mul_add.Exactly.{beq-cases}
+use Rattle.elementary.specs.MulAdd.Steps.{Turned}
 use Rattle.elementary.proofs.mul_add.Machine as machine
 use borrow.Author.Needs.{needs}
 use Rattle.elementary.proofs.mul_add.near.Statement.{statement}
 use Rattle.elementary.proofs.mul_add.near.Tie as tie
 
 -- ---- the addend shifted
-alone : (m : ℕ) → wide 0 m ≡ m
-alone m = omega arith
 
 addend-lt : (m d : ℕ) → m < 2 ^ 53 → d < 62 → m * 2 ^ d < 2 ^ 114
 addend-lt m d h k = lt-of-lt-of-le (shl-lt 53 d h) (pow-mono (room d k))
@@ -27,7 +22,7 @@ addend-lt m d h k = lt-of-lt-of-le (shl-lt 53 d h) (pow-mono (room d k))
     room d k = omega arith
 
 addend-is : (c : tie.After-left-wide) → wide (c .left-wide .result .hi) (c .left-wide .result .lo) ≡ c .before .args .m * 2 ^ c .before .args .d
-addend-is c = c .left-wide .ensures ∙ ap (λ (z : ℕ). z * 2 ^ c .before .args .d) (alone (c .before .args .m))
+addend-is c = c .left-wide .ensures ∙ ap (λ (z : ℕ). z * 2 ^ c .before .args .d) (omega arith)
 
 small : (c : tie.After-left-wide) → c .before .args .m * 2 ^ c .before .args .d < 2 ^ 114
 small c = addend-lt (c .before .args .m) (c .before .args .d) (c .before .pre .0 .top) (c .before .pre .1 .1)
@@ -65,45 +60,6 @@ same-total p y o x v e f g = omega arith
 
 other-total : (p y o x v : ℕ) → y + p + 1 ≡ 2 ^ 115 → o ≡ 1 → v ≡ y + (x + o) → v + p ≡ 2 ^ 115 + x
 other-total p y o x v e f g = omega arith
-
-top-of : (vh vl x : ℕ) → wide vh vl ≤ 2 ^ 115 + x → x < 2 ^ 114 + 2 ^ 106 → vh < 2 ^ 52
-top-of vh vl x e h = omega arith
-
-same-le : (v x p : ℕ) → v ≡ 2 ^ 115 + (x + p) → v ≤ 2 ^ 115 + (x + p)
-same-le v x p e = omega arith
-
-other-le : (v x p : ℕ) → v + p ≡ 2 ^ 115 + x → v ≤ 2 ^ 115 + x
-other-le v x p e = omega arith
-
-both-lt : (x p : ℕ) → x < 2 ^ 114 → p < 2 ^ 106 → x + p < 2 ^ 114 + 2 ^ 106
-both-lt x p h k = omega arith
-
-one-lt' : (x : ℕ) → x < 2 ^ 114 → x < 2 ^ 114 + 2 ^ 106
-one-lt' x h = omega arith
-
-at-least : (vh : ℕ) → 2 ^ 51 + 8 ≤ vh → 2 ^ 51 ≤ vh
-at-least vh g = omega arith
-
-at-most : (vh : ℕ) → vh + 9 ≤ 2 ^ 51 → vh < 2 ^ 51
-at-most vh g = omega arith
-
-over-is : (vh vl x : ℕ) → wide vh vl ≡ 2 ^ 115 + x → 2 ^ 51 + 8 ≤ vh → wide (vh - 2 ^ 51) vl ≡ x
-over-is vh vl x e g = omega arith
-
-not-under : (vh vl x : ℕ) → wide vh vl ≡ 2 ^ 115 + x → vl < 2 ^ 64 → vh + 9 ≤ 2 ^ 51 → ⊥
-not-under vh vl x e l g = omega arith
-
-more-is : (vh vl x p : ℕ) → wide vh vl + p ≡ 2 ^ 115 + x → 2 ^ 51 + 8 ≤ vh → wide (vh - 2 ^ 51) vl ≡ x - p
-more-is vh vl x p e g = omega arith
-
-more : (vh vl x p : ℕ) → wide vh vl + p ≡ 2 ^ 115 + x → 2 ^ 51 + 8 ≤ vh → p < x
-more vh vl x p e g = omega arith
-
-less-is : (vh vl x p : ℕ) → wide vh vl + p ≡ 2 ^ 115 + x → vl < 2 ^ 64 → vh + 9 ≤ 2 ^ 51 → (2 ^ 51 - vh) * 2 ^ 64 - vl ≡ p - x
-less-is vh vl x p e l g = omega arith
-
-less : (vh vl x p : ℕ) → wide vh vl + p ≡ 2 ^ 115 + x → vl < 2 ^ 64 → vh + 9 ≤ 2 ^ 51 → x < p
-less vh vl x p e l g = omega arith
 
 high-word : (ph pl : ℕ) → wide ph pl < 2 ^ 106 → ph < 2 ^ 42
 high-word ph pl h = omega arith
@@ -143,42 +99,8 @@ module _ (c : tie.After-add-wide) where
   other : Bool·beq (a .args .n) (a .args .cn) ≡ false → v + p ≡ 2 ^ 115 + t
   other e = other-total p y o t v (c .before .before .before .turned .ensures .turn (ap not e)) (c .before .before .one-if .ensures ∙ ap (λ (b : Bool). cond (not b) 1 0) e) v-is
 
-  top : c .add-wide .result .hi < 2 ^ 52
-  top = elim (beq-cases (a .args .n) (a .args .cn)) [
-    | inl e ↦ top-of (c .add-wide .result .hi) (c .add-wide .result .lo) (t + p) (same-le v t p (same (e .0))) (both-lt t p (small x) (a .pre .0 .large .high))
-    | inr e ↦ top-of (c .add-wide .result .hi) (c .add-wide .result .lo) t (other-le v t p (other (e .0))) (one-lt' t (small x))
-  ]
-
-  result : (r : Float) → Apart (c .add-wide .result .hi) → c .add-wide .result .lo < 2 ^ 64
-      → (2 ^ 51 ≤ c .add-wide .result .hi → r ≡ round binary64 (a .args .cn) (wide (c .add-wide .result .hi - 2 ^ 51) (c .add-wide .result .lo) * 2 ^ (a .args .k + 254)) (2 ^ 2404))
-      → (c .add-wide .result .hi < 2 ^ 51 → r ≡ round binary64 (not (a .args .cn)) (((2 ^ 51 - c .add-wide .result .hi) * 2 ^ 64 - c .add-wide .result .lo) * 2 ^ (a .args .k + 254)) (2 ^ 2404))
-      → r ≡ sum binary64 (a .args .n) (p * 2 ^ (a .args .k + 254)) (a .args .cn) (a .args .m * 2 ^ (a .args .k + 254 + a .args .d)) (2 ^ 2404)
-  result r A L f g =
-      let h = c .add-wide .result .hi in
-      let l = c .add-wide .result .lo in
-      let u = a .args .k + 254 in
-      elim (beq-cases (a .args .n) (a .args .cn)) [
-        | inl e ↦ elim (A .off) [
-          | inl q ↦
-              f (at-least h q)
-              ∙ ap (λ (z : ℕ). round binary64 (a .args .cn) (z * 2 ^ u) (2 ^ 2404)) (over-is h l (t + p) (same (e .0)) q)
-              ∙ machine.near-same (a .args .n) (a .args .cn) p (a .args .m) (a .args .d) u (e .0)
-          | inr q ↦ absurd (not-under h l (t + p) (same (e .0)) L q)
-        ]
-        | inr e ↦ elim (A .off) [
-          | inl q ↦
-              f (at-least h q)
-              ∙ ap (λ (z : ℕ). round binary64 (a .args .cn) (z * 2 ^ u) (2 ^ 2404)) (more-is h l t p (other (e .0)) q)
-              ∙ machine.near-less (a .args .n) (a .args .cn) p (a .args .m) (a .args .d) u (e .0) (more h l t p (other (e .0)) q)
-          | inr q ↦
-              g (at-most h q)
-              ∙ ap (λ (z : ℕ). round binary64 (not (a .args .cn)) (z * 2 ^ u) (2 ^ 2404)) (less-is h l t p (other (e .0)) L q)
-              ∙ machine.near-more (a .args .n) (a .args .cn) p (a .args .m) (a .args .d) u (e .0) (less h l t p (other (e .0)) L q)
-        ]
-      ]
-
 left-wide-requires : tie.Need-left-wide-requires
-left-wide-requires c κs = (close (c .args .d) (c .pre .1 .1), subst (λ (z : ℕ). z * 2 ^ c .args .d < 2 ^ 128) (sym (alone (c .args .m))) (lt-of-lt-of-le (addend-lt (c .args .m) (c .args .d) (c .pre .0 .top) (c .pre .1 .1)) (lit≤ tt)))
+left-wide-requires c κs = (close (c .args .d) (c .pre .1 .1), subst (λ (z : ℕ). z * 2 ^ c .args .d < 2 ^ 128) (sym (omega arith)) (lt-of-lt-of-le (addend-lt (c .args .m) (c .args .d) (c .pre .0 .top) (c .pre .1 .1)) (lit≤ tt)))
 
 turned-requires : tie.Need-turned-requires
 turned-requires c κs = high-word (c .before .args .ph) (c .before .args .pl) (c .before .pre .0 .large .high)
@@ -210,12 +132,13 @@ clear-requires c κs = search needs
 placed-requires : tie.Need-placed-requires
 placed-requires c κs =
     let w = c .before .before in
-    record { top = top w; apart = c .before .clear .ensures (c .if1 .taken); room = a w .pre .0 .room }
+    record { top = machine.near-top (a w .args .n) (a w .args .cn) (p w) (a w .args .m) (a w .args .d) (a w .args .k + 254) (w .add-wide .result .hi) (w .add-wide .result .lo) (same w) (other w) (small (x w)) (a w .pre .0 .large .high); apart = c .before .clear .ensures (c .if1 .taken); room = a w .pre .0 .room }
 
 returns : tie.Need-returns
 returns c q =
     let w = c .before .before .before in
-    result w (c .placed .result) (c .before .before .clear .ensures (c .before .if1 .taken)) (c .placed .ensures .1 .1) (c .placed .ensures .0) (c .placed .ensures .1 .0)
+    machine.near-is (a w .args .n) (a w .args .cn) (p w) (a w .args .m) (a w .args .d) (a w .args .k + 254) (w .add-wide .result .hi) (w .add-wide .result .lo) (same w) (other w)
+    (c .placed .result) (c .placed .ensures .1 .1) (c .before .before .clear .ensures (c .before .if1 .taken)) (c .placed .ensures .0) (c .placed .ensures .1 .0)
 
 returns-2 : tie.Need-returns-2
 returns-2 c e = absurd (false≢true e)

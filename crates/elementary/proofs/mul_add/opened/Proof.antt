@@ -1,4 +1,4 @@
--- `mul_add::opened` meets its contract. Assumes nothing.
+-- `mul_add::opened` meets its contract: the fields of the pattern, by Decode. Assumes nothing.
 use mathlib.Core.Path.{sym, subst}
 use lib.Dec.{T}
 use Rattle.elementary.proofs.mul_add.Machine as machine

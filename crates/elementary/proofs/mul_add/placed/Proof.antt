@@ -1,4 +1,4 @@
--- `mul_add::placed` meets its contract. Assumes nothing.
+-- `mul_add::placed` meets its contract: the difference is exact, and the sum has the digits and the mark of what is to be rounded (Machine). Assumes nothing.
 use mathlib.Core.Logic.{inl, inr}
 use Prim.Native.Nat.{ℕ, _+_, _^_, _≤_, _<_}
 use native.Mathlib.Omega.{arith}

@@ -1,4 +1,4 @@
--- `mul_add::product` meets its contract. Assumes nothing.
+-- `mul_add::product` meets its contract: the four products of half words, with two carries (Carry). Assumes nothing.
 use Prim.Native.Nat.{ℕ, _+_, _*_, _/_, _%_, _^_, _<_}
 use native.Mathlib.Nat.{lt-of-lt-of-le, mod-lt}
 use native.Mathlib.Omega.{arith}

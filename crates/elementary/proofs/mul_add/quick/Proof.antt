@@ -1,4 +1,4 @@
--- `mul_add::quick` meets its contract. Assumes nothing.
+-- `mul_add::quick` meets its contract: the three values give `fma` as one sum of fractions (Machine), which `near` or `beyond` rounds. Assumes nothing.
 use mathlib.Core.Path.{_≡_, sym, _∙_, subst}
 use mathlib.Core.Bool.{false≢true}
 use Prim.Native.Nat.{ℕ, _+_, _-_, _*_, _^_, _≤_, _<_}
@@ -25,9 +25,6 @@ some-addend f h l g = omega arith
 
 small-addend : (f h : ℕ) → f < 2559 → h + 1075 - f < 62 → h < 2047
 small-addend f h l g = omega arith
-
-some-shift : (f h : ℕ) → f < h + 1075 → 0 < h + 1075 - f
-some-shift f h g = omega arith
 
 sum-low : (e f : ℕ) → 768 ≤ e → 768 ≤ f → 1536 ≤ e + f
 sum-low e f h k = omega arith
@@ -131,7 +128,7 @@ product-requires c κs = search needs
 near-requires : tie.Need-near-requires
 near-requires c κs =
     let d = c .before .before .before in
-    (joined d, (some-shift (ea d + eb d) (ec d) (order d), c .if4 .taken))
+    (joined d, (omega arith))
 
 returns : tie.Need-returns
 returns c e =

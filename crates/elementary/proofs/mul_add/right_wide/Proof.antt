@@ -1,4 +1,4 @@
--- `mul_add::right_wide` meets its contract. Assumes nothing.
+-- `mul_add::right_wide` meets its contract: what enters the low word is the high word shifted up (Carry). Assumes nothing.
 use mathlib.Core.Path.{_≡_}
 use Prim.Native.Nat.{ℕ, _+_, _-_, _<_}
 use native.Mathlib.Omega.{arith}

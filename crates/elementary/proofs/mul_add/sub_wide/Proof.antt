@@ -1,4 +1,4 @@
--- `mul_add::sub_wide` meets its contract. Assumes nothing.
+-- `mul_add::sub_wide` meets its contract: the low words borrow just where the second is the larger, in any base (Carry). Assumes nothing.
 use Prim.Native.Nat.{ℕ, _+_, _-_, _^_, _≤_, _<_}
 use native.Mathlib.Nat.{le-of-lt}
 use native.Mathlib.Omega.{arith}

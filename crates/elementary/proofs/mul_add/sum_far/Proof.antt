@@ -1,4 +1,4 @@
--- `mul_add::sum_far` meets its contract. Assumes nothing.
+-- `mul_add::sum_far` meets its contract: the smaller number is cut, and what was cut off goes into the flag (Sums). Assumes nothing.
 use mathlib.Core.Path.{_≡_, sym, ap, _∙_, subst}
 use mathlib.Core.Bool.{false, Bool·beq}
 use Prim.Native.Nat.{ℕ, _+_, _-_, _*_, _/_, _^_, _≤_, _<_}
@@ -13,17 +13,11 @@ use borrow.Author.Needs.{needs}
 use Rattle.elementary.proofs.mul_add.sum_far.Statement.{statement}
 use Rattle.elementary.proofs.mul_add.sum_far.Tie as tie
 
-sum-big : (l y : ℕ) → 2 ^ 104 ≤ l → 2 ^ 64 ≤ l + y
-sum-big l y h = omega arith
-
 less-big : (l y : ℕ) → 2 ^ 104 ≤ l → y < 2 ^ 85 → 2 ^ 64 ≤ l - y
 less-big l y h k = omega arith
 
 one-big : (l y : ℕ) → 2 ^ 104 ≤ l → y < 2 ^ 85 → 2 ^ 64 ≤ l - y - 1
 one-big l y h k = omega arith
-
-some : (x : ℕ) → (x ≡ 0 → ⊥) → 0 < x
-some x h = omega arith
 
 wider : (e : ℕ) → e < 2 ^ 30 → e < 2 ^ 31
 wider e h = omega arith
@@ -62,7 +56,7 @@ rounded-signed-requires c κs =
     let a = c .before .before .before .before in
     let y = c .before .before .before .right-wide in
     let v = c .add-wide in
-    let h : 2 ^ 64 ≤ wide (v .result .hi) (v .result .lo) = subst (λ (z : ℕ). 2 ^ 64 ≤ z) (sym (v .ensures)) (sum-big (wide (a .args .lh) (a .args .ll)) (wide (y .result .hi) (y .result .lo)) (a .pre .large .low)) in
+    let h : 2 ^ 64 ≤ wide (v .result .hi) (v .result .lo) = subst (λ (z : ℕ). 2 ^ 64 ≤ z) (sym (v .ensures)) (omega arith) in
     ready (c .before .before .lost .result) a h
 
 returns : tie.Need-returns
@@ -133,7 +127,7 @@ returns-3 c =
     c .rounded-signed3 .ensures (l * 2 ^ a .args .e - s * 2 ^ (a .args .e - a .args .d)) (2 ^ 2404) (pow-pos 2404)
     (sums.far-minus l s (a .args .d) (a .args .e) (a .pre .room) (2 ^ 2404) (pow-pos 2404)
     (sums.cut-minus l s (2 ^ a .args .d) (wide (y .result .hi) (y .result .lo)) (x .result) (pow-pos (a .args .d)) (y .ensures) (x .ensures) (wide (w .result .hi) (w .result .lo))
-    (some (x .result) (c .before .before .if2 .left)) (lt-of-lt-of-le (y-small a (y .ensures)) (le-trans (lit≤ tt) (a .pre .large .low))) (w .ensures ∙ ap (λ (z : ℕ). z - 1) (v .ensures))))
+    (omega arith) (lt-of-lt-of-le (y-small a (y .ensures)) (le-trans (lit≤ tt) (a .pre .large .low))) (w .ensures ∙ ap (λ (z : ℕ). z - 1) (v .ensures))))
     ∙ differ a (c .before .before .before .before .if1 .left)
 
 pub sum-far-spec : {M : Type 1} → statement M

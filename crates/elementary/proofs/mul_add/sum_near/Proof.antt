@@ -1,4 +1,4 @@
--- `mul_add::sum_near` meets its contract. Assumes nothing.
+-- `mul_add::sum_near` meets its contract: both numbers by one unit, added or subtracted exactly (Sums). Assumes nothing.
 use mathlib.Core.Path.{sym, ap, _∙_, subst}
 use mathlib.Core.Bool.{Bool, _&&_}
 use Prim.Native.Nat.{ℕ, _*_, _^_, _≤_, _<_}

@@ -1,4 +1,4 @@
--- `mul_add::sum_ordered` meets its contract. Assumes nothing.
+-- `mul_add::sum_ordered` meets its contract: the smaller exponent as the larger less d. Assumes nothing.
 use mathlib.Core.Path.{_≡_, ap, _∙_}
 use Prim.Native.Nat.{ℕ, _+_, _-_, _*_, _^_, _≤_}
 use native.Mathlib.Omega.{arith}

@@ -1,4 +1,4 @@
--- `mul_add::sum_wide` meets its contract. Assumes nothing.
+-- `mul_add::sum_wide` meets its contract: `sum` is the same in either order. Assumes nothing.
 use mathlib.Core.Path.{_∙_}
 use Prim.Native.Nat.{_*_, _^_}
 use lib.Ieee.{binary64}

@@ -1,4 +1,4 @@
--- `mul_add::turned` meets its contract. Assumes nothing.
+-- `mul_add::turned` meets its contract: each arm is a sum without a carry. Assumes nothing.
 use mathlib.Core.Path.{_≡_, sym, _∙_}
 use mathlib.Core.Bool.{true≢false, false≢true}
 use Prim.Native.Nat.{ℕ, _+_, _-_, _^_, _<_}

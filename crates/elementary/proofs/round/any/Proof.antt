@@ -1,4 +1,4 @@
--- `round::any` meets its contract. Assumes nothing.
+-- `round::any` meets its contract: a | b and a & b add up to a + b. Assumes nothing.
 use native.Mathlib.Omega.{arith}
 use lib.Bits.{or-add-and, and-le-l, and-le-r}
 use Rattle.elementary.proofs.round.any.Statement.{statement}

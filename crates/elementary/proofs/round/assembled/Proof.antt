@@ -1,4 +1,4 @@
--- `round::assembled` meets its contract. Assumes nothing.
+-- `round::assembled` meets its contract: the fields read back from the pattern (Fields). Assumes nothing.
 use Prim.Native.Nat.{ℕ, _+_, _*_, _%_, _^_, _<_}
 use native.Mathlib.Omega.{arith}
 use Rattle.elementary.proofs.Fields as fields

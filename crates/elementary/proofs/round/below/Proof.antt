@@ -1,4 +1,4 @@
--- `round::below` meets its contract. Assumes nothing.
+-- `round::below` meets its contract: from 64 on nothing is dropped. Assumes nothing.
 use borrow.Author.Needs.{needs}
 use mathlib.Core.Path.{_≡_, sym, ap, _∙_, subst}
 use native.Mathlib.Nat.{mod-eq-of-lt, lt-of-lt-of-le, one-mul}

@@ -1,4 +1,4 @@
--- `round::finite` meets its contract. Assumes nothing.
+-- `round::finite` meets its contract: the two comparisons, by cases on the float. Assumes nothing.
 use lib.Dec.{lit≤}
 use Rattle.elementary.proofs.Decode as decode
 use Rattle.elementary.proofs.Bits.{no-nan-pattern}

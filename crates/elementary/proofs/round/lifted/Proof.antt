@@ -1,4 +1,4 @@
--- `round::lifted` meets its contract. Assumes nothing.
+-- `round::lifted` meets its contract: the digits shifted up by the leading zeros fill 53 places (Decode). Assumes nothing.
 use mathlib.Core.Path.{refl}
 use Prim.Native.Nat.{ℕ, _-_, _≤_, _<_}
 use native.Mathlib.Nat.{lt-of-lt-of-le}

@@ -1,4 +1,4 @@
--- `round::nonzero` meets its contract. Assumes nothing.
+-- `round::nonzero` meets its contract: the two words are 0 just where each is. Assumes nothing.
 use mathlib.Core.Path.{_≡_, sym, ap}
 use Prim.Native.Nat.{ℕ, _<_}
 use native.Mathlib.Omega.{arith}

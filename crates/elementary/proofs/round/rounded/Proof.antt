@@ -1,4 +1,4 @@
--- `round::rounded` meets its contract. Assumes nothing.
+-- `round::rounded` meets its contract: the kept digits are half of one digit more, rounded with the flag (Leaf), and their pattern is the float (Pattern). Assumes nothing.
 use borrow.Author.Needs.{needs}
 use mathlib.Core.Path.{_≡_, refl, sym, ap, _∙_, subst}
 use Prim.Native.Nat.{ℕ, _+_, _-_, _*_, _%_, _^_, _≤_, _<_}

@@ -1,4 +1,4 @@
--- `round::rounded_exact` meets its contract. Assumes nothing.
+-- `round::rounded_exact` meets its contract: nothing is cut off (Words); 0 has no leading digit and goes by itself. Assumes nothing.
 use mathlib.Core.Path.{_≡_, refl, sym, ap, _∙_}
 use Prim.Native.Nat.{ℕ, _*_, _^_, _≤_}
 use native.Mathlib.Nat.{mul-pos, mul-assoc, mul-comm, zero-mul}

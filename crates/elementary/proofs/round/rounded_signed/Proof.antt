@@ -1,4 +1,4 @@
--- `round::rounded_signed` meets its contract. Assumes nothing.
+-- `round::rounded_signed` meets its contract: a sign goes through the rounding (Sign). Assumes nothing.
 use mathlib.Core.Path.{ap, _∙_}
 use mathlib.Core.Bool.{cond}
 use lib.Ieee.{Float, binary64, neg}

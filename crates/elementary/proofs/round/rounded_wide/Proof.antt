@@ -1,4 +1,4 @@
--- `round::rounded_wide` meets its contract. Assumes nothing.
+-- `round::rounded_wide` meets its contract: the leading 64 digits of the two words; the rest joins the flag (Words). Assumes nothing.
 use mathlib.Core.Path.{_≡_, sym, ap, _∙_, subst}
 use Prim.Native.Nat.{ℕ, _+_, _-_, _*_, _/_, _%_, _^_, _≤_, _<_}
 use native.Mathlib.Nat.{mul-assoc, mul-pos}

@@ -1,4 +1,4 @@
--- `round::shifted` meets its contract. Assumes nothing.
+-- `round::shifted` meets its contract: from 64 on nothing is left. Assumes nothing.
 use borrow.Author.Needs.{needs}
 use mathlib.Core.Path.{sym}
 use native.Mathlib.Nat.{div-eq-of-lt, lt-of-lt-of-le}

@@ -1,4 +1,4 @@
--- `round::signed` meets its contract. Assumes nothing.
+-- `round::signed` meets its contract: the two arms. Assumes nothing.
 use borrow.Author.Needs.{needs}
 use mathlib.Core.Path.{sym, ap}
 use mathlib.Core.Bool.{Bool, cond}

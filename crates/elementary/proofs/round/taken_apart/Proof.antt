@@ -1,4 +1,4 @@
--- `round::taken_apart` meets its contract. Assumes nothing.
+-- `round::taken_apart` meets its contract: a subnormal pattern has no leading digit, any other has (Decode). Assumes nothing.
 use mathlib.Core.Path.{sym, subst}
 use mathlib.Core.Bool.{Bool}
 use native.Mathlib.Omega.{arith}

@@ -1,4 +1,4 @@
--- `round::zeros` meets its contract. Assumes nothing.
+-- `round::zeros` meets its contract: the library's law of leading zeros. Assumes nothing.
 use mathlib.Core.Path.{_≡_, sym, ap, _∙_}
 use Prim.Native.Nat.{ℕ, suc, _+_, _^_, _≤_, _<_}
 use native.Mathlib.Nat.{le-trans, le-of-eq, lt-of-lt-of-le, mul-le-mul-right, mul-lt-mul-of-pos-right}

@@ -1,74 +1,56 @@
--- `root::digits` meets its contract. The invariant: s * s + 4 * r * rem is a * 2 ^ 60, and rem is less than one more digit would leave. Assumes nothing.
-use mathlib.Core.Path.{_≡_}
+-- `digits` meets its contract: each root's range follows from the number of its digits. Assumes nothing.
 use mathlib.Core.Logic.{⊎-elim, inl, inr}
-use Prim.Native.Nat.{suc, _+_, _-_, _≤_}
+use Prim.Native.Nat.{_^_}
 use native.Mathlib.Omega.{arith}
-use Rattle.elementary.proofs.sqrt.Walk.{Left, begun, turn, last}
+use borrow.Author.Needs.{needs}
+use Rattle.elementary.specs.Sqrt.Isqrt.{sq-suc}
+use Rattle.elementary.proofs.sqrt.Steps.{first-digits, root-range}
 use Rattle.elementary.proofs.sqrt.digits.Statement.{statement}
 use Rattle.elementary.proofs.sqrt.digits.Tie as tie
 
-abbrev Inv-loop : tie.InvT-loop
-Inv-loop a rem₀ s₀ first r₀ i₀ rem s r i = (i ≤ 52) × Left a rem s r (52 - i)
+twice-requires : tie.Need-twice-requires
+twice-requires c κs =
+    first-digits (c .before .args .a) (c .if1 .first) (omega arith) (omega arith)
+    (⊎-elim (λ w. inl (w .0 .taken, w .1)) (λ w. inr (w .0 .left, w .1)) (c .if1 .came))
 
-abbrev μ-loop : tie.MeasureT-loop
-μ-loop a rem₀ s₀ first r₀ i₀ rem s r i = 52 - i
+twice-requires-2 : tie.Need-twice-requires-2
+twice-requires-2 c κs = let z = root-range _ (c .twice .result) 8 16 (c .twice .ensures) (omega arith) (omega arith) in omega arith
 
-mul-first : tie.Need-mul-first Inv-loop μ-loop
-mul-first c = ⊎-elim (λ w. omega arith) (λ w. omega arith) (c .before .if1 .came)
+twice-requires-3 : tie.Need-twice-requires-3
+twice-requires-3 c κs = let z = root-range _ (c .twice2 .result) 128 256 (c .twice2 .ensures) (omega arith) (omega arith) in omega arith
 
-add-first : tie.Need-add-first Inv-loop μ-loop
-add-first c = ⊎-elim (λ w. omega arith) (λ w. omega arith) (c .before .if1 .came)
+twice-requires-4 : tie.Need-twice-requires-4
+twice-requires-4 c κs = let z = root-range _ (c .twice3 .result) (2 ^ 15) (2 ^ 16) (c .twice3 .ensures) (omega arith) (omega arith) in omega arith
 
-add-s : tie.Need-add-s Inv-loop μ-loop
-add-s c = ⊎-elim (λ w. omega arith) (λ w. omega arith) (c .before .before .before .if1 .came)
+mul-extend : tie.Need-mul-extend
+mul-extend c = search needs
 
-loop-holds : tie.Need-loop-holds Inv-loop μ-loop
-loop-holds c = (
-  omega arith,
-  begun _ _ _ _ _ (omega arith)
-      (⊎-elim (λ w. inl (w .0 .taken, w .1, w .2)) (λ w. inr (w .0 .left, w .1, w .2)) (c .before .before .if1 .came))
-      (⊎-elim (λ w. inl (w .0 .taken, w .2, w .3)) (λ w. inr (w .0 .left, w .1, w .2)) (c .if2 .came)),
-)
+sub-extend : tie.Need-sub-extend
+sub-extend c = search needs
 
-add-t : tie.Need-add-t Inv-loop μ-loop
-add-t c = omega arith
+mul-extend-2 : tie.Need-mul-extend-2
+mul-extend-2 c =
+    let z = root-range _ (c .twice4 .result) (2 ^ 31) (2 ^ 32) (c .twice4 .ensures) (omega arith) (omega arith) in
+    omega (arith, sq-suc (c .twice4 .result))
 
-mul-off : tie.Need-mul-off Inv-loop μ-loop
-mul-off c = omega arith
+extend-requires : tie.Need-extend-requires
+extend-requires c κs =
+    let z = root-range _ (c .twice4 .result) (2 ^ 31) (2 ^ 32) (c .twice4 .ensures) (omega arith) (omega arith) in
+    omega (arith, sq-suc (c .twice4 .result))
 
-add-s-2 : tie.Need-add-s-2 Inv-loop μ-loop
-add-s-2 c = omega arith
-
-mul-rem : tie.Need-mul-rem Inv-loop μ-loop
-mul-rem c = omega arith
-
-sub-rem : tie.Need-sub-rem Inv-loop μ-loop
-sub-rem c = ⊎-elim (λ w. omega arith) (λ w. omega arith) (c .before .before .if3 .came)
-
-add-i : tie.Need-add-i Inv-loop μ-loop
-add-i c = omega arith
-
-loop-less : tie.Need-loop-less Inv-loop μ-loop
-loop-less c = omega arith
-
-loop-again : tie.Need-loop-again Inv-loop μ-loop
-loop-again c =
-    let inside = c .before .before .before .before in
-    let inv = inside .before .loop .inv in
-    let i = inside .before .loop .i in
-    let l = inside .loop-test .taken in
-    let e : 52 - i ≡ suc (52 - (i + 1)) = omega arith in (
-      omega arith,
-      turn _ _ _ _ _ _ _ (rw e at (inv .1))
-          (⊎-elim (λ w. inl (w .0 .taken, w .2, w .1)) (λ w. inr (w .0 .left, w .2, w .1)) (c .before .before .if3 .came)),
-    )
-
-returns : tie.Need-returns Inv-loop μ-loop
-returns c =
-    let e : 52 - c .before .before .loop .i ≡ 0 = omega arith in
-    last _ _ _ _ (rw e at (c .before .before .loop .inv .1))
+returns : tie.Need-returns
+returns c = search needs
 
 pub digits-spec : {M : Type 1} → statement M
 digits-spec =
     tie.close
-    (tie.spec Inv-loop μ-loop mul-first add-first add-s loop-holds add-t mul-off add-s-2 mul-rem sub-rem add-i loop-less loop-again returns)
+    (tie.spec
+    twice-requires
+    twice-requires-2
+    twice-requires-3
+    twice-requires-4
+    mul-extend
+    sub-extend
+    mul-extend-2
+    extend-requires
+    returns)

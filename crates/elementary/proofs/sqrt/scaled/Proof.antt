@@ -1,8 +1,9 @@
+-- `scaled` meets its contract: the shift leaves the exponent even, so the root of the digits is the digits of the root. Assumes nothing.
 use Prim.Native.Nat.{_≤_}
 use native.Mathlib.Omega.{arith}
 use borrow.Author.Needs.{needs}
 use lib.Count.{leadingZeros}
-use Rattle.elementary.proofs.sqrt.Laws.{z-in, made, made-no-nan}
+use Rattle.elementary.proofs.sqrt.Laws.{z-in, shifted-lo, root-in, made, made-no-nan}
 use Rattle.elementary.proofs.sqrt.scaled.Statement.{statement}
 use Rattle.elementary.proofs.sqrt.scaled.Tie as tie
 
@@ -25,7 +26,7 @@ shl-digits : tie.Need-shl-digits
 shl-digits c = omega (arith, range c)
 
 digits-requires : tie.Need-digits-requires
-digits-requires c κs = search needs
+digits-requires c κs = shifted-lo (c .args .m) (c .args .e) (c .pre .0) (c .pre .1) (c .pre .2) (c .pre .3)
 
 add-result : tie.Need-add-result
 add-result c = search needs
@@ -37,20 +38,24 @@ mul-result : tie.Need-mul-result
 mul-result c = search needs
 
 add-result-2 : tie.Need-add-result-2
-add-result-2 c = search needs
+add-result-2 c =
+    let p = c .before .pre in
+    omega (arith, root-in (c .before .args .m) (c .before .args .e) (p .0) (p .1) (p .2) (p .3) (c .digits .result) (c .digits .ensures))
 
 add-result-3 : tie.Need-add-result-3
-add-result-3 c = search needs
+add-result-3 c =
+    let p = c .before .pre in
+    omega (arith, root-in (c .before .args .m) (c .before .args .e) (p .0) (p .1) (p .2) (p .3) (c .digits .result) (c .digits .ensures))
 
 float-from-bits-result : tie.Need-float-from-bits-result
 float-from-bits-result c =
     let p = c .before .pre in
-    made-no-nan (c .before .args .m) (c .before .args .e) (p .0) (p .1) (p .2) (p .3) (c .digits .result) (c .digits .ensures .0) (c .digits .ensures .1)
+    made-no-nan (c .before .args .m) (c .before .args .e) (p .0) (p .1) (p .2) (p .3) (c .digits .result) (c .digits .ensures)
 
 returns : tie.Need-returns
 returns c =
     let p = c .before .pre in
-    made (c .before .args .m) (c .before .args .e) (p .0) (p .1) (p .2) (p .3) (c .digits .result) (c .digits .ensures .0) (c .digits .ensures .1)
+    made (c .before .args .m) (c .before .args .e) (p .0) (p .1) (p .2) (p .3) (c .digits .result) (c .digits .ensures)
 
 pub scaled-spec : {M : Type 1} → statement M
 scaled-spec =

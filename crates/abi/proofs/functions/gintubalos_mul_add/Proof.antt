@@ -1,0 +1,10 @@
+-- `abi::functions::gintubalos_mul_add` meets its contract, by what its callees ensure. Assumes nothing.
+use borrow.Author.Needs.{needs}
+use Rattle.abi.proofs.functions.gintubalos_mul_add.Statement.{statement}
+use Rattle.abi.proofs.functions.gintubalos_mul_add.Tie as tie
+
+returns : tie.Need-returns
+returns c = cc
+
+pub gintubalos-mul-add-spec : {M : Type 1} → statement M
+gintubalos-mul-add-spec = tie.close (tie.spec (λ c κs. search needs) (λ c κs. search needs) (λ c κs. search needs) (λ c κs. search needs) (λ c κs. search needs) returns)

@@ -1,0 +1,79 @@
+// Replays answers of the Rust: standard input has a line for each, as `differential --samples`
+// writes them. For each function it prints how many there are and whether all agree.
+mod functions;
+mod list;
+
+ghost use Prim.Native.Nat.{_+_, _≤_};
+ghost use lib.ListN.{length};
+use functions::print;
+
+// The lines of one function, and how many of them have the answer that the proved function gives.
+struct Tally {
+    met: u64,
+    agree: u64,
+}
+
+fn main() {
+    let mut buffer = io::large_buffer();
+    let n = io::read_full(0, &mut buffer);
+    report(&buffer[..n]);
+}
+
+fn report(text: &[u8]) {
+    let mut function: u64 = 0;
+    while function < functions::COUNT {
+        report_function(text, function);
+        function += 1;
+    }
+}
+
+fn report_function(text: &[u8], function: u64) {
+    let t = counted(text, function);
+    functions::print_name(function);
+    print(b" ");
+    print_tally(t);
+    print(b" agree\n");
+}
+
+// The count alone where all agree.
+fn print_tally(t: Tally) {
+    if t.agree != t.met {
+        io::print_decimal(1, t.agree);
+        print(b" of ");
+    }
+    io::print_decimal(1, t.met);
+}
+
+fn counted(text: &[u8], function: u64) -> Tally {
+    let lines = text.len() / list::WIDTH;
+    let mut met: u64 = 0;
+    let mut agree: u64 = 0;
+    let mut i: usize = 0;
+    while i < lines {
+        let at = i * list::WIDTH;
+        if list::number_at(text, at) == function {
+            met += 1;
+            agree += agrees(text, at, function);
+        }
+        i += 1;
+    }
+    Tally {
+        met: met,
+        agree: agree,
+    }
+}
+
+// 1 where the proved function has the answer of the line at this place, else 0.
+fn agrees(text: &[u8], at: usize, function: u64) -> u64
+    requires { ⌜ at + 71 ≤ length (now text) ⌝ }
+    ensures { λ r. ⌜ r ≤ 1 ⌝ }
+{
+    let a = list::word_at(text, at + list::FIRST);
+    let b = list::word_at(text, at + list::SECOND);
+    let c = list::word_at(text, at + list::THIRD);
+    if functions::answer(function, a, b, c) == list::word_at(text, at + list::ANSWER) {
+        1
+    } else {
+        0
+    }
+}

@@ -1,0 +1,124 @@
+//! One function's comparison: the edge values in all combinations, then random inputs in blocks. A block's inputs depend on
+//! the seed, the function and the block's number alone, so a run is the same with any number of threads.
+
+use crate::{
+    edges::{edges, sixteenths},
+    functions::Function,
+    inputs::{one, Arguments},
+    words::Words,
+};
+use std::thread;
+
+const BLOCK: u64 = 50_000;
+/// After so many inputs a line says how far the run is.
+const ROUND: u64 = 50 * BLOCK;
+/// So many differing inputs of a function are shown.
+const SHOWN: usize = 10;
+
+#[derive(Clone, Copy)]
+pub struct Difference {
+    pub arguments: Arguments,
+    pub ours: u64,
+    pub reference: u64,
+}
+
+/// What a part of a run found.
+#[derive(Default)]
+pub struct Found {
+    pub compared: u64,
+    pub different: u64,
+    pub first: Vec<Difference>,
+}
+
+impl Found {
+    fn compare(&mut self, function: &Function, arguments: Arguments) {
+        let ours = (function.ours)(arguments);
+        let reference = (function.reference)(arguments);
+        self.compared += 1;
+        if ours != reference {
+            self.different += 1;
+            if self.first.len() < SHOWN {
+                self.first.push(Difference { arguments, ours, reference });
+            }
+        }
+    }
+
+    fn add(&mut self, other: Found) {
+        self.compared += other.compared;
+        self.different += other.different;
+        let room = SHOWN - self.first.len();
+        self.first.extend(other.first.into_iter().take(room));
+    }
+}
+
+pub struct Run {
+    pub seed: u64,
+    pub inputs: u64,
+    pub threads: u64,
+}
+
+impl Run {
+    /// Compares one function and prints how far it is.
+    pub fn function(&self, function: &Function) -> Found {
+        let mut found = self.edges(function);
+        self.progress(function, &found, "edge values");
+        let mut done = 0;
+        while done < self.inputs {
+            let next = (done + ROUND).min(self.inputs);
+            found.add(self.random(function, done, next));
+            done = next;
+            self.progress(function, &found, "random inputs");
+        }
+        found
+    }
+
+    fn progress(&self, function: &Function, found: &Found, what: &str) {
+        println!("{} {} {} different ({what})", function.name, found.compared, found.different);
+    }
+
+    /// Hands the parts 0 .. parts to the threads, and takes what they found in the parts' order.
+    fn in_parts(&self, parts: u64, part: impl Fn(u64) -> Found + Sync) -> Found {
+        let part = &part;
+        let mut all: Vec<(u64, Found)> = thread::scope(|scope| {
+            let start =
+                |t| scope.spawn(move || (t..parts).step_by(self.threads as usize).map(|i| (i, part(i))).collect());
+            let started: Vec<thread::ScopedJoinHandle<Vec<_>>> = (0..self.threads).map(start).collect();
+            started.into_iter().flat_map(|t| t.join().expect("a comparison doesn't panic")).collect()
+        });
+        all.sort_by_key(|(i, _)| *i);
+        let mut sum = Found::default();
+        all.into_iter().for_each(|(_, found)| sum.add(found));
+        sum
+    }
+
+    fn edges(&self, function: &Function) -> Found {
+        let values = edges(if function.arguments == 3 { 1 } else { 3 });
+        let none = vec![0];
+        let second = if function.arguments > 1 { &values } else { &none };
+        let third = if function.arguments > 2 { &values } else { &none };
+        let mut found = self.in_parts(values.len() as u64, |i| {
+            let mut found = Found::default();
+            for &b in second {
+                third.iter().for_each(|&c| found.compare(function, [values[i as usize], b, c]));
+            }
+            found
+        });
+        if function.arguments == 1 {
+            sixteenths().into_iter().for_each(|x| found.compare(function, one(x)));
+        }
+        found
+    }
+
+    fn random(&self, function: &Function, from: u64, to: u64) -> Found {
+        let blocks = (to - from).div_ceil(BLOCK);
+        self.in_parts(blocks, |i| {
+            let start = from + i * BLOCK;
+            let mut words = Words::new(self.seed, function.name, start / BLOCK);
+            let mut found = Found::default();
+            for _ in start..to.min(start + BLOCK) {
+                found.compare(function, (function.inputs)(&mut words));
+            }
+            found
+        })
+    }
+}

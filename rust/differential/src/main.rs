@@ -1,0 +1,119 @@
+//! Compares the proved functions with the Rust, bit for bit.
+//!
+//! The last line of a run is `N compared, M differences`. Exit status: 0 no difference; 1 a difference, the first ones in
+//! the lines above; 2 bad usage; 3 the Rust's source wasn't at hand when this was built, and nothing was compared.
+
+mod accuracy;
+mod compare;
+mod edges;
+mod functions;
+mod inputs;
+mod samples;
+mod words;
+
+use compare::{Found, Run};
+use functions::{Function, FUNCTIONS};
+use std::{env, process::exit, thread};
+
+const USAGE: &str = "usage: differential [--quick] [--function NAME] [--inputs N] [--seed N] [--threads N]
+       differential --samples | --accuracy < TABLE
+
+  --quick          fewer random inputs: under a minute, for the gate
+  --function NAME  this function alone
+  --inputs N       random inputs of each function (default 10000000)
+  --seed N         other random inputs (default 1)
+  --threads N      default: as many as the machine has processors
+  --samples        writes the list that crates/samples replays, answers of the Rust, to standard output
+  --accuracy       measures document 01's rules over a table of rust/accuracy/table.py on standard input";
+
+const INPUTS: u64 = 10_000_000;
+const QUICK: u64 = 2_000_000;
+
+/// What the command line asks for.
+struct Wanted {
+    quick: bool,
+    samples: bool,
+    accuracy: bool,
+    function: Option<String>,
+    inputs: Option<u64>,
+    seed: u64,
+    threads: u64,
+}
+
+fn usage(problem: &str) -> ! {
+    eprintln!("differential: {problem}\n{USAGE}");
+    exit(2)
+}
+
+fn number(word: Option<String>) -> u64 {
+    word.and_then(|w| w.parse().ok()).unwrap_or_else(|| usage("a number is missing"))
+}
+
+fn wanted() -> Wanted {
+    let threads = thread::available_parallelism().map_or(1, |n| n.get() as u64);
+    let mut wanted =
+        Wanted { quick: false, samples: false, accuracy: false, function: None, inputs: None, seed: 1, threads };
+    let mut words = env::args().skip(1);
+    while let Some(word) = words.next() {
+        match word.as_str() {
+            "--quick" => wanted.quick = true,
+            "--samples" => wanted.samples = true,
+            "--accuracy" => wanted.accuracy = true,
+            "--function" => wanted.function = words.next(),
+            "--inputs" => wanted.inputs = Some(number(words.next())),
+            "--seed" => wanted.seed = number(words.next()),
+            "--threads" => wanted.threads = number(words.next()).max(1),
+            _ => usage(&format!("`{word}` isn't known")),
+        }
+    }
+    wanted
+}
+
+impl Wanted {
+    fn functions(&self) -> Vec<&'static Function> {
+        let of_name = |f: &&Function| self.function.as_ref().is_none_or(|name| name == f.name);
+        let functions: Vec<&Function> = FUNCTIONS.iter().filter(of_name).collect();
+        if functions.is_empty() {
+            usage("there is no such function");
+        }
+        functions
+    }
+
+    fn run(&self, function: &Function) -> Run {
+        // In a quick run a slow function has fewer inputs.
+        let usual = if self.quick { QUICK / function.cost } else { INPUTS };
+        Run { seed: self.seed, inputs: self.inputs.unwrap_or(usual), threads: self.threads }
+    }
+}
+
+fn show(function: &Function, found: &Found) {
+    for d in &found.first {
+        let arguments: Vec<String> = d.arguments[..function.arguments].iter().map(|x| format!("{x:016X}")).collect();
+        println!("{}({}): {:016X}, the Rust has {:016X}", function.name, arguments.join(", "), d.ours, d.reference);
+    }
+}
+
+fn main() {
+    let wanted = wanted();
+    let Some(source) = reference::SOURCE else {
+        println!("no Rust source: comparison not run");
+        exit(3);
+    };
+    if wanted.accuracy {
+        exit(if accuracy::report() { 0 } else { 2 });
+    }
+    if wanted.samples {
+        samples::write();
+        exit(0);
+    }
+    println!("Rust source {source}, seed {}", wanted.seed);
+    let (mut compared, mut different) = (0, 0);
+    for function in wanted.functions() {
+        let found = wanted.run(function).function(function);
+        show(function, &found);
+        compared += found.compared;
+        different += found.different;
+    }
+    println!("{compared} compared, {different} differences");
+    exit(i32::from(different != 0));
+}

@@ -1,0 +1,19 @@
+//! Links the archive of the proved functions, which `rt staticlib abi` writes. GINTUBALOS_ABI is the folder that has it;
+//! its default is target/staticlib of the repository.
+
+use std::{env, path::PathBuf, process::exit};
+
+fn main() {
+    println!("cargo:rerun-if-changed=build.rs");
+    println!("cargo:rerun-if-env-changed=GINTUBALOS_ABI");
+    let here = PathBuf::from(env::var("CARGO_MANIFEST_DIR").expect("cargo sets it"));
+    let folder = env::var_os("GINTUBALOS_ABI").map_or_else(|| here.join("../../target/staticlib"), PathBuf::from);
+    let archive = folder.join("libabi.a");
+    println!("cargo:rerun-if-changed={}", archive.display());
+    if !archive.is_file() {
+        println!("cargo:warning=no {}: run `rt staticlib abi` first, or set GINTUBALOS_ABI", archive.display());
+        exit(1);
+    }
+    println!("cargo:rustc-link-search=native={}", folder.display());
+    println!("cargo:rustc-link-lib=static=abi");
+}

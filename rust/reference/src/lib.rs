@@ -1,0 +1,22 @@
+//! The Rust of the source folder, built over document 01's elementary functions. `elementary` has those, written from
+//! document 01; build.rs reads the rest from the source folder.
+
+pub mod elementary;
+
+#[cfg(rust_source)]
+mod num_traits;
+#[cfg(rust_source)]
+mod statrs;
+
+#[cfg(rust_source)]
+include!(concat!(env!("OUT_DIR"), "/source.rs"));
+#[cfg(not(rust_source))]
+include!("absent.rs");
+
+pub use inputs::OptionType;
+
+/// Says which source was read, if one was.
+pub const SOURCE: Option<&str> = option_env!("GINTUBALOS_SOURCE_FINGERPRINT");
+
+// erfcx_above_threshold has an assertion that document 01's build leaves out.
+const _: () = assert!(!cfg!(debug_assertions));
