@@ -5,3 +5,4 @@ pub mod Intrinsic
 pub mod Vega
 pub mod Black
 pub mod RationalCubic
+pub mod Rows
