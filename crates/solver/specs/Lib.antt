@@ -1,1 +1,10 @@
+-- Definitions.
+pub mod RuleSets
+pub mod Loop
+pub mod Step
+pub mod Guess
+pub mod Solve
+pub mod Trail
+-- Theorems about the definitions.
+pub mod Runs
 pub mod Table

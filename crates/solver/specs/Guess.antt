@@ -1,0 +1,177 @@
+-- The guess of so_rational.rs, operation by operation: both maps with their two derivatives, and for each branch the first s and the starting ends.
+-- Definitions only.
+use mathlib.Core.Bool.{Bool, true, false, cond, _&&_}
+use Prim.Native.Nat.{ℕ}
+use lib.Ieee.{Float, binary64, neg, lt, le}
+use Rattle.elementary.specs.Ops.{_⊕_, _⊖_, _⊗_, _⊘_, bits, whole, +0, half, one, two, MAX}
+use Rattle.elementary.specs.Rules.{Rules}
+use Rattle.elementary.specs.Methods.{absOf, maxOf, squareOf}
+use Rattle.elementary.specs.Sqrt.{sqrtOf}
+use Rattle.elementary.specs.Exp.{expOf}
+use Rattle.elementary.specs.Ln.{cubeRootOf}
+use Rattle.elementary.specs.NormalDistribution.{cdfOf, inverseOf, inverseFUpperMapOf}
+use Rattle.prices.specs.declared.inputs.OptionType.{OptionType}
+use Rattle.prices.specs.declared.answer.Answer.{Answer}
+use Rattle.prices.specs.declared.answer.Answer.the-variants.{Value, Refused as Number}
+use Rattle.prices.specs.declared.rational_cubic.Side.the-variants.{Left, Right}
+use Rattle.prices.specs.Inputs.{times}
+use Rattle.prices.specs.Intrinsic.{intrinsicOf}
+use Rattle.prices.specs.Vega.{eighth, vegaOf}
+use Rattle.prices.specs.Black.{callOf}
+use Rattle.prices.specs.RationalCubic.{MIN, interpolationOf, convexParameterOf}
+use Rattle.solver.specs.declared.state.State.{State}
+use Rattle.solver.specs.declared.state.Stepped.{Stepped}
+use Rattle.solver.specs.Step.{quarter, lowerStep, upperStep, generalStep}
+
+-- 1.3407807929942596e154, √3, 2π/√27, √(π/2), √(1/3), π and π/6, as the Rust rounds them
+abbrev pub SQRT-DBL-MAX : Float
+SQRT-DBL-MAX = bits 0x5fef_ffff_ffff_ffff
+
+abbrev pub SQRT-THREE : Float
+SQRT-THREE = bits 0x3ffb_b67a_e858_4caa
+
+abbrev pub TWO-PI-OVER-SQRT-TWENTY-SEVEN : Float
+TWO-PI-OVER-SQRT-TWENTY-SEVEN = bits 0x3ff3_58e1_a79e_d7e1
+
+abbrev pub SQRT-PI-OVER-TWO : Float
+SQRT-PI-OVER-TWO = bits 0x3ff4_0d93_1ff6_2706
+
+abbrev pub SQRT-ONE-OVER-THREE : Float
+SQRT-ONE-OVER-THREE = bits 0x3fe2_79a7_4590_331c
+
+abbrev pub PI : Float
+PI = bits 0x4009_21fb_5444_2d18
+
+abbrev pub PI-OVER-SIX : Float
+PI-OVER-SIX = bits 0x3fe0_c152_382d_7365
+
+-- DENORMALISATION_CUTOFF is 0, so this never holds; it stands where the Rust has it
+abbrev pub isBelowHorizon : Float → Bool
+isBelowHorizon x = lt (absOf x) +0
+
+-- ---- the maps
+
+-- a map's value with its first two derivatives
+pub record Mapped : Type 0 where
+  pub f : Float
+  pub fp : Float
+  pub fpp : Float
+
+unfoldable pub inverseFLowerMap : Rules → Float → Float → Float
+inverseFLowerMap rules x f =
+    let s = absOf (x ⊘ (SQRT-THREE ⊗ inverseOf rules (cubeRootOf (f ⊘ (TWO-PI-OVER-SQRT-TWENTY-SEVEN ⊗ absOf x))))) in
+    cond (isBelowHorizon f) +0 s
+
+unfoldable pub upperMap : Rules → Float → Float → Mapped
+upperMap rules x s =
+    let w = squareOf (x ⊘ s) in
+    let fp = neg half ⊗ expOf (half ⊗ w) in
+    let fpp = SQRT-PI-OVER-TWO ⊗ expOf (w ⊕ eighth ⊗ s ⊗ s) ⊗ w ⊘ s in
+    let horizon = isBelowHorizon x in
+    record { f = cdfOf rules (neg half ⊗ s); fp = cond horizon (neg half) fp; fpp = cond horizon +0 fpp }
+
+-- The second derivative divides by cdf(z), where the paper has the density.
+unfoldable pub lowerMap : Rules → Float → Float → Mapped
+lowerMap rules x s =
+    let ax = absOf x in
+    let z = SQRT-ONE-OVER-THREE ⊗ ax ⊘ s in
+    let y = z ⊗ z in
+    let s2 = s ⊗ s in
+    let phi = cdfOf rules z in
+    let phi′ = cdfOf rules (neg z) in
+    let fpp =
+    PI-OVER-SIX ⊗ y ⊘ (s2 ⊗ s) ⊗ phi′ ⊗ (whole 8 ⊗ SQRT-THREE ⊗ s ⊗ ax ⊕ (whole 3 ⊗ s2 ⊗ (s2 ⊖ whole 8) ⊖ whole 8 ⊗ x ⊗ x) ⊗ phi′ ⊘ phi) ⊗ expOf (two ⊗ y ⊕ quarter ⊗ s2) in
+    let phi2 = phi′ ⊗ phi′ in
+    let fp = PI ⊗ two ⊗ y ⊗ phi2 ⊗ expOf (y ⊕ eighth ⊗ s ⊗ s) in
+    let f = cond (isBelowHorizon x) +0 (TWO-PI-OVER-SQRT-TWENTY-SEVEN ⊗ ax ⊗ (phi2 ⊗ phi′)) in
+    let horizon = isBelowHorizon s in
+    record { f = cond horizon +0 f; fp = cond horizon one fp; fpp = fpp }
+
+-- ---- the first s of each branch: a value, or 6 from the cubic
+
+abbrev pub onValue : Answer → (Float → Float) → Answer
+onValue (Value f) g = Value (g f)
+onValue (Number n) g = Number n
+
+unfoldable pub lowerGuess : Rules → Float → Float → Float → Float → Answer
+lowerGuess rules x beta b-l s-l =
+    let m = lowerMap rules x s-l in
+    let r = convexParameterOf +0 b-l +0 (m .f) one (m .fp) (m .fpp) true Right in
+    let t = beta ⊘ b-l in
+    let instead = (m .f ⊗ t ⊕ b-l ⊗ (one ⊖ t)) ⊗ t in
+    onValue (interpolationOf beta +0 b-l +0 (m .f) one (m .fp) r) (λ f. inverseFLowerMap rules x (cond (le f +0) instead f))
+
+-- between two places with their prices and vegas
+unfoldable pub middleGuess : Float → Float → Float → Float → Float → Float → Float → Bool → Answer
+middleGuess beta b-1 b-2 s-1 s-2 v-1 v-2 from-right =
+    let side = cond from-right Right Left in
+    let r = convexParameterOf b-1 b-2 s-1 s-2 (one ⊘ v-1) (one ⊘ v-2) +0 false side in
+    interpolationOf beta b-1 b-2 s-1 s-2 (one ⊘ v-1) (one ⊘ v-2) r
+
+-- f stays −f64::MAX where the second derivative is too large for the cubic
+unfoldable pub upperGuess : Rules → Float → Float → Float → Float → Float → Answer
+upperGuess rules x beta b-max b-h s-h =
+    let m = upperMap rules x s-h in
+    let r = convexParameterOf b-h b-max (m .f) +0 (m .fp) (neg half) (m .fpp) true Left in
+    let interpolated = interpolationOf beta b-h b-max (m .f) +0 (m .fp) (neg half) r in
+    let h = b-max ⊖ b-h in
+    let t = (beta ⊖ b-h) ⊘ h in
+    let instead = (m .f ⊗ (one ⊖ t) ⊕ half ⊗ h ⊗ t) ⊗ (one ⊖ t) in
+    onValue (cond (lt (neg SQRT-DBL-MAX) (m .fpp) && lt (m .fpp) SQRT-DBL-MAX) interpolated (Value MIN))
+    (λ f. inverseFUpperMapOf rules (cond (le f +0) instead f))
+
+-- ---- where a run begins
+
+pub data Begun : Type 0 where
+  -- answered before a guess: branch 0, ending 0
+  answered : Float → Begun
+  -- refused before a loop
+  stopped : ℕ → Begun
+  -- the branch, the target, the loop's step and the state before the first one
+  looping : ℕ → Float → (State → Stepped) → State → Begun
+
+abbrev pub withValue : Answer → (Float → Begun) → Begun
+withValue (Value b) f = f b
+withValue (Number n) f = stopped n
+
+-- ds is −f64::MAX and the previous one 0 before the first step
+abbrev pub startAt : Float → Float → Float → State
+startAt left right s = record { s = s; ds = MIN; previous = +0; left = left; right = right }
+
+-- below b_c
+unfoldable pub lowerBegun : Rules → Float → Float → Float → Float → Float → Begun
+lowerBegun rules x beta s-c b-c v-c =
+    let s-l = s-c ⊖ b-c ⊘ v-c in
+    withValue (callOf rules x s-l) (λ b-l.
+    let loop-1 = withValue (lowerGuess rules x beta b-l s-l) (λ s. looping 1 beta (lowerStep rules x beta) (startAt MIN s-l s)) in
+    let loop-2 = withValue (middleGuess beta b-l b-c s-l s-c (vegaOf x s-l) v-c true) (λ s. looping 2 beta (generalStep rules x beta) (startAt s-l s-c s)) in
+    cond (lt beta b-l) loop-1 loop-2)
+
+-- from b_c on
+unfoldable pub upperBegun : Rules → Float → Float → Float → Float → Float → Float → Begun
+upperBegun rules x beta b-max s-c b-c v-c =
+    let s-h = cond (lt MIN v-c) (s-c ⊕ (b-max ⊖ b-c) ⊘ v-c) s-c in
+    withValue (callOf rules x s-h) (λ b-h.
+    let loop-3 = withValue (middleGuess beta b-c b-h s-c s-h v-c (vegaOf x s-h) false) (λ s. looping 3 beta (generalStep rules x beta) (startAt s-c s-h s)) in
+    let loop-4 : Float → Begun = λ s. looping 4 beta (upperStep rules b-max x beta) (startAt s-h MAX s) in
+    let loop-5 : Float → Begun = λ s. looping 5 beta (generalStep rules x beta) (startAt s-h MAX s) in
+    let tail = withValue (upperGuess rules x beta b-max b-h s-h) (λ s. cond (lt (half ⊗ b-max) beta) (loop-4 s) (loop-5 s)) in
+    cond (le beta b-h) loop-3 tail)
+
+-- the target and x after all mapping
+unfoldable pub mappedBegun : Rules → Float → Float → Begun
+mappedBegun rules x beta =
+    let b-max = expOf (half ⊗ x) in
+    let s-c = sqrtOf binary64 (two ⊗ absOf x) in
+    let v-c = vegaOf x s-c in
+    let guessed = withValue (callOf rules x s-c) (λ b-c.
+    let lower = lowerBegun rules x beta s-c b-c v-c in
+    let upper = upperBegun rules x beta b-max s-c b-c v-c in
+    cond (lt beta b-c) lower upper) in
+    cond (le beta +0) (answered +0) (cond (lt beta +0) (answered +0) (cond (le b-max beta) (answered MAX) guessed))
+
+-- unchecked_normalised_implied_volatility_.., up to its loops
+unfoldable pub normalisedBegun : Rules → Float → Float → OptionType → Begun
+normalisedBegun rules beta x kind =
+    let mapped = maxOf (beta ⊖ intrinsicOf x kind) +0 in
+    mappedBegun rules (times kind x) (cond (lt +0 (times kind x)) mapped beta)

@@ -1,0 +1,50 @@
+-- A loop that takes steps until its test holds, its limit is reached or a step is refused: over any type S of states, R of records, and any rule for what
+-- a state leads to. Definitions only.
+use mathlib.Core.Bool.{Bool, true, false}
+use mathlib.Core.List.{List, [], _∷_, _++_}
+use Prim.Native.Nat.{ℕ, zero, suc}
+
+-- how a run ends: its test holds, its limit is reached, or a step meets a number
+pub data Ending (S : Type 0) : Type 0 where
+  tested limited : S → Ending S
+  refused : ℕ → Ending S
+
+-- what a state leads to: a completed step, with its record and the state after it, or an ending
+pub data Turn (S R : Type 0) : Type 0 where
+  goes : R → S → Turn S R
+  ends : Ending S → Turn S R
+
+-- a run is the records of its completed steps, and its ending
+pub record Run (S R : Type 0) : Type 0 where
+  pub records : List R
+  pub ending : Ending S
+
+module _ {S R : Type 0} where
+  -- the records rs, and then what w has
+  abbrev pub after : List R → Run S R → Run S R
+  after rs w = record { records = rs ++ w .records; ending = w .ending }
+
+  abbrev pub follow : Turn S R → (S → Run S R) → Run S R
+  follow (goes r s) rest = after (r ∷ []) (rest s)
+  follow (ends e) rest = record { records = []; ending = e }
+
+  -- The run from a state, with a limit of n steps. One that has taken as many steps as its limit ends by it, also where the test then holds.
+  unfoldable pub run : (S → Turn S R) → ℕ → S → Run S R
+  run next zero s = record { records = []; ending = limited s }
+  run next (suc n) s = follow (next s) (run next n)
+
+-- the run reached its limit
+abbrev pub byLimit : {S : Type 0} → Ending S → Bool
+byLimit (tested s) = false
+byLimit (limited s) = true
+byLimit (refused k) = false
+
+-- record i of a list is r
+pub data At {R : Type 0} : List R → ℕ → R → Type 0 where
+  here : {r : R} {rs : List R} → At (r ∷ rs) 0 r
+  there : {q r : R} {rs : List R} {i : ℕ} → At rs i r → At (q ∷ rs) (suc i) r
+
+-- from a starting value on, each record's value is related to the one before it
+abbrev pub Linked : {A R : Type 0} → (A → A → Type 0) → (R → A) → A → List R → Type 0
+Linked rel end start [] = Unit
+Linked rel end start (r ∷ rs) = rel start (end r) × Linked rel end (end r) rs

@@ -1,0 +1,88 @@
+-- Demand 3 of any loop: a longer limit gives the same run or continues it, the steps keep within the limit, and what a step keeps or moves is so in every
+-- record. Assumes nothing.
+use mathlib.Core.Path.{_≡_, refl, sym, _∙_, ap}
+use mathlib.Core.Bool.{Bool, true, false}
+use mathlib.Core.Logic.{_⊎_, inl, inr, ⊎-elim}
+use mathlib.Core.List.{List, [], _∷_, _++_}
+use Prim.Native.Nat.{ℕ, zero, suc, _≤_, zero-le, suc-le-suc}
+use native.Mathlib.Omega.{arith}
+use lib.ListN.{length}
+use Rattle.solver.specs.Loop.{Ending, tested, limited, refused, Turn, goes, ends, Run, after, follow, run, byLimit, At, here, there, Linked}
+
+module _ {S R : Type 0} where
+  -- the records of w begin with those of v
+  abbrev pub Begins : Run S R → Run S R → Type 0
+  Begins w v = (rest : List R) × (w .records ≡ v .records ++ rest)
+
+  follow-begins : (long short : S → Run S R) → ((s : S) → Begins (long s) (short s)) → (t : Turn S R) → Begins (follow t long) (follow t short)
+  follow-begins long short ih (goes r s) = (ih s .0, ap (λ l. r ∷ l) (ih s .1))
+  follow-begins long short ih (ends e) = ([], refl)
+
+  follow-same : (long short : S → Run S R) → ((s : S) → byLimit (short s .ending) ≡ false → long s ≡ short s)
+      → (t : Turn S R) → byLimit (follow t short .ending) ≡ false → follow t long ≡ follow t short
+  follow-same long short ih (goes r s) h = rw (ih s h)
+  follow-same long short ih (ends e) h = refl
+
+  follow-steps : (n : ℕ) (rest : S → Run S R) → ((s : S) → length (rest s .records) ≤ n) → (t : Turn S R) → length (follow t rest .records) ≤ suc n
+  follow-steps n rest ih (goes r s) = suc-le-suc (ih s)
+  follow-steps n rest ih (ends e) = zero-le
+
+module _ {S R : Type 0} (next : S → Turn S R) where
+  -- the long run's records begin with all the short run's
+  pub begins : (n m : ℕ) → n ≤ m → (s : S) → Begins (run next m s) (run next n s)
+  unfolding run
+  begins zero m h s = (run next m s .records, refl)
+  begins (suc n) zero h s = absurd (omega arith)
+  begins (suc n) (suc m) h s = follow-begins (run next m) (run next n) (begins n m (omega arith)) (next s)
+
+  -- a short run that ends for any cause but its limit is the long run
+  pub same : (n m : ℕ) → n ≤ m → (s : S) → byLimit (run next n s .ending) ≡ false → run next m s ≡ run next n s
+  unfolding run
+  same zero m h s e = cc
+  same (suc n) zero h s e = absurd (omega arith)
+  same (suc n) (suc m) h s e = follow-same (run next m) (run next n) (same n m (omega arith)) (next s) e
+
+  pub steps : (n : ℕ) (s : S) → length (run next n s .records) ≤ n
+  unfolding run
+  steps zero s = zero-le
+  steps (suc n) s = follow-steps n (run next n) (steps n) (next s)
+
+  -- the records that the states lead to, one after another
+  pub data Trace : S → List R → Type 0 where
+    none : {s : S} → Trace s []
+    one : {s s′ : S} {r : R} {rs : List R} → next s ≡ goes r s′ → Trace s′ rs → Trace s (r ∷ rs)
+
+  follow-trace : (s : S) (rest : S → Run S R) → ((s′ : S) → Trace s′ (rest s′ .records)) → (t : Turn S R) → next s ≡ t → Trace s (follow t rest .records)
+  follow-trace s rest ih (goes r s′) e = one e (ih s′)
+  follow-trace s rest ih (ends x) e = none
+
+  pub trace : (n : ℕ) (s : S) → Trace s (run next n s .records)
+  unfolding run
+  trace zero s = none
+  trace (suc n) s = follow-trace s (run next n) (trace n) (next s) refl
+
+  -- what each state hands on to the next, and each step then says of its record, is so of every record
+  pub every : (held : S → Type 0) (says : R → Type 0) → ((s s′ : S) (r : R) → next s ≡ goes r s′ → held s → held s′ × says r)
+      → {s : S} {rs : List R} {i : ℕ} {r : R} → Trace s rs → held s → At rs i r → says r
+  every held says one-step (one {s} {s′} {r} e t) h here = one-step s s′ r e h .1
+  every held says one-step (one {s} {s′} {r} e t) h (there a) = every held says one-step t (one-step s s′ r e h .0) a
+
+  -- an end of the state, and the same end after the step in its record
+  module _ {A : Type 0} (end : S → A) (end′ : R → A) (kept : (s s′ : S) (r : R) → next s ≡ goes r s′ → end s′ ≡ end′ r) where
+    pub linked : (rel : A → A → Type 0) → ((s s′ : S) (r : R) → next s ≡ goes r s′ → rel (end s) (end′ r))
+        → {s : S} {rs : List R} → Trace s rs → Linked rel end′ (end s) rs
+    linked rel one-step none = tt
+    linked rel one-step (one {s} {s′} {r} {rs} e t) = (one-step s s′ r e, rw (← kept s s′ r e) (linked rel one-step t))
+
+    -- r's end is the starting end, or the place of a record q, that one or an earlier, that lies on the end's side
+    abbrev pub From : (R → A) → (R → Type 0) → S → List R → ℕ → R → Type 0
+    From place side s rs i r = (end′ r ≡ end s) ⊎ ((j : ℕ) × (q : R) × (j ≤ i) × At rs j q × (end′ r ≡ place q) × side q)
+
+    pub from : (place : R → A) (side : R → Type 0) → ((s s′ : S) (r : R) → next s ≡ goes r s′ → (end′ r ≡ end s) ⊎ ((end′ r ≡ place r) × side r))
+        → {s : S} {rs : List R} {i : ℕ} {r : R} → Trace s rs → At rs i r → From place side s rs i r
+    from place side moved (one {s} {s′} {r} e t) here = ⊎-elim inl (λ m. inr (0, r, zero-le, here, m .0, m .1)) (moved s s′ r e)
+    from place side moved (one {s} {s′} {r} e t) (there a) =
+        ⊎-elim
+        (λ p. ⊎-elim (λ m. inl (p ∙ kept s s′ r e ∙ m)) (λ m. inr (0, r, zero-le, here, p ∙ kept s s′ r e ∙ m .0, m .1)) (moved s s′ r e))
+        (λ f. inr (suc (f .0), f .1, suc-le-suc (f .2), there (f .3), f .4, f .5))
+        (from place side moved t a)

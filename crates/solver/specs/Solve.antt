@@ -1,0 +1,89 @@
+-- solve: `implied_volatility_from_a_transformed_rational_guess_with_limited_iterations` with document 01's refusals. Definitions only.
+use mathlib.Core.Bool.{Bool, true, false, cond}
+use mathlib.Core.List.{List, []}
+use Prim.Native.Nat.{ℕ, _*_}
+use lib.ListN.{length}
+use lib.Dec.{ltb}
+use lib.IntN.{ℤ, pos, negsuc}
+use lib.Ieee.{Float, binary64, lt, le}
+use Rattle.elementary.specs.Ops.{_⊖_, _⊗_, _⊘_, +0, MAX}
+use Rattle.elementary.specs.Methods.{maxOf}
+use Rattle.elementary.specs.Sqrt.{sqrtOf}
+use Rattle.elementary.specs.Ln.{lnOf}
+use Rattle.prices.specs.declared.inputs.OptionType.{OptionType}
+use Rattle.prices.specs.Inputs.{negated, times}
+use Rattle.prices.specs.Black.{isPositiveNormal, isFinite}
+use Rattle.prices.specs.RationalCubic.{MIN}
+use Rattle.solver.specs.declared.state.State.{State}
+use Rattle.solver.specs.declared.state.Record.{Record}
+use Rattle.solver.specs.declared.state.Stepped.{Stepped}
+use Rattle.solver.specs.declared.state.Solution.{Solution}
+use Rattle.solver.specs.declared.state.Solution.the-variants.{Solved, Refused}
+use Rattle.solver.specs.RuleSets.{RuleSet}
+use Rattle.solver.specs.Loop.{Ending, tested, limited, refused, Run, run}
+use Rattle.solver.specs.Step.{nextBy}
+use Rattle.solver.specs.Guess.{Begun, answered, stopped, looping, normalisedBegun}
+
+-- ---- before the loops
+
+-- a volatility over one unit of time, as one over the expiry
+abbrev pub overExpiry : Float → Begun → Begun
+overExpiry expiry (answered v) = answered (v ⊘ sqrtOf binary64 expiry)
+overExpiry expiry (stopped n) = stopped n
+overExpiry expiry (looping branch beta step st) = looping branch beta step st
+
+-- The two sentinels that are found before normalising are reported as they are; what is answered after it is divided by √expiry, an above-maximum sentinel too.
+unfoldable pub acceptedBegun : RuleSet → Float → Float → Float → Float → OptionType → Begun
+acceptedBegun rules price forward strike expiry kind =
+    let intrinsic = maxOf (times kind (forward ⊖ strike)) +0 in
+    let x = lnOf (forward ⊘ strike) in
+    let root = sqrtOf binary64 forward ⊗ sqrtOf binary64 strike in
+    let direct = overExpiry expiry (normalisedBegun (rules .elementary) (price ⊘ root) x kind) in
+    let mapped = overExpiry expiry (normalisedBegun (rules .elementary) (maxOf (price ⊖ intrinsic) +0 ⊘ root) x (negated kind)) in
+    let guessed = cond (lt +0 (times kind x)) mapped direct in
+    cond (lt price intrinsic) (answered MIN) (cond (le (rules .cap kind forward strike) price) (answered MAX) guessed)
+
+-- 1, 2, 3, 4 in this order, then 21 where the trail is too short
+unfoldable pub begunOf : RuleSet → Bool → Float → Float → Float → Float → OptionType → Begun
+begunOf rules short price forward strike expiry kind =
+    let accepted = acceptedBegun rules price forward strike expiry kind in
+    cond (isFinite price)
+    (cond (isPositiveNormal forward)
+    (cond (isPositiveNormal strike) (cond (isPositiveNormal expiry) (cond short (stopped 21) accepted) (stopped 4)) (stopped 3))
+    (stopped 2))
+    (stopped 1)
+
+-- ---- the run
+
+-- a run's records, and what it answers
+pub record Solving : Type 0 where
+  pub records : List Record
+  pub answer : Solution
+
+-- ending 1 step test, 2 limit; a number met inside the loop comes with the completed steps
+abbrev pub answerOf : ℕ → Float → Ending State → ℕ → Solution
+answerOf branch root (tested st) steps = Solved (st .s ⊘ root) branch 1 steps
+answerOf branch root (limited st) steps = Solved (st .s ⊘ root) branch 2 steps
+answerOf branch root (refused n) steps = Refused n steps
+
+abbrev pub ran : ℕ → Float → Run State Record → Solving
+ran branch root w = record { records = w .records; answer = answerOf branch root (w .ending) (length (w .records)) }
+
+-- with a limit of n steps
+unfoldable pub solvingOf : Begun → Float → ℕ → Solving
+solvingOf (answered v) expiry n = record { records = []; answer = Solved v 0 0 0 }
+solvingOf (stopped k) expiry n = record { records = []; answer = Refused k 0 }
+solvingOf (looping branch beta step st) expiry n = ran branch (sqrtOf binary64 expiry) (run (nextBy step) n st)
+
+-- solve with no trail; n is max(limit, 0)
+unfoldable pub solveOf : RuleSet → Float → Float → Float → Float → OptionType → ℕ → Solving
+solveOf rules price forward strike expiry kind n = solvingOf (begunOf rules false price forward strike expiry kind) expiry n
+
+-- solve with a trail of so many bytes
+unfoldable pub solveWithTrail : RuleSet → Float → Float → Float → Float → OptionType → ℕ → ℕ → Solving
+solveWithTrail rules price forward strike expiry kind n bytes = solvingOf (begunOf rules (ltb bytes (48 * n)) price forward strike expiry kind) expiry n
+
+-- max(limit, 0)
+abbrev pub stepsOf : ℤ → ℕ
+stepsOf (pos n) = n
+stepsOf (negsuc n) = 0

@@ -1,0 +1,141 @@
+-- The three steps of so_rational.rs, operation by operation. Definitions only.
+use mathlib.Core.Bool.{Bool, true, false, cond, _&&_, _||_}
+use lib.Ieee.{Float, neg, lt, le}
+use Rattle.elementary.specs.Ops.{_⊕_, _⊖_, _⊗_, _⊘_, bits, whole, +0, half, one, two}
+use Rattle.elementary.specs.Rules.{Rules}
+use Rattle.elementary.specs.Methods.{absOf, maxOf, squareOf}
+use Rattle.elementary.specs.Ln.{lnOf}
+use Rattle.prices.specs.declared.answer.Answer.{Answer}
+use Rattle.prices.specs.declared.answer.Answer.the-variants.{Value, Refused as Number}
+use Rattle.prices.specs.Vega.{vegaOf}
+use Rattle.prices.specs.Black.{callOf}
+use Rattle.prices.specs.RationalCubic.{EPSILON, MIN}
+use Rattle.solver.specs.declared.state.State.{State}
+use Rattle.solver.specs.declared.state.Record.{Record}
+use Rattle.solver.specs.declared.state.Stepped.{Stepped}
+use Rattle.solver.specs.declared.state.Stepped.the-variants.{Went, Refused}
+use Rattle.solver.specs.Loop.{Turn, goes, ends, tested, refused}
+
+-- 0.25
+abbrev pub quarter : Float
+quarter = bits 0x3fd0_0000_0000_0000
+
+unfoldable pub householderFactor : Float → Float → Float → Float
+householderFactor newton halley hh3 = (one ⊕ half ⊗ halley ⊗ newton) ⊘ (one ⊕ newton ⊗ (halley ⊕ hh3 ⊗ newton ⊘ whole 6))
+
+-- ---- the bracket
+
+pub record Ends : Type 0 where
+  pub left : Float
+  pub right : Float
+
+-- The move after a price b at s: the right end becomes s where b lies above the target and s below that end; else the left end, where b lies below and s above it.
+abbrev pub endsAfter : Float → Float → Float → Float → Float → Ends
+endsAfter b beta s left right =
+    cond (lt beta b && lt s right) (record { left = left; right = s })
+    (cond (lt b beta && lt left s) (record { left = s; right = right })
+    (record { left = left; right = right }))
+
+-- the middle of the bracket, as a step from s
+abbrev pub toMiddle : Ends → Float → Float
+toMiddle bracket s = half ⊗ (bracket .left ⊕ bracket .right) ⊖ s
+
+-- ---- ds of each loop
+
+-- (x / s)² / s − s / 4, and the third-order term that goes with it
+abbrev pub halleyOf : Float → Float → Float
+halleyOf x s = squareOf (x ⊘ s) ⊘ s ⊖ s ⊘ whole 4
+
+abbrev pub hh3Of : Float → Float → Float → Float
+hh3Of halley x s = halley ⊗ halley ⊖ whole 3 ⊗ squareOf (x ⊘ (s ⊗ s)) ⊖ quarter
+
+-- the lower loop, in ln b
+unfoldable pub lowerDs : Float → Float → Float → Float → Float → Ends → Float
+lowerDs x beta s b bp bracket =
+    let ln-b = lnOf b in
+    let ln-beta = lnOf beta in
+    let bpob = bp ⊘ b in
+    let h = x ⊘ s in
+    let b-halley = h ⊗ h ⊘ s ⊖ s ⊘ whole 4 in
+    let newton = (ln-beta ⊖ ln-b) ⊗ ln-b ⊘ ln-beta ⊘ bpob in
+    let halley = b-halley ⊖ bpob ⊗ (one ⊕ two ⊘ ln-b) in
+    let b-hh3 = b-halley ⊗ b-halley ⊖ whole 3 ⊗ squareOf (h ⊘ s) ⊖ quarter in
+    let hh3 = b-hh3 ⊕ two ⊗ squareOf bpob ⊗ (one ⊕ whole 3 ⊘ ln-b ⊗ (one ⊕ one ⊘ ln-b)) ⊖ whole 3 ⊗ b-halley ⊗ bpob ⊗ (one ⊕ two ⊘ ln-b) in
+    let ds = newton ⊗ householderFactor newton halley hh3 in
+    let middle = toMiddle bracket s in
+    cond (le b +0 || le bp +0) middle ds
+
+-- the upper loop, in ln of what is left to the cap
+unfoldable pub upperDs : Float → Float → Float → Float → Float → Float → Ends → Float
+upperDs b-max x beta s b bp bracket =
+    let b-max-minus-b = b-max ⊖ b in
+    let g = lnOf ((b-max ⊖ beta) ⊘ b-max-minus-b) in
+    let gp = bp ⊘ b-max-minus-b in
+    let b-halley = halleyOf x s in
+    let b-hh3 = hh3Of b-halley x s in
+    let newton = neg g ⊘ gp in
+    let halley = b-halley ⊕ gp in
+    let hh3 = b-hh3 ⊕ gp ⊗ (two ⊗ gp ⊕ whole 3 ⊗ b-halley) in
+    let ds = newton ⊗ householderFactor newton halley hh3 in
+    let middle = toMiddle bracket s in
+    cond (le b-max b || le bp MIN) middle ds
+
+-- The general loop. Here the half-step's max binds to the factor alone, so that s may fall below its half.
+unfoldable pub generalDs : Float → Float → Float → Float → Float → Ends → Float
+generalDs x beta s b bp bracket =
+    let newton = (beta ⊖ b) ⊘ bp in
+    let halley = halleyOf x s in
+    let hh3 = hh3Of halley x s in
+    newton ⊗ maxOf (householderFactor newton halley hh3) (neg half ⊗ s)
+
+-- ---- s after a step
+
+-- lower and upper loop: not below half of s
+abbrev pub halved : Float → Float → Float
+halved s ds = s ⊕ maxOf ds (neg half ⊗ s)
+
+abbrev pub plain : Float → Float → Float
+plain s ds = s ⊕ ds
+
+-- ---- a step
+
+-- the state after a step and its record, from the price b and the vega at s
+abbrev pub wentOf : (Float → Float → Float → Ends → Float) → (Float → Float → Float) → Float → State → Float → Float → Stepped
+wentOf dsOf afterOf beta st b vega =
+    let s = st .s in
+    let bracket = endsAfter b beta s (st .left) (st .right) in
+    let ds = dsOf s b vega bracket in
+    let after = afterOf s ds in
+    Went (record { s = after; ds = ds; previous = st .ds; left = bracket .left; right = bracket .right })
+    (record { s = s; b = b; vega = vega; left = bracket .left; right = bracket .right; after = after })
+
+-- the price at s may be refused
+abbrev pub withPrice : Answer → (Float → Stepped) → Stepped
+withPrice (Value b) f = f b
+withPrice (Number n) f = Refused n
+
+abbrev pub stepBy : (Float → Float → Float → Ends → Float) → (Float → Float → Float) → Rules → Float → Float → State → Stepped
+stepBy dsOf afterOf rules x beta st = withPrice (callOf rules x (st .s)) (λ b. wentOf dsOf afterOf beta st b (vegaOf x (st .s)))
+
+unfoldable pub lowerStep : Rules → Float → Float → State → Stepped
+lowerStep rules x beta st = stepBy (lowerDs x beta) halved rules x beta st
+
+unfoldable pub upperStep : Rules → Float → Float → Float → State → Stepped
+upperStep rules b-max x beta st = stepBy (upperDs b-max x beta) halved rules x beta st
+
+unfoldable pub generalStep : Rules → Float → Float → State → Stepped
+generalStep rules x beta st = stepBy (generalDs x beta) plain rules x beta st
+
+-- ---- what a state leads to
+
+-- the step test: |ds| ≤ f64::EPSILON × s
+unfoldable pub isClose : State → Bool
+isClose st = le (absOf (st .ds)) (EPSILON ⊗ st .s)
+
+abbrev pub turnOf : Stepped → Turn State Record
+turnOf (Went st r) = goes r st
+turnOf (Refused n) = ends (refused n)
+
+-- The test comes before the step. `iterations` stays 0 in the Rust, so its bisection after three reversals is never taken.
+abbrev pub nextBy : (State → Stepped) → State → Turn State Record
+nextBy step st = let turn = turnOf (step st) in cond (isClose st) (ends (tested st)) turn

@@ -1,0 +1,33 @@
+// What the loops carry and what solve answers.
+
+// A loop's state: document 01's five floats.
+pub struct State {
+    pub s: f64,
+    pub ds: f64,
+    pub previous: f64,
+    pub left: f64,
+    pub right: f64,
+}
+
+// What the trail keeps of a completed step: s, the computed price b, vega, the bracket's ends after
+// the move, and s after the step.
+pub struct Record {
+    pub s: f64,
+    pub b: f64,
+    pub vega: f64,
+    pub left: f64,
+    pub right: f64,
+    pub after: f64,
+}
+
+// A step leads on, or meets 7.
+pub enum Stepped {
+    Went(State, Record),
+    Refused(u8),
+}
+
+// What solve answers: volatility, branch, ending and steps, or the number and the completed steps.
+pub enum Solution {
+    Solved(f64, u8, u8, u32),
+    Refused(u8, u32),
+}
