@@ -461,7 +461,7 @@ abs-side {x = nan} h = absurd (h .side .sized)
 abs-side {x = inf t} h = absurd (h .side .sized)
 abs-side {x = fin t m e} h = record { sized = (refl, h .side .sized .1) }
 
-abs-fits : (x : Float) → T (fits binary64 x) → T (fits binary64 (absOf x))
+pub abs-fits : (x : Float) → T (fits binary64 x) → T (fits binary64 (absOf x))
 unfolding absOf fits
 abs-fits nan f = tt
 abs-fits (inf t) f = tt

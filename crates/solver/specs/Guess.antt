@@ -89,7 +89,7 @@ lowerMap rules x s =
 
 -- ---- the first s of each branch: a value, or 6 from the cubic
 
-abbrev pub onValue : Answer → (Float → Float) → Answer
+unfoldable pub onValue : Answer → (Float → Float) → Answer
 onValue (Value f) g = Value (g f)
 onValue (Number n) g = Number n
 
@@ -130,7 +130,7 @@ pub data Begun : Type 0 where
   -- the branch, the target, the loop's step and the state before the first one
   looping : ℕ → Float → (State → Stepped) → State → Begun
 
-abbrev pub withValue : Answer → (Float → Begun) → Begun
+unfoldable pub withValue : Answer → (Float → Begun) → Begun
 withValue (Value b) f = f b
 withValue (Number n) f = stopped n
 

@@ -7,4 +7,8 @@ pub mod Solve
 pub mod Trail
 -- Theorems about the definitions.
 pub mod Runs
+pub mod Bracket
+pub mod Half
+pub mod Forms
+pub mod Promises
 pub mod Table

@@ -99,15 +99,19 @@ plain s ds = s ⊕ ds
 
 -- ---- a step
 
--- the state after a step and its record, from the price b and the vega at s
-abbrev pub wentOf : (Float → Float → Float → Ends → Float) → (Float → Float → Float) → Float → State → Float → Float → Stepped
-wentOf dsOf afterOf beta st b vega =
-    let s = st .s in
-    let bracket = endsAfter b beta s (st .left) (st .right) in
-    let ds = dsOf s b vega bracket in
-    let after = afterOf s ds in
-    Went (record { s = after; ds = ds; previous = st .ds; left = bracket .left; right = bracket .right })
-    (record { s = s; b = b; vega = vega; left = bracket .left; right = bracket .right; after = after })
+-- from the price b and the vega at s: the bracket, ds, the record, and the state after
+module _ (dsOf : Float → Float → Float → Ends → Float) (afterOf : Float → Float → Float) (beta : Float) (st : State) (b vega : Float) where
+  abbrev pub bracketOf : Ends
+  bracketOf = endsAfter b beta (st .s) (st .left) (st .right)
+
+  abbrev pub dsAt : Float
+  dsAt = dsOf (st .s) b vega bracketOf
+
+  abbrev pub recordOf : Record
+  recordOf = record { s = st .s; b = b; vega = vega; left = bracketOf .left; right = bracketOf .right; after = afterOf (st .s) dsAt }
+
+  abbrev pub stateAfter : State
+  stateAfter = record { s = afterOf (st .s) dsAt; ds = dsAt; previous = st .ds; left = bracketOf .left; right = bracketOf .right }
 
 -- the price at s may be refused
 abbrev pub withPrice : Answer → (Float → Stepped) → Stepped
@@ -115,7 +119,7 @@ withPrice (Value b) f = f b
 withPrice (Number n) f = Refused n
 
 abbrev pub stepBy : (Float → Float → Float → Ends → Float) → (Float → Float → Float) → Rules → Float → Float → State → Stepped
-stepBy dsOf afterOf rules x beta st = withPrice (callOf rules x (st .s)) (λ b. wentOf dsOf afterOf beta st b (vegaOf x (st .s)))
+stepBy dsOf afterOf rules x beta st = withPrice (callOf rules x (st .s)) (λ b. Went (stateAfter dsOf afterOf beta st b (vegaOf x (st .s))) (recordOf dsOf afterOf beta st b (vegaOf x (st .s))))
 
 unfoldable pub lowerStep : Rules → Float → Float → State → Stepped
 lowerStep rules x beta st = stepBy (lowerDs x beta) halved rules x beta st
