@@ -5,6 +5,8 @@ pub mod Step
 pub mod Guess
 pub mod Solve
 pub mod Trail
+pub mod Book
+pub mod Listing
 -- Theorems about the definitions.
 pub mod Runs
 pub mod Bracket

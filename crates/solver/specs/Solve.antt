@@ -1,7 +1,7 @@
 -- solve: `implied_volatility_from_a_transformed_rational_guess_with_limited_iterations` with document 01's refusals. Definitions only.
 use mathlib.Core.Bool.{Bool, true, false, cond}
 use mathlib.Core.List.{List, []}
-use Prim.Native.Nat.{ℕ, _*_}
+use Prim.Native.Nat.{ℕ, suc, _-_, _*_}
 use lib.ListN.{length}
 use lib.Dec.{ltb}
 use lib.IntN.{ℤ, pos, negsuc}

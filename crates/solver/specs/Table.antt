@@ -1,8 +1,11 @@
 -- Document 01's twelve table rows, computed by antt from the definitions. Assumes nothing.
 use mathlib.Core.Bool.{Bool, false, or-true}
 use mathlib.Core.Path.{_≡_, refl}
+use mathlib.Core.List.{List, [], _∷_}
 use Prim.Native.Nat.{ℕ}
-use lib.Ieee.{Float, inf, add, sub, mul, div, neg, ofBits, ofInt, toSigned, round, units, size, lt, le, eq, ne}
+use lib.IntN.{pos}
+use lib.ListN.{replicate}
+use lib.Ieee.{Float, inf, add, sub, mul, div, neg, ofBits, toBits, ofInt, toSigned, round, units, size, lt, le, eq, ne}
 use Rattle.elementary.specs.Ops.{bits, +0, one, two, MAX}
 use Rattle.elementary.specs.Rules.{rules-0}
 use Rattle.elementary.specs.Methods.{absOf, maxOf}
@@ -20,6 +23,8 @@ use Rattle.solver.specs.declared.state.Solution.{Solution}
 use Rattle.solver.specs.declared.state.Solution.the-variants.{Solved, Refused as Stopped}
 use Rattle.solver.specs.RuleSets.{rule-set-0}
 use Rattle.solver.specs.Guess.{normalisedBegun, mappedBegun}
+use Rattle.solver.specs.Book.{filedBytes, resolved}
+use Rattle.solver.specs.Listing.{decimalBy, hexBy, lineOf}
 use Rattle.solver.specs.Solve.{acceptedBegun, begunOf, solvingOf, solveOf, solveWithTrail}
 
 abbrev f0 : ℕ
@@ -57,6 +62,10 @@ solved price forward strike expiry kind = solveOf rule-set-0 (bits price) (bits 
 abbrev withTrail : ℕ → Solution
 withTrail bytes = solveWithTrail rule-set-0 (bits f150) (bits f100) (bits f200) (bits f4) Call 2 bytes .answer
 
+-- the line of a record with the other fields 0
+abbrev listed : ℕ → ℕ → ℕ → ℕ → ℕ → List ℕ
+listed i price forward strike expiry = lineOf rule-set-0 i (filedBytes (bits price) (bits forward) (bits strike) (bits expiry) Call (pos 2) +0 0 0 0)
+
 pub record Rows : Type 0 where
   -- Call 150/100/200/4: half of f64::MAX, the sentinel divided by √expiry
   pub P1 : solved f150 f100 f200 f4 Call ≡ Solved (bits 0x7fdf_ffff_ffff_ffff) 0 0 0
@@ -83,9 +92,15 @@ pub record Rows : Type 0 where
   -- as P1 with 95 trail bytes: 21; with 96 it isn't given
   pub P12 : withTrail 95 ≡ Stopped 21 0
   pub P12-enough : withTrail 96 ≡ Solved (bits 0x7fdf_ffff_ffff_ffff) 0 0 0
+  -- the lines of P1 to P3: "0 7FDFFFFFFFFFFFFF 0 0 0", "1 FFEFFFFFFFFFFFFF 0 0 0", "2 0000000000000000 0 0 0"
+  pub line-0 : listed 0 f150 f100 f200 f4 ≡ 48 ∷ 32 ∷ 55 ∷ 70 ∷ 68 ∷ 70 ∷ 70 ∷ 70 ∷ 70 ∷ 70 ∷ 70 ∷ 70 ∷ 70 ∷ 70 ∷ 70 ∷ 70 ∷ 70 ∷ 70 ∷ 32 ∷ 48 ∷ 32 ∷ 48 ∷ 32 ∷ 48 ∷ 10 ∷ []
+  pub line-1 : listed 1 f99 f200 f100 f1 ≡ 49 ∷ 32 ∷ 70 ∷ 70 ∷ 69 ∷ 70 ∷ 70 ∷ 70 ∷ 70 ∷ 70 ∷ 70 ∷ 70 ∷ 70 ∷ 70 ∷ 70 ∷ 70 ∷ 70 ∷ 70 ∷ 32 ∷ 48 ∷ 32 ∷ 48 ∷ 32 ∷ 48 ∷ 10 ∷ []
+  pub line-2 : listed 2 f0 f100 f200 f1 ≡ 50 ∷ 32 ∷ 48 ∷ 48 ∷ 48 ∷ 48 ∷ 48 ∷ 48 ∷ 48 ∷ 48 ∷ 48 ∷ 48 ∷ 48 ∷ 48 ∷ 48 ∷ 48 ∷ 48 ∷ 48 ∷ 32 ∷ 48 ∷ 32 ∷ 48 ∷ 32 ∷ 48 ∷ 10 ∷ []
+  -- 63 bytes: "3 REF 23"
+  pub part-line : lineOf rule-set-0 3 (replicate 63 0) ≡ 51 ∷ 32 ∷ 82 ∷ 69 ∷ 70 ∷ 32 ∷ 50 ∷ 51 ∷ 10 ∷ []
 
 pub rows : Rows
-unfolding solveOf solveWithTrail solvingOf begunOf acceptedBegun normalisedBegun mappedBegun erfcOf erfcxOf interpolationOf asymptoticOf sqrtOf roundRoot isqrt rootBy inUnits lnOf lnInner lnAt lnSum placeOf significandOf expOf expInner expSum scaled floorOf maxOf absOf add sub mul div neg ofBits ofInt toSigned round units size lt le eq ne
+unfolding lineOf resolved filedBytes decimalBy hexBy toBits solveOf solveWithTrail solvingOf begunOf acceptedBegun normalisedBegun mappedBegun erfcOf erfcxOf interpolationOf asymptoticOf sqrtOf roundRoot isqrt rootBy inUnits lnOf lnInner lnAt lnSum placeOf significandOf expOf expInner expSum scaled floorOf maxOf absOf add sub mul div neg ofBits ofInt toSigned round units size lt le eq ne
 rows = record {
   P1 = refl;
   P2 = refl;
@@ -100,4 +115,8 @@ rows = record {
   P11 = λ t. refl;
   P12 = refl;
   P12-enough = refl;
+  line-0 = refl;
+  line-1 = refl;
+  line-2 = refl;
+  part-line = refl;
 }

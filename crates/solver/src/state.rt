@@ -31,3 +31,16 @@ pub enum Solution {
     Solved(f64, u8, u8, u32),
     Refused(u8, u32),
 }
+
+// What filing answers: the used count after it, or a number and the completed steps.
+pub enum Filing {
+    Filed(u64),
+    Refused(u8, u32),
+}
+
+// What a recheck answers.
+pub enum Checking {
+    Agrees,
+    Differs,
+    Refused(u8, u32),
+}

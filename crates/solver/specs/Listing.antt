@@ -1,0 +1,45 @@
+-- A line of `relist`, byte by byte. Definitions only.
+use mathlib.Core.Bool.{Bool, true, false, cond}
+use mathlib.Core.List.{List, [], _∷_, _++_}
+use Prim.Native.Nat.{ℕ, zero, suc, _+_, _*_, _/_, _%_}
+use lib.Dec.{ltb}
+use lib.ListN.{length}
+use lib.Ieee.{binary64, toBits}
+use Rattle.solver.specs.declared.state.Solution.{Solution}
+use Rattle.solver.specs.declared.state.Solution.the-variants.{Solved, Refused}
+use Rattle.solver.specs.RuleSets.{RuleSet}
+use Rattle.solver.specs.Book.{resolved}
+
+-- a number in decimal, for one of at most k digits
+unfoldable pub decimalBy : ℕ → ℕ → List ℕ
+decimalBy zero n = []
+decimalBy (suc k) n = let above = decimalBy k (n / 10) in cond (ltb n 10) ((48 + n) ∷ []) (above ++ ((48 + n % 10) ∷ []))
+
+-- every count here is below 2^64, which has 20 digits
+abbrev pub decimal : ℕ → List ℕ
+decimal n = decimalBy 20 n
+
+-- a hexadecimal digit: 0 to 9, A to F
+abbrev pub hexDigit : ℕ → ℕ
+hexDigit d = cond (ltb d 10) (48 + d) (55 + d)
+
+-- the last k hexadecimal digits of a number
+unfoldable pub hexBy : ℕ → ℕ → List ℕ
+hexBy zero n = []
+hexBy (suc k) n = hexBy k (n / 16) ++ (hexDigit (n % 16) ∷ [])
+
+-- a space and a decimal count
+abbrev pub spaced : ℕ → List ℕ
+spaced n = 32 ∷ decimal n
+
+-- after the record number: the volatility's bits, steps, branch and ending, or "REF" and the refusal
+abbrev pub told : Solution → List ℕ
+told (Solved volatility branch ending steps) = 32 ∷ hexBy 16 (toBits binary64 volatility) ++ spaced steps ++ spaced branch ++ spaced ending
+told (Refused n steps) = 32 ∷ 82 ∷ 69 ∷ 70 ∷ spaced n
+
+-- the line of record i; a last part under 64 bytes gives REF 23
+unfoldable pub lineOf : RuleSet → ℕ → List ℕ → List ℕ
+lineOf rules i bytes =
+    let again = resolved rules bytes in
+    let answer = cond (ltb (length bytes) 64) (Refused 23 0) again in
+    decimal i ++ told answer ++ (10 ∷ [])
