@@ -5,3 +5,5 @@ pub mod Intrinsic
 pub mod Vega
 pub mod Black
 pub mod RationalCubic
+-- Theorems about the definitions.
+pub mod Refusals

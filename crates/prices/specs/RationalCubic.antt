@@ -1,7 +1,7 @@
 -- rational_cubic.rs, operation by operation. Definitions only.
 use mathlib.Core.Bool.{Bool, true, false, not, cond, _&&_, _||_}
-use lib.Ieee.{Float, binary64, neg, lt, le, eq, inf}
-use Rattle.elementary.specs.Ops.{_⊕_, _⊖_, _⊗_, _⊘_, bits, whole, +0, half, one, MAX}
+use lib.Ieee.{Float, lt, le, eq, inf}
+use Rattle.elementary.specs.Ops.{_⊕_, _⊖_, _⊗_, _⊘_, bits, whole, +0, half, one}
 use Rattle.elementary.specs.Methods.{absOf, maxOf, isZero}
 use Rattle.prices.specs.declared.rational_cubic.Side.{Side}
 use Rattle.prices.specs.declared.rational_cubic.Side.the-variants.{Left, Right}
@@ -20,7 +20,7 @@ abbrev pub EPSILON : Float
 EPSILON = bits 0x3cb0_0000_0000_0000
 
 abbrev pub MIN : Float
-MIN = neg MAX
+MIN = bits 0xffef_ffff_ffff_ffff
 
 abbrev pub isInfinite : Float → Bool
 isInfinite x = eq (absOf x) (inf false)

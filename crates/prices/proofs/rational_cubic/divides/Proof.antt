@@ -1,0 +1,22 @@
+-- `rational_cubic::divides` meets its contract: each way out is the arm that the tests before it leave. Assumes nothing.
+use borrow.Author.Needs.{needs}
+use Rattle.prices.proofs.rational_cubic.divides.Statement.{statement}
+use Rattle.prices.proofs.rational_cubic.divides.Tie as tie
+
+is-zero-requires : tie.Need-is-zero-requires
+is-zero-requires c κs = search needs
+
+returns : tie.Need-returns
+returns c = rw (c .before .before .if1 .taken, rw (c .before .is-zero .ensures) at (c .if2 .taken))
+
+is-zero-requires-2 : tie.Need-is-zero-requires-2
+is-zero-requires-2 c κs = search needs
+
+returns-2 : tie.Need-returns-2
+returns-2 c = rw (c .is-zero2 .ensures, c .before .before .before .if1 .taken, rw (c .before .before .is-zero .ensures) at (c .before .if2 .left))
+
+returns-3 : tie.Need-returns-3
+returns-3 c = search needs
+
+pub divides-spec : {M : Type 1} → statement M
+divides-spec = tie.close (tie.spec is-zero-requires returns is-zero-requires-2 returns-2 returns-3)

@@ -1,0 +1,41 @@
+-- `rational_cubic::shape_parameter` meets its contract: each way out is the arm that the tests before it leave. Assumes nothing.
+use borrow.Author.Needs.{needs}
+use Rattle.prices.proofs.rational_cubic.shape_parameter.Statement.{statement}
+use Rattle.prices.proofs.rational_cubic.shape_parameter.Tie as tie
+
+divides-requires : tie.Need-divides-requires
+divides-requires c κs = search needs
+
+abs-requires : tie.Need-abs-requires
+abs-requires c κs = search needs
+
+abs-requires-2 : tie.Need-abs-requires-2
+abs-requires-2 c κs = search needs
+
+max-requires : tie.Need-max-requires
+max-requires c κs = search needs
+
+returns : tie.Need-returns
+returns c = rw (c .max .ensures, c .before .abs2 .ensures, c .before .before .abs .ensures, rw (c .before .before .before .before .divides .ensures) at (c .before .before .before .if1 .taken))
+
+returns-2 : tie.Need-returns-2
+returns-2 c = rw (rw (c .before .before .before .divides .ensures) at (c .before .before .if1 .left), c .before .if2 .taken, c .if3 .taken)
+
+returns-3 : tie.Need-returns-3
+returns-3 c = rw (rw (c .before .before .before .divides .ensures) at (c .before .before .if1 .left), c .before .if2 .taken, c .if3 .left)
+
+returns-4 : tie.Need-returns-4
+returns-4 c = rw (rw (c .before .before .divides .ensures) at (c .before .if1 .left), c .if2 .left)
+
+pub shape-parameter-spec : {M : Type 1} → statement M
+shape-parameter-spec =
+    tie.close
+    (tie.spec
+    divides-requires
+    abs-requires
+    abs-requires-2
+    max-requires
+    returns
+    returns-2
+    returns-3
+    returns-4)
