@@ -6,4 +6,5 @@ pub mod cody;
 pub mod functions;
 pub mod intrinsic;
 pub mod normal_distribution;
+pub mod rational_cubic;
 pub mod vega;

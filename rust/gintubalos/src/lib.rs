@@ -21,7 +21,7 @@ pub enum Side {
 }
 
 /// What an argument crosses as: a float as its bits, all else as a byte.
-trait Crosses {
+pub trait Crosses {
     type Plain;
     fn plain(self) -> Self::Plain;
 }
@@ -63,7 +63,7 @@ macro_rules! functions {
         /// The functions on the bits of floats and on bytes, as the archive has them. An answer is the value's bits, a
         /// NaN's where it is refused, and document 01's number, 0 where it isn't. A kind is 1 or 2, and refused with 24
         /// where it is neither; a side is Left at 0, a choice false at 0.
-        #[allow(clippy::too_many_arguments, private_interfaces)]
+        #[allow(clippy::too_many_arguments)]
         pub mod bits {
             use super::{Crosses, OptionType, Side};
             // SAFETY, for each: the function takes and returns numbers, writes to `number` alone, has no requires, and
@@ -123,6 +123,13 @@ functions! {
         normalised_black_call_using_erfcx = gintubalos_normalised_black_call_using_erfcx(h: f64, t: f64);
         normalised_black_call_with_optimal_use_of_codys_functions =
             gintubalos_normalised_black_call_with_optimal_use_of_codys_functions(x: f64, s: f64);
+        minimum_rational_cubic_control_parameter = gintubalos_minimum_rational_cubic_control_parameter(
+            d_l: f64, d_r: f64, s: f64, prefer_shape_preservation_over_smoothness: bool);
+        rational_cubic_control_parameter = gintubalos_rational_cubic_control_parameter(
+            x_l: f64, x_r: f64, y_l: f64, y_r: f64, d_l: f64, d_r: f64, second_derivative: f64, side: Side);
+        convex_rational_cubic_control_parameter = gintubalos_convex_rational_cubic_control_parameter(
+            x_l: f64, x_r: f64, y_l: f64, y_r: f64, d_l: f64, d_r: f64, second_derivative: f64,
+            prefer_shape_preservation_over_smoothness: bool, side: Side);
     }
     answers {
         normalised_intrinsic = gintubalos_normalised_intrinsic(x: f64, option_type: OptionType);
@@ -132,6 +139,8 @@ functions! {
             gintubalos_asymptotic_expansion_of_normalised_black_call(h: f64, t: f64);
         normalised_black_call = gintubalos_normalised_black_call(x: f64, s: f64);
         normalised_black = gintubalos_normalised_black(x: f64, s: f64, option_type: OptionType);
+        rational_cubic_interpolation = gintubalos_rational_cubic_interpolation(
+            x: f64, x_l: f64, x_r: f64, y_l: f64, y_r: f64, d_l: f64, d_r: f64, r: f64);
         black = gintubalos_black(forward: f64, strike: f64, sigma: f64, expiry: f64, option_type: OptionType);
     }
     numbers {
