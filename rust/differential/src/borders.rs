@@ -3,7 +3,7 @@
 use crate::{
     edges::{edges, moved, POINTS, PRICE_POINTS},
     inputs::{wide, Arguments},
-    sevens::SEVENS,
+    sevens,
 };
 use reference::elementary::ln;
 use std::f64::consts::SQRT_2;
@@ -39,18 +39,20 @@ pub const VOLATILITY: [Border; 5] = [
     |x| CODY - (CODY * CODY - 2.0 * x).max(0.0).sqrt(),
 ];
 
-/// The kinds' bytes, and some that are none.
-const KINDS: [u64; 5] = [1, 2, 0, 3, 255];
+/// The kinds' bytes, and one that is none.
+const KINDS: [u64; 3] = [1, 2, 0];
 
-/// Each argument's values, which are compared in all combinations, and further inputs.
+/// Each argument's values, which are compared in all combinations; inputs on borders; and those that stand in the list of
+/// samples, too.
 pub struct Edges {
     pub combined: Vec<Vec<u64>>,
     pub further: Vec<Arguments>,
+    pub kept: Vec<Arguments>,
 }
 
 impl Edges {
     pub fn combined(combined: Vec<Vec<u64>>) -> Edges {
-        Edges { combined, further: Vec::new() }
+        Edges { combined, further: Vec::new(), kept: Vec::new() }
     }
 }
 
@@ -82,13 +84,16 @@ fn on_borders_of_money() -> Vec<[u64; 2]> {
 
 pub fn money() -> Edges {
     let values = edges(&PRICE_POINTS, 1);
-    Edges { combined: vec![values; 2], further: on_borders_of_money().into_iter().map(wide).collect() }
+    let further = on_borders_of_money().into_iter().map(wide).collect();
+    Edges { combined: vec![values; 2], further, kept: sevens::MONEY.map(wide).to_vec() }
 }
 
 pub fn money_and_kind() -> Edges {
     let values = edges(&PRICE_POINTS, 1);
     let further = on_borders_of_money().into_iter().flat_map(|[x, s]| [wide([x, s, 1]), wide([x, s, 2])]);
-    Edges { combined: vec![values.clone(), values, KINDS.to_vec()], further: further.collect() }
+    let kept = sevens::MONEY.into_iter().flat_map(|[x, s]| [wide([x, s, 1]), wide([x, s, 2])]);
+    let combined = vec![values.clone(), values, KINDS.to_vec()];
+    Edges { combined, further: further.collect(), kept: kept.collect() }
 }
 
 pub fn expansion() -> Edges {
@@ -100,7 +105,8 @@ pub fn expansion() -> Edges {
         }
         beside(-10.0, size, &mut all);
     }
-    Edges { combined: vec![edges(&PRICE_POINTS, 1); 2], further: all.into_iter().map(wide).collect() }
+    let further = all.into_iter().map(wide).collect();
+    Edges { combined: vec![edges(&PRICE_POINTS, 1); 2], further, kept: Vec::new() }
 }
 
 pub fn intrinsic() -> Edges {
@@ -119,11 +125,30 @@ fn prices() -> Vec<u64> {
     usual.into_iter().chain([least, largest]).chain(refused).collect()
 }
 
+/// Refusals in their order: the first input has all four causes, each further one a cause less, the last none.
+fn in_order() -> Vec<[u64; 5]> {
+    let refused = [0, f64::INFINITY.to_bits(), 0x7FF8 << 48, 1];
+    let usual = [100.0, 101.0, 0.25, 0.5].map(f64::to_bits);
+    // Document 01's order is forward, strike, sigma, expiry.
+    let market = |causes| {
+        std::array::from_fn(|i| {
+            if i == 4 {
+                2
+            } else if i < causes {
+                usual[i]
+            } else {
+                refused[i]
+            }
+        })
+    };
+    (0..=4).map(market).collect()
+}
+
 pub fn market() -> Edges {
     let largest = f64::MAX.to_bits();
     let mut sigmas: Vec<u64> = [0.0, 1e-300, 0.01, 0.3, 5.0, f64::MAX].map(f64::to_bits).to_vec();
     sigmas.extend([1 << 63, 1, 0xBFE0 << 48, largest | 1 << 63, largest + 1, 0xFFF0 << 48, 0x7FF8 << 48]);
-    let mut further = SEVENS.map(wide).to_vec();
+    let mut further = Vec::new();
     for (forward, strike) in [(100.0, 100.5), (100.0, 80.0), (1.0, 4000.0), (7.0, 1e9), (3e-5, 2e-9), (1e300, 1e-3)] {
         for expiry in [1.0, 0.25, 0.1, 17.0] {
             for border in VOLATILITY {
@@ -136,7 +161,8 @@ pub fn market() -> Edges {
             }
         }
     }
-    Edges { combined: vec![prices(), prices(), sigmas, prices(), KINDS[..3].to_vec()], further }
+    let combined = vec![prices(), prices(), sigmas, prices(), KINDS.to_vec()];
+    Edges { combined, further, kept: in_order().into_iter().chain(sevens::MARKETS).map(wide).collect() }
 }
 
 const SIGN: u64 = 1 << 63;

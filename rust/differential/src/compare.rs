@@ -110,7 +110,7 @@ impl Run {
             combine(&edges.combined, 1, &mut arguments, &mut |a| found.compare(function, a));
             found
         });
-        edges.further.into_iter().for_each(|a| found.compare(function, a));
+        edges.further.into_iter().chain(edges.kept).for_each(|a| found.compare(function, a));
         found
     }
 

@@ -182,7 +182,7 @@ mod tests {
             }
             let edges = (function.edges)();
             assert_eq!(edges.combined.len(), function.arguments, "{}", function.name);
-            for arguments in edges.further {
+            for arguments in edges.further.into_iter().chain(edges.kept) {
                 assert!(arguments[function.arguments..].iter().all(|x| *x == 0), "{}", function.name);
             }
         }

@@ -8,7 +8,6 @@
 use crate::{
     functions::{Answer, Function, FUNCTIONS},
     inputs::{wide, Arguments},
-    sevens::SEVENS,
     words::Words,
 };
 use reference::lets_be_rational::cody::optimized::erfc;
@@ -38,7 +37,7 @@ fn published() {
 }
 
 /// The inputs of one function: both zeros, the least number, the infinities and a NaN in the first place, then other
-/// edge values, then some on borders, then random inputs.
+/// edge values, then some on borders, then random inputs, then those that are kept for what they reach.
 fn inputs(function: &Function) -> Vec<Arguments> {
     let mut words = Words::new(SEED, function.name, 0);
     let edges = (function.edges)();
@@ -56,9 +55,7 @@ fn inputs(function: &Function) -> Vec<Arguments> {
         all.extend((0..BORDERS).map(|_| words.choice(&edges.further)));
     }
     all.extend((0..RANDOM).map(|_| (function.inputs)(&mut words)));
-    if function.name == "black" {
-        all.extend(SEVENS.map(wide));
-    }
+    all.extend(edges.kept);
     all
 }
 

@@ -13,7 +13,7 @@ use crate::{
 
 /// So many units are stepped to either side.
 const STEPS: i64 = 12;
-/// So many markets of a kind are shown.
+/// So many refusals of a sort are shown.
 const SHOWN: u64 = 12;
 
 /// What a search of one function found.
@@ -34,7 +34,7 @@ fn line(function: &Function, arguments: Arguments, answer: Answer) {
 }
 
 impl Found {
-    /// Shows a refusal, up to SHOWN of a kind, and every fault.
+    /// Shows a refusal, up to SHOWN, and every fault.
     fn take(&mut self, function: &Function, arguments: Arguments) {
         let answer = (function.ours)(arguments);
         self.tried += 1;
@@ -57,6 +57,10 @@ fn markets(kind: u64, words: &mut Words, tries: u64) -> Found {
     let mut found = Found::default();
     while found.tried < tries {
         let [forward, strike, sigma, expiry, _] = at_the_expansions_border(words);
+        // A quotient of forward and strike that is infinite or 0 has no border.
+        if !(1e-300..1e300).contains(&f64::from_bits(sigma)) {
+            continue;
+        }
         (-STEPS..=STEPS).for_each(|k| found.take(black, wide([forward, strike, moved(sigma, k), expiry, kind])));
     }
     found
