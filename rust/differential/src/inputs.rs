@@ -5,7 +5,7 @@ use crate::{
     edges::{moved, POINTS},
     words::Words,
 };
-use reference::lets_be_rational::normal_distribution::standard_normal_cdf;
+use gintubalos::standard_normal_cdf;
 use std::f64::consts::{LN_2, SQRT_2};
 
 /// As many as any function has; the places that a function doesn't have are 0. A float is its bits.
