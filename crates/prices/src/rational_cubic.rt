@@ -42,7 +42,7 @@ fn any_infinite(x: f64, x_l: f64, x_r: f64) -> bool
     is_infinite(x_r)
 }
 
-// Formula (2.4) divided by formula (2.5), or a straight line where r has no bound.
+// Formula (2.4) divided by formula (2.5); a straight line unless r is below the maximum.
 fn curve(h: f64, t: f64, y_l: f64, y_r: f64, d_l: f64, d_r: f64, r: f64) -> f64
     ensures { λ y. ⌜ y ≡ curveOf h t «y_l» «y_r» «d_l» «d_r» r ⌝ }
 {

@@ -1,4 +1,4 @@
--- `rational_cubic::minimum_rational_cubic_control_parameter` meets its contract: one way out is the slope that nothing fits, and at the other monotonic is true, or false with convex or concave true. Assumes nothing.
+-- `rational_cubic::minimum_rational_cubic_control_parameter` meets its contract: at one way out the slopes are neither monotonic nor convex or concave, and at the other, where two paths join, they are one of these. Assumes nothing.
 use mathlib.Core.Logic.{⊎-elim}
 use borrow.Author.Tests.{not-true, not-false}
 use Rattle.prices.specs.RationalCubic.{minimumParameterOf}
