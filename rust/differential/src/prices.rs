@@ -237,7 +237,12 @@ pub fn cubic(words: &mut Words) -> [u64; 8] {
         3 => log_uniform(words, 0, 110).to_bits(),
         _ => uniform(words, -1.0, 20.0).to_bits(),
     };
-    [x, x_l, x_r, plain(words), plain(words), plain(words), plain(words), r]
+    let mut all = [x, x_l, x_r, plain(words), plain(words), plain(words), plain(words), r];
+    if words.below(32) == 0 {
+        // Refused in the first three places, and only there.
+        all[words.below(8) as usize] = f64::INFINITY.to_bits() | (words.next() & SIGN);
+    }
+    all
 }
 
 fn byte(words: &mut Words) -> u64 {
@@ -295,4 +300,65 @@ pub fn control(words: &mut Words) -> [u64; 8] {
 pub fn convex(words: &mut Words) -> [u64; 9] {
     let [a, b, c, d, e, f, g] = control_floats(words);
     [a, b, c, d, e, f, g, byte(words), byte(words)]
+}
+
+#[cfg(test)]
+mod tests {
+    use super::*;
+    use gintubalos::bits;
+
+    /// How many of 100 000 inputs have the property.
+    fn count<const N: usize>(inputs: fn(&mut Words) -> [u64; N], property: impl Fn([u64; N]) -> bool) -> usize {
+        let mut words = Words::new(1, "count", 0);
+        (0..100_000).map(|_| inputs(&mut words)).filter(|&all| property(all)).count()
+    }
+
+    /// Every region of the price, every pair of Cody's arms, and both sides of the money.
+    #[test]
+    fn money_reaches_every_region() {
+        let of = |property: fn(f64, f64) -> bool| count(money, |[x, s]| property(f64::from_bits(x), f64::from_bits(s)));
+        let asymptotic: fn(f64, f64) -> bool =
+            |x, s| s > 0.0 && x < -10.0 * s && 0.5 * s * s + x < s * -9.788675134594813;
+        assert!(of(asymptotic) > 5_000);
+        assert!(of(|x, s| x <= 0.0 && x > -10.0 * s && 0.5 * s < 0.21132486540518713) > 5_000);
+        assert!(of(|x, s| x <= 0.0 && x > -10.0 * s && 0.5 * s >= 0.21132486540518713) > 5_000);
+        assert!(of(|x, s| x > 0.0 && s > 0.0) > 5_000);
+        assert!(of(|_, s| s <= 0.0) > 500);
+        assert!(of(|x, s| x.is_nan() || s.is_nan()) > 100);
+        for (first, second) in [(true, true), (true, false), (false, true), (false, false)] {
+            let arm = |[x, s]: [u64; 2]| {
+                let (h, t) = (f64::from_bits(x) / f64::from_bits(s), 0.5 * f64::from_bits(s));
+                let below = |z: f64| -std::f64::consts::FRAC_1_SQRT_2 * z < 0.46875;
+                (below(h + t), below(h - t)) == (first, second)
+            };
+            assert!(count(money, arm) > 1_000, "{first} {second}");
+        }
+    }
+
+    /// Every number that `black` and the expansions refuse with, and prices mostly.
+    #[test]
+    fn refusals_are_reached() {
+        let number = |[a, b, c, d, kind]: [u64; 5]| bits::black(a, b, c, d, kind as u8).1;
+        assert!(count(market, |all| number(all) == 0) > 70_000);
+        for (refusal, least) in [(2, 1_000), (3, 1_000), (5, 500), (4, 500), (24, 200), (7, 1)] {
+            assert!(count(market, |all| number(all) == refusal) >= least, "{refusal}");
+        }
+        let taylor = |[h, t]: [u64; 2]| bits::small_t_expansion_of_normalised_black_call(h, t).1;
+        let series = |[h, t]: [u64; 2]| bits::asymptotic_expansion_of_normalised_black_call(h, t).1;
+        for (answers, refusal) in
+            [(count(expansion, |all| taylor(all) == 0), 8), (count(expansion, |all| series(all) == 0), 7)]
+        {
+            assert!((20_000..80_000).contains(&answers), "{refusal}: {answers}");
+        }
+    }
+
+    /// The cubic's refusal, its middle, its curve and its straight line.
+    #[test]
+    fn cubic_reaches_every_case() {
+        let of = |property: fn([f64; 8]) -> bool| count(cubic, |all| property(all.map(f64::from_bits)));
+        assert!(of(|[x, x_l, x_r, ..]| x.is_infinite() || x_l.is_infinite() || x_r.is_infinite()) > 500);
+        assert!(of(|[_, x_l, x_r, ..]| (x_r - x_l).abs() <= f64::EPSILON) > 5_000);
+        assert!(of(|[_, x_l, x_r, .., r]| (x_r - x_l).abs() > f64::EPSILON && r < 4.056481920730334e31) > 20_000);
+        assert!(of(|[_, x_l, x_r, .., r]| (x_r - x_l).abs() > f64::EPSILON && r >= 4.056481920730334e31) > 3_000);
+    }
 }
