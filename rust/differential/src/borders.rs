@@ -2,7 +2,7 @@
 
 use crate::{
     edges::{edges, moved, POINTS, PRICE_POINTS},
-    inputs::{wide, Arguments},
+    inputs::{power, wide, Arguments},
     sevens,
 };
 use reference::elementary::ln;
@@ -27,16 +27,20 @@ pub const MONEYNESS: [Border; 6] = [
 ];
 
 /// The t at which a border lies, by h.
-pub const EXPANSION: [Border; 4] =
-    [|h| h.abs() - 10.0 + SMALL_T, |_| SMALL_T, |h| h.abs() - CODY, |h| h.abs() - 4.0 * SQRT_2];
+pub const EXPANSION: [Border; 4] = [
+    |h| h.abs() - 10.0 + SMALL_T, // the asymptotic expansion's
+    |_| SMALL_T,                  // the Taylor sum's
+    |h| h.abs() - CODY,           // erfcx at 0.46875
+    |h| h.abs() - 4.0 * SQRT_2,   // erfcx at 4
+];
 
 /// The s at which a border lies, by the size of x out of the money; the first two are the asymptotic expansion's.
 pub const VOLATILITY: [Border; 5] = [
     |x| x / 10.0,
     |x| SMALL_T - 10.0 + ((10.0 - SMALL_T) * (10.0 - SMALL_T) + 2.0 * x).sqrt(),
     |_| 2.0 * SMALL_T,
-    |x| (CODY * CODY + 2.0 * x).sqrt() - CODY,
-    |x| CODY - (CODY * CODY - 2.0 * x).max(0.0).sqrt(),
+    |x| (CODY * CODY + 2.0 * x).sqrt() - CODY,          // q1 at 0.46875
+    |x| CODY - (CODY * CODY - 2.0 * x).max(0.0).sqrt(), // q2
 ];
 
 /// The kinds' bytes, and one that is none.
@@ -58,7 +62,7 @@ impl Edges {
 
 /// Some values of s or of h's distance from −10, of every size.
 fn sizes() -> Vec<f64> {
-    let usual = (-36..12).map(|i| 2.0_f64.powi(i / 3) * [1.0, 1.26, 1.59][i.rem_euclid(3) as usize]);
+    let usual = (-36..12_i64).map(|i| power(i.div_euclid(3)) * [1.0, 1.26, 1.59][i.rem_euclid(3) as usize]);
     usual
         .chain([f64::from_bits(3), f64::MIN_POSITIVE, 1e-300, 1e-154, 1e-16, 2.0 * SMALL_T, 1e3, 1e16, 1e150])
         .collect()
