@@ -138,18 +138,12 @@ fn forward_and_strike(words: &mut Words) -> (f64, f64) {
 }
 
 /// A market whose volatility lies at a border, which is given by the size of x out of the money.
-fn on(words: &mut Words, border: Border) -> [u64; 5] {
+pub fn on(words: &mut Words, border: Border) -> [u64; 5] {
     let (forward, strike) = forward_and_strike(words);
     let expiry = if words.below(4) == 0 { 1.0 } else { log_uniform(words, -9, 5) };
     let sigma = border(ln(forward / strike).abs()) / expiry.sqrt();
     let kind = 1 + words.below(2);
     [forward.to_bits(), strike.to_bits(), beside(words, sigma), expiry.to_bits(), kind]
-}
-
-/// At one of the two borders of the asymptotic expansion.
-pub fn at_the_expansions_border(words: &mut Words) -> [u64; 5] {
-    let border = words.choice(&VOLATILITY[..2]);
-    on(words, border)
 }
 
 pub fn market(words: &mut Words) -> [u64; 5] {
@@ -169,7 +163,11 @@ pub fn market(words: &mut Words) -> [u64; 5] {
             let border = words.choice(&VOLATILITY);
             on(words, border)
         }
-        7 | 8 => at_the_expansions_border(words),
+        7 | 8 => {
+            // The asymptotic expansion's, where 7 comes.
+            let border = words.choice(&VOLATILITY[..2]);
+            on(words, border)
+        }
         _ => {
             let (forward, strike) = forward_and_strike(words);
             let sigma = match words.below(8) {

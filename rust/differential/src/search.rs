@@ -1,13 +1,13 @@
-//! A directed search for refusals of `black` and `normalised_black_call`: volatilities are stepped by single units over the
-//! two borders of the asymptotic expansion's region. 7 comes at some; any other number, or another answer than the
-//! Rust's, is a fault.
+//! A directed search for refusals of `black` and `normalised_black_call`: inputs are stepped by single units over the
+//! borders of the expansions' regions. 7 comes at one of them; any other number, 8 among them, or another answer than
+//! the Rust's is a fault.
 
 use crate::{
-    borders::MONEYNESS,
+    borders::{Border, MONEYNESS, VOLATILITY},
     edges::moved,
     functions::{Answer, Function, FUNCTIONS},
     inputs::{wide, Arguments},
-    prices::at_the_expansions_border,
+    prices::on,
     words::Words,
 };
 
@@ -51,12 +51,12 @@ impl Found {
     }
 }
 
-/// Steps the volatility of a market over a border of the expansion.
-fn markets(kind: u64, words: &mut Words, tries: u64) -> Found {
+/// Steps the volatility of markets over a border.
+fn markets(border: Border, kind: u64, words: &mut Words, tries: u64) -> Found {
     let black = named("black");
     let mut found = Found::default();
     while found.tried < tries {
-        let [forward, strike, sigma, expiry, _] = at_the_expansions_border(words);
+        let [forward, strike, sigma, expiry, _] = on(words, border);
         // A quotient of forward and strike that is infinite or 0 has no border.
         if !(1e-300..1e300).contains(&f64::from_bits(sigma)) {
             continue;
@@ -66,14 +66,17 @@ fn markets(kind: u64, words: &mut Words, tries: u64) -> Found {
     found
 }
 
-/// Steps x over one of the expansion's borders.
-fn money(border: usize, words: &mut Words, tries: u64) -> Found {
+/// Steps x over a border, or s where it is the border itself.
+fn money(border: Option<Border>, words: &mut Words, tries: u64) -> Found {
     let call = named("normalised_black_call");
     let mut found = Found::default();
     while found.tried < tries {
-        let s = f64::from_bits((1020 + words.below(5)) << 52 | words.next() >> 12);
-        let x = MONEYNESS[border](s).to_bits();
-        (-STEPS..=STEPS).for_each(|k| found.take(call, wide([moved(x, k), s.to_bits()])));
+        let random = f64::from_bits((1020 + words.below(5)) << 52 | words.next() >> 12);
+        let (x, s) = border.map_or((-random, VOLATILITY[2](random)), |x_of| (x_of(random), random));
+        for k in -STEPS..=STEPS {
+            let (x, s) = (x.to_bits(), s.to_bits());
+            found.take(call, wide(if border.is_some() { [moved(x, k), s] } else { [x, moved(s, k)] }));
+        }
     }
     found
 }
@@ -81,12 +84,18 @@ fn money(border: usize, words: &mut Words, tries: u64) -> Found {
 /// Searches with this many inputs of each sort, and answers whether there was no fault.
 pub fn search(seed: u64, tries: u64) -> bool {
     let mut words = Words::new(seed, "search", 0);
-    let all = [
-        ("black, Call", markets(1, &mut words, tries)),
-        ("black, Put", markets(2, &mut words, tries)),
-        ("normalised_black_call, h at -10", money(0, &mut words, tries)),
-        ("normalised_black_call, t at |h| - 10 + 0.211..", money(1, &mut words, tries)),
-    ];
-    all.iter().for_each(|(what, found)| found.report(what));
-    all.iter().all(|(_, found)| found.faults == 0)
+    let borders = ["h at -10", "t at |h| - 10 + 0.211..", "t at 0.211.."];
+    let mut faults = 0;
+    for (i, border) in borders.into_iter().enumerate() {
+        let all = [
+            ("black, Call", markets(VOLATILITY[i], 1, &mut words, tries)),
+            ("black, Put", markets(VOLATILITY[i], 2, &mut words, tries)),
+            ("normalised_black_call", money(MONEYNESS[..2].get(i).copied(), &mut words, tries)),
+        ];
+        for (what, found) in all {
+            found.report(&format!("{what}, {border}"));
+            faults += found.faults;
+        }
+    }
+    faults == 0
 }
