@@ -18,7 +18,7 @@ const DEFAULT: &str = "../../../shared/docs/src";
 
 /// Methods of f64 that document 01 has rules for, and the trait methods that they go to. An inherent method wins over a
 /// trait's of the same name, so the names differ.
-const METHODS: [(&str, &str); 12] = [
+const METHODS: [(&str, &str); 15] = [
     (".exp()", ".rule_exp()"),
     (".ln()", ".rule_ln()"),
     (".sqrt()", ".rule_sqrt()"),
@@ -31,6 +31,10 @@ const METHODS: [(&str, &str); 12] = [
     (".powi(2)", ".rule_powi_2()"),
     (".powf(1.0 / 3.0)", ".rule_powf_1_3()"),
     (".is_zero()", ".rule_is_zero()"),
+    // A panic becomes document 01's number for its cause.
+    (".expect(\"We should expect correct parameters\")", ".rule_expect(6)"),
+    (".expect(\"Asymptotic expansion failed\")", ".rule_expect(7)"),
+    (".expect(\"Small t expansion failed\")", ".rule_expect(8)"),
 ];
 
 /// What makes every function and constant visible, and the two registry crates ours.
@@ -43,13 +47,13 @@ const NAMES: [(&str, &str); 5] = [
 ];
 
 /// Method calls that stay as they are: no arithmetic of std's is behind them.
-const KEPT: [&str; 6] = ["cdf", "expect", "inverse_cdf", "is_infinite", "pdf", "to_string"];
+const KEPT: [&str; 5] = ["cdf", "inverse_cdf", "is_infinite", "pdf", "to_string"];
 
 struct File {
     path: &'static str,
     module: &'static str,
     /// How often each pattern of METHODS and of NAMES stands in the file.
-    methods: [usize; 12],
+    methods: [usize; 15],
     names: [usize; 5],
 }
 
@@ -57,47 +61,47 @@ const FILES: [File; 6] = [
     File {
         path: "src/lets_be_rational/black.rs",
         module: "black",
-        methods: [11, 0, 0, 0, 4, 4, 0, 42, 1, 0, 0, 0],
+        methods: [11, 0, 0, 0, 4, 4, 0, 42, 1, 0, 0, 0, 0, 1, 1],
         names: [2, 5, 2, 1, 0],
     },
     File {
         path: "src/lets_be_rational/cody/optimized.rs",
         module: "optimized",
-        methods: [5, 0, 0, 2, 2, 0, 0, 0, 0, 0, 0, 0],
+        methods: [5, 0, 0, 2, 2, 0, 0, 0, 0, 0, 0, 0, 0, 0, 0],
         names: [7, 10, 0, 0, 0],
     },
     File {
         path: "src/lets_be_rational/intrinsic.rs",
         module: "intrinsic",
-        methods: [1, 0, 0, 0, 0, 2, 0, 0, 0, 0, 0, 0],
+        methods: [1, 0, 0, 0, 0, 2, 0, 0, 0, 0, 0, 0, 0, 0, 0],
         names: [0, 2, 1, 0, 0],
     },
     File {
         path: "src/lets_be_rational/normal_distribution.rs",
         module: "normal_distribution",
-        methods: [0; 12],
+        methods: [0; 15],
         names: [0, 0, 0, 1, 0],
     },
     File {
         path: "src/lets_be_rational/rational_cubic.rs",
         module: "rational_cubic",
-        methods: [0, 0, 1, 0, 3, 1, 3, 2, 0, 0, 0, 5],
+        methods: [0, 0, 1, 0, 3, 1, 3, 2, 0, 0, 0, 5, 0, 0, 0],
         names: [2, 2, 0, 0, 1],
     },
     File {
         path: "src/lets_be_rational/so_rational.rs",
         module: "so_rational",
-        methods: [7, 4, 5, 0, 9, 6, 0, 0, 0, 9, 1, 0],
+        methods: [7, 4, 5, 0, 9, 6, 0, 0, 0, 9, 1, 0, 4, 0, 0],
         names: [6, 9, 3, 0, 0],
     },
 ];
 
-const INPUTS: File = File { path: "src/inputs.rs", module: "inputs", methods: [0; 12], names: [0, 0, 0, 0, 1] };
+const INPUTS: File = File { path: "src/inputs.rs", module: "inputs", methods: [0; 15], names: [0, 0, 0, 0, 1] };
 
 const MOD: File = File {
     path: "src/lets_be_rational/mod.rs",
     module: "lets_be_rational",
-    methods: [0, 1, 3, 0, 0, 2, 0, 0, 0, 0, 0, 0],
+    methods: [0, 1, 3, 0, 0, 2, 0, 0, 0, 0, 0, 0, 0, 0, 0],
     names: [0, 1, 3, 1, 0],
 };
 
@@ -167,7 +171,10 @@ fn transformed(root: &Path, file: &File) -> String {
 
 fn module(file: &File, text: &str) -> String {
     let allow = "#[allow(dead_code, unused_imports, unused_assignments, clippy::all)]";
-    format!("{allow}\npub mod {} {{\n    use crate::elementary::Rules;\n{text}\n}}\n", file.module)
+    format!(
+        "{allow}\npub mod {} {{\n    use crate::{{elementary::Rules, refusals::Expected}};\n{text}\n}}\n",
+        file.module
+    )
 }
 
 fn source(root: &Path) -> String {

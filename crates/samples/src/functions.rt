@@ -1,14 +1,38 @@
 // The functions that the list names, by number. The numbers are those of `differential --samples`.
+use crate::list::Line;
 use elementary::cody;
 use elementary::methods::bits_of;
 use elementary::methods::float_of;
 use elementary::normal_distribution;
+use prices::answer::Answer;
+use prices::black;
+use prices::inputs::OptionType;
+use prices::intrinsic;
+use prices::rational_cubic;
+use prices::rational_cubic::Side;
+use prices::vega;
 
 // How many there are.
-pub const COUNT: u64 = 24;
+pub const COUNT: u64 = 37;
 
-// What the function with this number yields; the arguments that it has not are left unread.
-pub fn answer(function: u64, a: u64, b: u64, c: u64) -> u64 {
+// Where the prices start.
+const PRICES: u64 = 24;
+
+// Whether the line's function yields the line's answer; the arguments that it has not are left unread.
+pub fn agrees(line: Line) -> bool {
+    let function = line.function;
+    if function < PRICES {
+        if line.refused == 0 {
+            elementary(function, line.a, line.b, line.c) == line.bits
+        } else {
+            false
+        }
+    } else {
+        says(price(line), line.bits, line.refused)
+    }
+}
+
+fn elementary(function: u64, a: u64, b: u64, c: u64) -> u64 {
     let x = float_of(a);
     match function {
         // how many units in the last place erfc(x) is from b, the float nearest to the true value
@@ -51,6 +75,138 @@ fn apart(a: u64, b: u64) -> u64 {
     if a < b { b - a } else { a - b }
 }
 
+// ---- prices
+
+// Whether an answer has these bits, or is refused with this number.
+fn says(answer: Answer, bits: u64, refused: u64) -> bool {
+    match answer {
+        Answer::Value(v) => {
+            if refused == 0 {
+                bits_of(v) == bits
+            } else {
+                false
+            }
+        }
+        Answer::Refused(n) => n as u64 == refused,
+    }
+}
+
+fn price(line: Line) -> Answer {
+    let function = line.function;
+    let x = float_of(line.a);
+    let s = float_of(line.b);
+    match function {
+        24 => normalised_intrinsic(x, line.b),
+        25 => Answer::Value(vega::normalised_vega(x, s)),
+        26 => Answer::Value(black::normalised_black_call_with_optimal_use_of_codys_functions(x, s)),
+        27 => Answer::Value(black::normalised_black_call_using_erfcx(x, s)),
+        28 => black::small_t_expansion_of_normalised_black_call(x, s),
+        29 => black::asymptotic_expansion_of_normalised_black_call(x, s),
+        30 => black::normalised_black_call(x, s),
+        31 => normalised_black(x, s, line.c),
+        32 => black_price(line),
+        _ => cubic(function, line),
+    }
+}
+
+// A kind is document 01's byte; its number for any other is 24.
+fn normalised_intrinsic(x: f64, kind: u64) -> Answer {
+    match kind {
+        1 => Answer::Value(intrinsic::normalised_intrinsic(x, OptionType::Call)),
+        2 => Answer::Value(intrinsic::normalised_intrinsic(x, OptionType::Put)),
+        _ => Answer::Refused(24),
+    }
+}
+
+fn normalised_black(x: f64, s: f64, kind: u64) -> Answer {
+    match kind {
+        1 => black::normalised_black(x, s, OptionType::Call),
+        2 => black::normalised_black(x, s, OptionType::Put),
+        _ => Answer::Refused(24),
+    }
+}
+
+fn black_price(line: Line) -> Answer {
+    let kind = line.e;
+    match kind {
+        1 => black_of(line, OptionType::Call),
+        2 => black_of(line, OptionType::Put),
+        _ => Answer::Refused(24),
+    }
+}
+
+fn black_of(line: Line, kind: OptionType) -> Answer {
+    black::black(
+        float_of(line.a),
+        float_of(line.b),
+        float_of(line.c),
+        float_of(line.d),
+        kind,
+    )
+}
+
+fn cubic(function: u64, line: Line) -> Answer {
+    match function {
+        33 => interpolation(line),
+        34 => Answer::Value(minimum_parameter(line)),
+        35 => Answer::Value(control_parameter(line)),
+        _ => Answer::Value(convex_parameter(line)),
+    }
+}
+
+fn interpolation(line: Line) -> Answer {
+    rational_cubic::rational_cubic_interpolation(
+        float_of(line.a),
+        float_of(line.b),
+        float_of(line.c),
+        float_of(line.d),
+        float_of(line.e),
+        float_of(line.f),
+        float_of(line.g),
+        float_of(line.h),
+    )
+}
+
+fn minimum_parameter(line: Line) -> f64 {
+    rational_cubic::minimum_rational_cubic_control_parameter(
+        float_of(line.a),
+        float_of(line.b),
+        float_of(line.c),
+        line.d != 0,
+    )
+}
+
+fn control_parameter(line: Line) -> f64 {
+    rational_cubic::rational_cubic_control_parameter(
+        float_of(line.a),
+        float_of(line.b),
+        float_of(line.c),
+        float_of(line.d),
+        float_of(line.e),
+        float_of(line.f),
+        float_of(line.g),
+        side_of(line.h),
+    )
+}
+
+fn convex_parameter(line: Line) -> f64 {
+    rational_cubic::convex_rational_cubic_control_parameter(
+        float_of(line.a),
+        float_of(line.b),
+        float_of(line.c),
+        float_of(line.d),
+        float_of(line.e),
+        float_of(line.f),
+        float_of(line.g),
+        line.h != 0,
+        side_of(line.i),
+    )
+}
+
+fn side_of(side: u64) -> Side {
+    if side == 0 { Side::Left } else { Side::Right }
+}
+
 pub fn print_name(function: u64) {
     match function {
         0 => print(b"erfc as published"),
@@ -77,6 +233,25 @@ pub fn print_name(function: u64) {
         21 => print(b"standard_normal_cdf"),
         22 => print(b"inverse_normal_cdf"),
         23 => print(b"inverse_f_upper_map"),
+        _ => print_price(function),
+    }
+}
+
+fn print_price(function: u64) {
+    match function {
+        24 => print(b"normalised_intrinsic"),
+        25 => print(b"normalised_vega"),
+        26 => print(b"normalised_black_call_with_optimal_use_of_codys_functions"),
+        27 => print(b"normalised_black_call_using_erfcx"),
+        28 => print(b"small_t_expansion_of_normalised_black_call"),
+        29 => print(b"asymptotic_expansion_of_normalised_black_call"),
+        30 => print(b"normalised_black_call"),
+        31 => print(b"normalised_black"),
+        32 => print(b"black"),
+        33 => print(b"rational_cubic_interpolation"),
+        34 => print(b"minimum_rational_cubic_control_parameter"),
+        35 => print(b"rational_cubic_control_parameter"),
+        36 => print(b"convex_rational_cubic_control_parameter"),
         _ => print(b"?"),
     }
 }

@@ -1,20 +1,47 @@
-// The list: a line has the function's number in two decimal digits, then three arguments and the
-// answer in sixteen hexadecimal digits each, a space between and a line feed at the end.
+// The list: a line has the function's number in two decimal digits, nine arguments and the answer's
+// bits in sixteen hexadecimal digits each, and the number of a refusal in two decimal digits, a space
+// between and a line feed at the end.
 ghost use Prim.Native.Nat.{_+_, _<_, _≤_};
 ghost use lib.ListN.{length};
 
-// How many bytes a line has, and where its words stand.
-pub const WIDTH: usize = 71;
+// How many bytes a line has.
+pub const WIDTH: usize = 176;
 
-pub const FIRST: usize = 3;
+pub struct Line {
+    pub function: u64,
+    pub a: u64,
+    pub b: u64,
+    pub c: u64,
+    pub d: u64,
+    pub e: u64,
+    pub f: u64,
+    pub g: u64,
+    pub h: u64,
+    pub i: u64,
+    pub bits: u64,
+    pub refused: u64,
+}
 
-pub const SECOND: usize = 20;
+pub fn line_at(text: &[u8], at: usize) -> Line
+    requires { ⌜ at + 176 ≤ length (now text) ⌝ }
+{
+    Line {
+        function: number_at(text, at),
+        a: word_at(text, at + 3),
+        b: word_at(text, at + 20),
+        c: word_at(text, at + 37),
+        d: word_at(text, at + 54),
+        e: word_at(text, at + 71),
+        f: word_at(text, at + 88),
+        g: word_at(text, at + 105),
+        h: word_at(text, at + 122),
+        i: word_at(text, at + 139),
+        bits: word_at(text, at + 156),
+        refused: number_at(text, at + 173),
+    }
+}
 
-pub const THIRD: usize = 37;
-
-pub const ANSWER: usize = 54;
-
-// The function's number.
+// The number in the two decimal digits from `at` on.
 pub fn number_at(text: &[u8], at: usize) -> u64
     requires { ⌜ at + 2 ≤ length (now text) ⌝ }
 {

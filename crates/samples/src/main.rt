@@ -14,7 +14,7 @@ struct Tally {
 }
 
 fn main() {
-    let mut buffer = io::large_buffer();
+    let mut buffer: [u8; 262144] = [0; 262144];
     let n = io::read_full(0, &mut buffer);
     report(&buffer[..n]);
 }
@@ -53,7 +53,7 @@ fn counted(text: &[u8], function: u64) -> Tally {
         let at = i * list::WIDTH;
         if list::number_at(text, at) == function {
             met += 1;
-            agree += agrees(text, at, function);
+            agree += agrees(text, at);
         }
         i += 1;
     }
@@ -64,14 +64,11 @@ fn counted(text: &[u8], function: u64) -> Tally {
 }
 
 // 1 where the proved function has the answer of the line at this place, else 0.
-fn agrees(text: &[u8], at: usize, function: u64) -> u64
-    requires { ⌜ at + 71 ≤ length (now text) ⌝ }
+fn agrees(text: &[u8], at: usize) -> u64
+    requires { ⌜ at + 176 ≤ length (now text) ⌝ }
     ensures { λ r. ⌜ r ≤ 1 ⌝ }
 {
-    let a = list::word_at(text, at + list::FIRST);
-    let b = list::word_at(text, at + list::SECOND);
-    let c = list::word_at(text, at + list::THIRD);
-    if functions::answer(function, a, b, c) == list::word_at(text, at + list::ANSWER) {
+    if functions::agrees(list::line_at(text, at)) {
         1
     } else {
         0

@@ -1,10 +1,9 @@
-//! One function's comparison: the edge values in all combinations, then random inputs in blocks. A block's inputs depend on
+//! One function's comparison: the edge values in all combinations and the borders, then random inputs in blocks. A block's inputs depend on
 //! the seed, the function and the block's number alone, so a run is the same with any number of threads.
 
 use crate::{
-    edges::{edges, sixteenths},
-    functions::Function,
-    inputs::{one, Arguments},
+    functions::{Answer, Function},
+    inputs::Arguments,
     words::Words,
 };
 use std::thread;
@@ -18,8 +17,8 @@ const SHOWN: usize = 10;
 #[derive(Clone, Copy)]
 pub struct Difference {
     pub arguments: Arguments,
-    pub ours: u64,
-    pub reference: u64,
+    pub ours: Answer,
+    pub reference: Answer,
 }
 
 /// What a part of a run found.
@@ -48,6 +47,17 @@ impl Found {
         self.different += other.different;
         let room = SHOWN - self.first.len();
         self.first.extend(other.first.into_iter().take(room));
+    }
+}
+
+/// Fills the arguments from `place` on with all combinations of their values.
+fn combine(values: &[Vec<u64>], place: usize, arguments: &mut Arguments, each: &mut impl FnMut(Arguments)) {
+    if place == values.len() {
+        return each(*arguments);
+    }
+    for &value in &values[place] {
+        arguments[place] = value;
+        combine(values, place + 1, arguments, each);
     }
 }
 
@@ -92,20 +102,15 @@ impl Run {
     }
 
     fn edges(&self, function: &Function) -> Found {
-        let values = edges(if function.arguments == 3 { 1 } else { 3 });
-        let none = vec![0];
-        let second = if function.arguments > 1 { &values } else { &none };
-        let third = if function.arguments > 2 { &values } else { &none };
-        let mut found = self.in_parts(values.len() as u64, |i| {
+        let edges = (function.edges)();
+        let mut found = self.in_parts(edges.combined[0].len() as u64, |i| {
             let mut found = Found::default();
-            for &b in second {
-                third.iter().for_each(|&c| found.compare(function, [values[i as usize], b, c]));
-            }
+            let mut arguments = [0; 9];
+            arguments[0] = edges.combined[0][i as usize];
+            combine(&edges.combined, 1, &mut arguments, &mut |a| found.compare(function, a));
             found
         });
-        if function.arguments == 1 {
-            sixteenths().into_iter().for_each(|x| found.compare(function, one(x)));
-        }
+        edges.further.into_iter().chain(edges.kept).for_each(|a| found.compare(function, a));
         found
     }
 

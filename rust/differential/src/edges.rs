@@ -65,6 +65,42 @@ pub const POINTS: [f64; 59] = [
     f64::MAX,
 ];
 
+/// Where the prices change: their thresholds, and where an exponential ends.
+pub const PRICE_POINTS: [f64; 32] = [
+    0.0,
+    f64::MIN_POSITIVE,
+    1e-300,
+    1.4916681462400413e-154, // √ of the least normal number
+    2.220446049250313e-16,   // f64::EPSILON
+    1.4901161193847656e-8,
+    0.011962890625, // the intrinsic value's threshold for x²
+    0.109375,       // its root
+    0.21132486540518713,
+    0.42264973081037427, // twice that
+    0.46875,
+    0.5,
+    0.6629126073623883, // 0.46875 √2
+    1.0,
+    2.0,
+    3.0,
+    5.656854249492381, // 4 √2
+    9.788675134594813, // 10 less 0.21132486540518713
+    10.0,
+    11.0,
+    26.6287357137514,
+    37.65871919523603, // 26.6287357137514 √2
+    38.62641583165593, // √(2 × 746)
+    100.0,
+    709.782712893384,
+    1419.565425786768, // twice that
+    1492.0,
+    1e8,
+    4.056481920730334e31,        // 2 / EPSILON²
+    1.340_780_792_994_259_6e154, // √ of the largest
+    1e300,
+    f64::MAX,
+];
+
 /// Quiet and signalling NaNs of both signs.
 const NANS: [u64; 8] = [
     0x7FF8_0000_0000_0000,
@@ -87,8 +123,8 @@ pub fn moved(bits: u64, steps: i64) -> u64 {
 }
 
 /// The points with their neighbours by up to `steps` units, of both signs, with the infinities and NaNs.
-pub fn edges(steps: i64) -> Vec<u64> {
-    let mut sizes: Vec<u64> = POINTS.iter().flat_map(|x| (-steps..=steps).map(|k| moved(x.to_bits(), k))).collect();
+pub fn edges(points: &[f64], steps: i64) -> Vec<u64> {
+    let mut sizes: Vec<u64> = points.iter().flat_map(|x| (-steps..=steps).map(|k| moved(x.to_bits(), k))).collect();
     sizes.push(INFINITY);
     with_signs(sizes)
 }

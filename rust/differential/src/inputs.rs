@@ -5,45 +5,48 @@ use crate::{
     edges::{moved, POINTS},
     words::Words,
 };
-use reference::lets_be_rational::normal_distribution::standard_normal_cdf;
+use gintubalos::standard_normal_cdf;
 use std::f64::consts::{LN_2, SQRT_2};
 
-pub type Arguments = [u64; 3];
+/// As many as any function has; the places that a function doesn't have are 0. A float is its bits.
+pub type Arguments = [u64; 9];
 
-const SIGN: u64 = 1 << 63;
-const FRACTION: u64 = (1 << 52) - 1;
+pub const SIGN: u64 = 1 << 63;
+pub const FRACTION: u64 = (1 << 52) - 1;
 
-pub fn one(x: u64) -> Arguments {
-    [x, 0, 0]
+pub fn wide<const N: usize>(short: [u64; N]) -> Arguments {
+    let mut all = [0; 9];
+    all[..N].copy_from_slice(&short);
+    all
 }
 
 /// The float with this sign, biased exponent and fraction.
-fn float(sign: u64, exponent: u64, fraction: u64) -> u64 {
+pub fn float(sign: u64, exponent: u64, fraction: u64) -> u64 {
     (sign & SIGN) | exponent << 52 | (fraction & FRACTION)
 }
 
 /// 2^n as a float, for an n from −1022 to 1023.
-fn power(n: i64) -> f64 {
+pub fn power(n: i64) -> f64 {
     f64::from_bits(((n + 1023) as u64) << 52)
 }
 
-fn near(words: &mut Words, x: f64) -> u64 {
+pub fn near(words: &mut Words, x: f64) -> u64 {
     let spread = 1_i64 << words.below(24);
     let steps = words.between(-spread, spread);
     moved(x.to_bits(), steps)
 }
 
-fn near_a_point(words: &mut Words) -> u64 {
+pub fn near_a_point(words: &mut Words) -> u64 {
     let x = words.choice(&POINTS);
     near(words, x) | (words.next() & SIGN)
 }
 
-fn uniform(words: &mut Words, low: f64, high: f64) -> f64 {
+pub fn uniform(words: &mut Words, low: f64, high: f64) -> f64 {
     low + (high - low) * words.unit()
 }
 
 /// Any sign and exponent with a fraction near 0, near √2's and near the top.
-fn near_a_step(words: &mut Words) -> u64 {
+pub fn near_a_step(words: &mut Words) -> u64 {
     let fraction = words.choice(&[0, SQRT_2.to_bits() & FRACTION, FRACTION]);
     let exponent = words.below(2047);
     let steps = words.between(-4, 4);
@@ -154,7 +157,7 @@ pub fn probability(words: &mut Words) -> u64 {
 }
 
 /// For max: any two, equal ones, neighbours, and one near a point.
-pub fn pair(words: &mut Words) -> Arguments {
+pub fn pair(words: &mut Words) -> [u64; 2] {
     let a = if words.below(2) == 0 { words.next() } else { near_a_point(words) };
     let b = match words.below(4) {
         0 => a,
@@ -162,11 +165,11 @@ pub fn pair(words: &mut Words) -> Arguments {
         2 => moved(a, words.between(-2, 2)),
         _ => words.next(),
     };
-    [a, b, 0]
+    [a, b]
 }
 
 /// For mul_add, which has one rounding: what tells one from two.
-pub fn fused(words: &mut Words) -> Arguments {
+pub fn fused(words: &mut Words) -> [u64; 3] {
     match words.below(10) {
         0 => [words.next(), words.next(), words.next()],
         1 => [near_a_point(words), near_a_point(words), near_a_point(words)],
@@ -182,7 +185,7 @@ pub fn fused(words: &mut Words) -> Arguments {
 }
 
 /// A float with a random fraction and sign, and an exponent from 2^low to 2^high.
-fn between_powers(words: &mut Words, low: i64, high: i64) -> f64 {
+pub fn between_powers(words: &mut Words, low: i64, high: i64) -> f64 {
     let exponent = (words.between(low, high) + 1023) as u64;
     let sign = words.next();
     // Short fractions, too: their products are exact.
@@ -191,7 +194,7 @@ fn between_powers(words: &mut Words, low: i64, high: i64) -> f64 {
 }
 
 /// c is −(a × b), rounded, or a neighbour: what is left is the product's low half.
-fn cancel(words: &mut Words) -> Arguments {
+fn cancel(words: &mut Words) -> [u64; 3] {
     let a = between_powers(words, -500, 500);
     let b = between_powers(words, -521, 500);
     let c = (-(a * b)).to_bits();
@@ -200,7 +203,7 @@ fn cancel(words: &mut Words) -> Arguments {
 }
 
 /// The product has 54 digits or a few more, the last ones a half: c, far below, decides, or is 0.
-fn tie_of_product(words: &mut Words) -> Arguments {
+fn tie_of_product(words: &mut Words) -> [u64; 3] {
     let first = 1 + words.below(53);
     let a = (words.next() >> (64 - first) | 1) as f64;
     let b = (words.next() >> (64 - (54 - first).max(1)) | 1) as f64;
@@ -215,7 +218,7 @@ fn tie_of_product(words: &mut Words) -> Arguments {
 }
 
 /// The product is an odd number of half units of c, or its neighbour.
-fn tie_of_addend(words: &mut Words) -> Arguments {
+fn tie_of_addend(words: &mut Words) -> [u64; 3] {
     let c = between_powers(words, -400, 400);
     let unit = (c.to_bits() >> 52 & 2047) as i64 - 1023 - 52;
     let split = words.between(-200, 200);
@@ -227,7 +230,7 @@ fn tie_of_addend(words: &mut Words) -> Arguments {
 }
 
 /// A product around the least numbers, and an addend there, too.
-fn subnormal_result(words: &mut Words) -> Arguments {
+fn subnormal_result(words: &mut Words) -> [u64; 3] {
     let a = between_powers(words, -600, -400);
     let exponent = (a.to_bits() >> 52 & 2047) as i64 - 1023;
     let target = words.between(-1130, -1000);
@@ -242,7 +245,7 @@ fn subnormal_result(words: &mut Words) -> Arguments {
 }
 
 /// An odd number of halves of the least number, with c subnormal: a tie, or just beside it.
-fn subnormal_tie(words: &mut Words) -> Arguments {
+fn subnormal_tie(words: &mut Words) -> [u64; 3] {
     let digits = 1 + words.below(53);
     let odd = (words.next() >> (64 - digits) | 1) as f64;
     let a = odd * power(-600);
@@ -253,7 +256,7 @@ fn subnormal_tie(words: &mut Words) -> Arguments {
 }
 
 /// A product around 2^1024 and an addend that brings it back, or not: the largest number's last half unit is 2^970.
-fn overflow(words: &mut Words) -> Arguments {
+fn overflow(words: &mut Words) -> [u64; 3] {
     let a = between_powers(words, 400, 600);
     let exponent = (a.to_bits() >> 52 & 2047) as i64 - 1023;
     if words.below(2) == 0 {
@@ -277,7 +280,7 @@ fn overflow(words: &mut Words) -> Arguments {
 }
 
 /// The addend's exponent is up to `most` away from the product's.
-fn apart(words: &mut Words, most: i64) -> Arguments {
+fn apart(words: &mut Words, most: i64) -> [u64; 3] {
     let a = between_powers(words, -300, 300);
     let b = between_powers(words, -300, 300);
     let exponent = ((a * b).to_bits() >> 52 & 2047) as i64 - 1023;

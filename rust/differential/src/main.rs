@@ -4,18 +4,23 @@
 //! the lines above; 2 bad usage; 3 the Rust's source wasn't at hand when this was built, and nothing was compared.
 
 mod accuracy;
+mod borders;
 mod compare;
 mod edges;
 mod functions;
 mod inputs;
+mod prices;
 mod samples;
+mod search;
+mod sevens;
 mod words;
 
 use compare::{Found, Run};
-use functions::{Function, FUNCTIONS};
+use functions::{Answer, Function, FUNCTIONS};
 use std::{env, process::exit, thread};
 
 const USAGE: &str = "usage: differential [--quick] [--function NAME] [--inputs N] [--seed N] [--threads N]
+       differential --search [--inputs N] [--seed N]
        differential --samples | --accuracy < TABLE
 
   --quick          fewer random inputs: under a minute, for the gate
@@ -23,6 +28,7 @@ const USAGE: &str = "usage: differential [--quick] [--function NAME] [--inputs N
   --inputs N       random inputs of each function (default 10000000)
   --seed N         other random inputs (default 1)
   --threads N      default: as many as the machine has processors
+  --search         looks for refusals of `black` at the asymptotic expansion's borders
   --samples        writes the list that crates/samples replays, answers of the Rust, to standard output
   --accuracy       measures document 01's rules over a table of rust/accuracy/table.py on standard input";
 
@@ -33,6 +39,7 @@ const QUICK: u64 = 2_000_000;
 struct Wanted {
     quick: bool,
     samples: bool,
+    search: bool,
     accuracy: bool,
     function: Option<String>,
     inputs: Option<u64>,
@@ -51,13 +58,22 @@ fn number(word: Option<String>) -> u64 {
 
 fn wanted() -> Wanted {
     let threads = thread::available_parallelism().map_or(1, |n| n.get() as u64);
-    let mut wanted =
-        Wanted { quick: false, samples: false, accuracy: false, function: None, inputs: None, seed: 1, threads };
+    let mut wanted = Wanted {
+        quick: false,
+        samples: false,
+        search: false,
+        accuracy: false,
+        function: None,
+        inputs: None,
+        seed: 1,
+        threads,
+    };
     let mut words = env::args().skip(1);
     while let Some(word) = words.next() {
         match word.as_str() {
             "--quick" => wanted.quick = true,
             "--samples" => wanted.samples = true,
+            "--search" => wanted.search = true,
             "--accuracy" => wanted.accuracy = true,
             "--function" => wanted.function = words.next(),
             "--inputs" => wanted.inputs = Some(number(words.next())),
@@ -86,10 +102,19 @@ impl Wanted {
     }
 }
 
+fn shown((bits, number): Answer) -> String {
+    if number == 0 {
+        format!("{bits:016X}")
+    } else {
+        format!("{bits:016X} refused with {number}")
+    }
+}
+
 fn show(function: &Function, found: &Found) {
     for d in &found.first {
         let arguments: Vec<String> = d.arguments[..function.arguments].iter().map(|x| format!("{x:016X}")).collect();
-        println!("{}({}): {:016X}, the Rust has {:016X}", function.name, arguments.join(", "), d.ours, d.reference);
+        let (ours, reference) = (shown(d.ours), shown(d.reference));
+        println!("{}({}): {ours}, the Rust has {reference}", function.name, arguments.join(", "));
     }
 }
 
@@ -107,6 +132,9 @@ fn main() {
         exit(0);
     }
     println!("Rust source {source}, seed {}", wanted.seed);
+    if wanted.search {
+        exit(i32::from(!search::search(wanted.seed, wanted.inputs.unwrap_or(INPUTS))));
+    }
     let (mut compared, mut different) = (0, 0);
     for function in wanted.functions() {
         let found = wanted.run(function).function(function);

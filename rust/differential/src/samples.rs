@@ -1,13 +1,13 @@
 //! The fixed list that crates/samples replays: answers of the reference, a line for each. The function's number in two
-//! decimal digits, three arguments and the answer in sixteen hexadecimal digits each.
+//! decimal digits, nine arguments and the answer's bits in sixteen hexadecimal digits each, and document 01's number of a
+//! refusal in two decimal digits, 00 where there is none.
 //!
 //! Number 0 is erfc at published points: x, the float nearest to the true value, and how many units in the last place
 //! the rules are away from it. From 1 on the numbers are those of the table of functions.
 
 use crate::{
-    edges::edges,
-    functions::{Function, FUNCTIONS},
-    inputs::Arguments,
+    functions::{Answer, Function, FUNCTIONS},
+    inputs::{wide, Arguments},
     words::Words,
 };
 use reference::lets_be_rational::cody::optimized::erfc;
@@ -17,12 +17,13 @@ use reference::lets_be_rational::cody::optimized::erfc;
 const PUBLISHED: &str = include_str!("published.txt");
 
 const SEED: u64 = 1964;
-const EDGES: u64 = 14;
-const RANDOM: u64 = 12;
+const EDGES: usize = 14;
+const BORDERS: usize = 6;
+const RANDOM: usize = 12;
 
-fn line(number: usize, arguments: Arguments, answer: u64) {
-    let [a, b, c] = arguments;
-    println!("{number:02} {a:016X} {b:016X} {c:016X} {answer:016X}");
+fn line(number: usize, arguments: Arguments, (bits, refused): Answer) {
+    let words: String = arguments.iter().map(|x| format!(" {x:016X}")).collect();
+    println!("{number:02}{words} {bits:016X} {refused:02}");
 }
 
 fn published() {
@@ -31,24 +32,30 @@ fn published() {
         let bits = |i: usize| u64::from_str_radix(words[i], 16).expect("bits in hexadecimal");
         let (x, near) = (bits(2), bits(3));
         let answer = erfc(f64::from_bits(x)).to_bits();
-        line(0, [x, near, 0], answer.abs_diff(near));
+        line(0, wide([x, near]), (answer.abs_diff(near), 0));
     }
 }
 
 /// The inputs of one function: both zeros, the least number, the infinities and a NaN in the first place, then other
-/// edge values, then random inputs.
+/// edge values, then some on borders, then random inputs, then those that are kept for what they reach.
 fn inputs(function: &Function) -> Vec<Arguments> {
     let mut words = Words::new(SEED, function.name, 0);
-    let values = edges(2);
+    let edges = (function.edges)();
     let specials = [0, 1 << 63, 1, 0x7FF0 << 48, 0xFFF0 << 48, 0xFFF0_0000_0000_0001];
-    let first: Vec<u64> = specials.into_iter().chain((0..EDGES - 6).map(|_| words.choice(&values))).collect();
-    let edge = |a: u64, words: &mut Words| {
-        let mut arguments = [a, words.choice(&values), words.choice(&values)];
-        arguments[function.arguments..].fill(0);
-        arguments
-    };
-    let mut all: Vec<Arguments> = first.into_iter().map(|a| edge(a, &mut words)).collect();
+    let mut all: Vec<Arguments> = Vec::new();
+    for i in 0..EDGES {
+        let mut arguments = [0; 9];
+        for (place, values) in edges.combined.iter().enumerate() {
+            arguments[place] = words.choice(values);
+        }
+        arguments[0] = specials.get(i).copied().unwrap_or(arguments[0]);
+        all.push(arguments);
+    }
+    if !edges.further.is_empty() {
+        all.extend((0..BORDERS).map(|_| words.choice(&edges.further)));
+    }
     all.extend((0..RANDOM).map(|_| (function.inputs)(&mut words)));
+    all.extend(edges.kept);
     all
 }
 

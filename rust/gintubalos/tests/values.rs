@@ -1,6 +1,7 @@
 //! The archive's functions through the safe crate: document 01's own values.
 
-use gintubalos::{bits, bits_of, erfc, erfcx, exp, inverse_normal_cdf, is_zero, ln, max, mul_add, powf_1_3, sqrt};
+use gintubalos::OptionType::{Call, Put};
+use gintubalos::*;
 
 const NAN_BITS: u64 = 0x7FF8_0000_0000_0000;
 
@@ -35,4 +36,71 @@ fn ends() {
     assert_eq!(inverse_normal_cdf(1.0), f64::INFINITY);
     // The product overflows, the sum doesn't.
     assert_eq!(mul_add(f64::MAX, 2.0, -f64::MAX), f64::MAX);
+}
+
+/// 100 (2 Φ(0.1) − 1), from tables of the normal distribution.
+const AT_THE_MONEY: f64 = 7.965567455405804;
+
+#[test]
+fn black_price() {
+    let call = black(100.0, 100.0, 0.2, 1.0, Call).expect("a price");
+    let put = black(100.0, 100.0, 0.2, 1.0, Put).expect("a price");
+    assert!((call - AT_THE_MONEY).abs() < 1e-13, "{call}");
+    assert_eq!(call, put);
+    // A call less a put is forward less strike.
+    let call = black(100.0, 95.0, 0.3, 0.5, Call).expect("a price");
+    let put = black(100.0, 95.0, 0.3, 0.5, Put).expect("a price");
+    assert!((call - put - 5.0).abs() < 1e-13, "{call} {put}");
+    // Without volatility there is the intrinsic value alone.
+    assert_eq!(black(100.0, 95.0, 0.0, 1.0, Call), Ok(5.0));
+    assert_eq!(black(100.0, 95.0, -0.1, 1.0, Put), Ok(0.0));
+}
+
+/// Document 01's order: forward, strike, sigma, expiry.
+#[test]
+fn black_refusals() {
+    let (least, nan) = (f64::from_bits(1), f64::NAN);
+    assert_eq!(black(0.0, -1.0, nan, least, Call), Err(2));
+    assert_eq!(black(1.0, f64::INFINITY, nan, least, Put), Err(3));
+    assert_eq!(black(1.0, 1.0, nan, least, Call), Err(5));
+    assert_eq!(black(1.0, 1.0, 0.1, least, Put), Err(4));
+    // Two roundings disagree at the edge of the asymptotic expansion's region.
+    let [forward, strike, sigma] =
+        [0x3F8C_3B6B_6A8E_A2AE, 0x4050_3C70_C53D_DB57, 0x3FEA_8698_7B35_B0A6].map(f64::from_bits);
+    assert_eq!(black(forward, strike, sigma, 1.0, Call), Err(7));
+    // A kind that is none is refused before all else.
+    assert_eq!(bits::black(0, 0, 0, 0, 3), (NAN_BITS, 24));
+    assert_eq!(bits::normalised_intrinsic(0, 0), (NAN_BITS, 24));
+}
+
+#[test]
+fn normalised_prices() {
+    assert_eq!(normalised_intrinsic(-1.0, Call), Ok(0.0));
+    assert_eq!(normalised_intrinsic(-1.0, Put), normalised_intrinsic(1.0, Call));
+    assert_eq!(normalised_black(-0.3, 0.5, Call), normalised_black_call(-0.3, 0.5));
+    assert_eq!(normalised_black(0.3, 0.5, Put), normalised_black_call(-0.3, 0.5));
+    assert_eq!(normalised_vega(-1.0, 0.0), 0.0);
+    // P11, and the expansion for a small t at a larger one.
+    assert_eq!(asymptotic_expansion_of_normalised_black_call(-9.5, 0.1), Err(7));
+    assert!(asymptotic_expansion_of_normalised_black_call(-10.5, 0.1).is_ok());
+    assert_eq!(small_t_expansion_of_normalised_black_call(-1.0, 0.21132486540518713), Err(8));
+    assert!(small_t_expansion_of_normalised_black_call(-1.0, 0.2113248654051871).is_ok());
+    // Three ways to one price.
+    let (x, s) = (-0.5, 0.4);
+    let price = normalised_black_call(x, s).expect("a price");
+    assert!((normalised_black_call_using_erfcx(x / s, 0.5 * s) - price).abs() < 1e-15);
+    assert!((normalised_black_call_with_optimal_use_of_codys_functions(x, s) - price).abs() < 1e-15);
+}
+
+#[test]
+fn cubic() {
+    // P9 and P10.
+    assert_eq!(rational_cubic_interpolation(1.0, 1.0, 1.0, 2.0, 4.0, 0.0, 0.0, 0.0), Ok(3.0));
+    assert_eq!(rational_cubic_interpolation(1.0, f64::INFINITY, 1.0, 2.0, 4.0, 0.0, 0.0, 0.0), Err(6));
+    // A cubic at r = 3: x³ from 0 to 1.
+    assert_eq!(rational_cubic_interpolation(0.5, 0.0, 1.0, 0.0, 1.0, 0.0, 3.0, 3.0), Ok(0.125));
+    assert_eq!(minimum_rational_cubic_control_parameter(0.0, 3.0, 1.0, true), 3.0);
+    assert_eq!(rational_cubic_control_parameter(0.0, 1.0, 0.0, 1.0, 0.0, 3.0, 0.0, Side::Left), 1.5);
+    assert_eq!(rational_cubic_control_parameter(0.0, 1.0, 0.0, 1.0, 0.0, 3.0, 6.0, Side::Right), 2.25);
+    assert_eq!(convex_rational_cubic_control_parameter(0.0, 1.0, 0.0, 1.0, 0.0, 3.0, 0.0, false, Side::Left), 3.0);
 }

@@ -9,22 +9,74 @@ pub mod inputs {
 }
 
 pub mod lets_be_rational {
+    use crate::OptionType;
+
     macro_rules! absent {
-        ($($name:ident)*) => {
-            $(pub fn $name(_: f64) -> f64 {
+        ($($name:ident($($argument:ty),*) -> $result:ty;)*) => {
+            $(#[allow(clippy::too_many_arguments)]
+            pub fn $name($(_: $argument),*) -> $result {
                 panic!("no Rust source");
             })*
         };
     }
 
+    absent! { black(f64, f64, f64, f64, OptionType) -> f64; }
+
     pub mod cody {
         pub mod optimized {
-            absent!(d_int smoothened_exponential_of_negative_square smoothened_exponential_of_positive_square);
-            absent!(ab cd pq erfcx_above_threshold erfc erfcx);
+            absent! {
+                d_int(f64) -> f64;
+                smoothened_exponential_of_negative_square(f64) -> f64;
+                smoothened_exponential_of_positive_square(f64) -> f64;
+                ab(f64) -> f64;
+                cd(f64) -> f64;
+                pq(f64) -> f64;
+                erfcx_above_threshold(f64) -> f64;
+                erfc(f64) -> f64;
+                erfcx(f64) -> f64;
+            }
         }
     }
 
     pub mod normal_distribution {
-        absent!(standard_normal_cdf inverse_normal_cdf inverse_f_upper_map);
+        absent! {
+            standard_normal_cdf(f64) -> f64;
+            inverse_normal_cdf(f64) -> f64;
+            inverse_f_upper_map(f64) -> f64;
+        }
+    }
+
+    pub mod intrinsic {
+        use crate::OptionType;
+        absent! { normalised_intrinsic(f64, OptionType) -> f64; }
+    }
+
+    pub mod so_rational {
+        absent! { normalised_vega(f64, f64) -> f64; }
+    }
+
+    pub mod black {
+        use crate::OptionType;
+        absent! {
+            normalised_black_call_with_optimal_use_of_codys_functions(f64, f64) -> f64;
+            normalised_black_call_using_erfcx(f64, f64) -> f64;
+            small_t_expansion_of_normalised_black_call(f64, f64) -> Option<f64>;
+            asymptotic_expansion_of_normalised_black_call(f64, f64) -> Result<f64, &'static str>;
+            normalised_black_call(f64, f64) -> f64;
+            normalised_black(f64, f64, OptionType) -> f64;
+        }
+    }
+
+    pub mod rational_cubic {
+        pub enum Side {
+            Left,
+            Right,
+        }
+        absent! {
+            rational_cubic_interpolation(f64, f64, f64, f64, f64, f64, f64, f64) -> Result<f64, String>;
+            minimum_rational_cubic_control_parameter(f64, f64, f64, bool) -> f64;
+            rational_cubic_control_parameter(f64, f64, f64, f64, f64, f64, f64, Side) -> f64;
+            convex_rational_cubic_control_parameter(f64, f64, f64, f64, f64, f64, f64, bool, Side) -> f64;
+        }
     }
 }

@@ -1,7 +1,9 @@
 //! The Rust of the source folder, built over document 01's elementary functions. `elementary` has those, written from
-//! document 01; build.rs reads the rest from the source folder.
+//! document 01; build.rs reads the rest from the source folder; `prices` has what document 01 says instead of a panic.
 
 pub mod elementary;
+pub mod prices;
+pub mod refusals;
 
 #[cfg(rust_source)]
 mod num_traits;

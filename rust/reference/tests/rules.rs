@@ -114,6 +114,7 @@ mod source {
         implied_volatility_from_a_transformed_rational_guess as implied_volatility,
         normal_distribution::{inverse_f_upper_map, inverse_normal_cdf, standard_normal_cdf},
     };
+    use reference::prices;
     use reference::OptionType::{Call, Put};
 
     /// Document 01's P7 and P8, and what it says of erfc's far end.
@@ -137,6 +138,21 @@ mod source {
             assert!(p <= standard_normal_cdf(x));
             assert_eq!(inverse_f_upper_map(p), -2.0 * x);
         }
+    }
+
+    /// Document 01's P9 to P11, and what else is refused.
+    #[test]
+    fn refusals() {
+        assert_eq!(prices::rational_cubic_interpolation(1.0, 1.0, 1.0, 2.0, 4.0, 0.0, 0.0, 0.0), Ok(3.0));
+        assert_eq!(prices::rational_cubic_interpolation(1.0, f64::INFINITY, 1.0, 2.0, 4.0, 0.0, 0.0, 0.0), Err(6));
+        assert_eq!(prices::asymptotic_expansion_of_normalised_black_call(-9.5, 0.0), Err(7));
+        assert_eq!(prices::small_t_expansion_of_normalised_black_call(0.0, 0.21132486540518713), Err(8));
+        assert_eq!(prices::black(-1.0, f64::NAN, f64::NAN, 0.0, Call), Err(2));
+        assert_eq!(prices::black(1.0, f64::NAN, f64::NAN, 0.0, Call), Err(3));
+        assert_eq!(prices::black(1.0, 1.0, f64::NAN, 0.0, Call), Err(5));
+        assert_eq!(prices::black(1.0, 1.0, 0.5, 0.0, Call), Err(4));
+        let seven = [0x3F8C_3B6B_6A8E_A2AE, 0x4050_3C70_C53D_DB57, 0x3FEA_8698_7B35_B0A6].map(f64::from_bits);
+        assert_eq!(prices::black(seven[0], seven[1], seven[2], 1.0, Call), Err(7));
     }
 
     /// Document 01's P1 to P6.

@@ -1,0 +1,10 @@
+-- `abi::vega::gintubalos_normalised_vega` meets its contract, by what its callees ensure. Assumes nothing.
+use borrow.Author.Needs.{needs}
+use Rattle.abi.proofs.vega.gintubalos_normalised_vega.Statement.{statement}
+use Rattle.abi.proofs.vega.gintubalos_normalised_vega.Tie as tie
+
+returns : tie.Need-returns
+returns c = cc
+
+pub gintubalos-normalised-vega-spec : {M : Type 1} → statement M
+gintubalos-normalised-vega-spec = tie.close (tie.spec (λ c κs. search needs) (λ c κs. search needs) (λ c κs. search needs) (λ c κs. search needs) returns)

@@ -1,0 +1,28 @@
+-- How a kind, a side and a choice cross as bytes. Definitions only.
+use Prim.Native.Nat.{ℕ}
+use mathlib.Core.Bool.{Bool, true, false, not, cond}
+use lib.Dec.{eqb}
+use lib.Ieee.{Float}
+use Rattle.prices.specs.declared.inputs.OptionType.{OptionType}
+use Rattle.prices.specs.declared.inputs.OptionType.the-variants.{Call, Put}
+use Rattle.prices.specs.declared.answer.Answer.{Answer}
+use Rattle.prices.specs.declared.answer.Answer.the-variants.{Value, Refused}
+use Rattle.prices.specs.declared.rational_cubic.Side.{Side}
+use Rattle.prices.specs.declared.rational_cubic.Side.the-variants.{Left, Right}
+use Rattle.prices.specs.Intrinsic.{intrinsicOf}
+
+-- A kind is document 01's byte, 1 Call and 2 Put. Any other byte is refused, before all else, with its number for a kind outside the layout.
+abbrev pub ofKind : ℕ → (OptionType → Answer) → Answer
+ofKind kind answer = cond (eqb kind 1) (answer Call) (cond (eqb kind 2) (answer Put) (Refused 24))
+
+-- 0 is Left, any other byte Right
+abbrev pub sideOf : ℕ → Side
+sideOf side = cond (eqb side 0) Left Right
+
+-- 0 is false, any other byte true
+abbrev pub choiceOf : ℕ → Bool
+choiceOf choice = not (eqb choice 0)
+
+-- an intrinsic value is never refused but for its kind
+abbrev pub intrinsicAnswer : Float → OptionType → Answer
+intrinsicAnswer x kind = Value (intrinsicOf x kind)

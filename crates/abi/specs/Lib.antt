@@ -1,0 +1,2 @@
+-- What the exported functions add to the layers' definitions.
+pub mod Bytes

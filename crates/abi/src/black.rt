@@ -1,0 +1,129 @@
+// The Black price and its parts. Floats are their bits on both sides, a kind is document 01's byte,
+// and document 01's number of a refusal, 0 for none, goes to `number`.
+ghost use mathlib.Core.Path.{_≡_};
+ghost use lib.Ieee.{binary64, toBits, ofBits};
+ghost use Rattle.elementary.specs.Rules.{rules-0};
+ghost use Rattle.prices.specs.Answers.{numberOf, valueOf};
+ghost use Rattle.prices.specs.Black.{smallTOf, asymptoticOf, usingErfcxOf, codysOf, callOf, normalisedBlackOf, blackOf};
+ghost use Rattle.abi.specs.Bytes.{ofKind};
+use crate::answer::handed;
+use elementary::methods::bits_of;
+use elementary::methods::float_of;
+use prices::answer::Answer;
+use prices::inputs::OptionType;
+
+#[no_mangle]
+pub extern "C" fn gintubalos_normalised_black_call_with_optimal_use_of_codys_functions(
+    x: u64,
+    s: u64,
+) -> u64
+    ensures { λ r. ⌜ r ≡ toBits binary64 (codysOf rules-0 (ofBits binary64 x) (ofBits binary64 s)) ⌝ }
+{
+    bits_of(prices::black::normalised_black_call_with_optimal_use_of_codys_functions(
+        float_of(x),
+        float_of(s),
+    ))
+}
+
+#[no_mangle]
+pub extern "C" fn gintubalos_normalised_black_call_using_erfcx(h: u64, t: u64) -> u64
+    ensures { λ r. ⌜ r ≡ toBits binary64 (usingErfcxOf (ofBits binary64 h) (ofBits binary64 t)) ⌝ }
+{
+    bits_of(prices::black::normalised_black_call_using_erfcx(float_of(h), float_of(t)))
+}
+
+// Refused with 8 where t is too large.
+#[no_mangle]
+pub extern "C" fn gintubalos_small_t_expansion_of_normalised_black_call(
+    h: u64,
+    t: u64,
+    number: &mut u8,
+) -> u64
+    ensures { λ r. ⌜ r ≡ toBits binary64 (valueOf (smallTOf (ofBits binary64 h) (ofBits binary64 t))) ⌝ }
+    ensures { λ _. ⌜ now (number .exit) ≡ numberOf (smallTOf (ofBits binary64 h) (ofBits binary64 t)) ⌝ }
+{
+    handed(
+        prices::black::small_t_expansion_of_normalised_black_call(float_of(h), float_of(t)),
+        number,
+    )
+}
+
+// Refused with 7 outside its region.
+#[no_mangle]
+pub extern "C" fn gintubalos_asymptotic_expansion_of_normalised_black_call(
+    h: u64,
+    t: u64,
+    number: &mut u8,
+) -> u64
+    ensures { λ r. ⌜ r ≡ toBits binary64 (valueOf (asymptoticOf (ofBits binary64 h) (ofBits binary64 t))) ⌝ }
+    ensures { λ _. ⌜ now (number .exit) ≡ numberOf (asymptoticOf (ofBits binary64 h) (ofBits binary64 t)) ⌝ }
+{
+    handed(
+        prices::black::asymptotic_expansion_of_normalised_black_call(float_of(h), float_of(t)),
+        number,
+    )
+}
+
+#[no_mangle]
+pub extern "C" fn gintubalos_normalised_black_call(x: u64, s: u64, number: &mut u8) -> u64
+    ensures { λ r. ⌜ r ≡ toBits binary64 (valueOf (callOf rules-0 (ofBits binary64 x) (ofBits binary64 s))) ⌝ }
+    ensures { λ _. ⌜ now (number .exit) ≡ numberOf (callOf rules-0 (ofBits binary64 x) (ofBits binary64 s)) ⌝ }
+{
+    handed(
+        prices::black::normalised_black_call(float_of(x), float_of(s)),
+        number,
+    )
+}
+
+fn normalised_black(x: f64, s: f64, kind: u8) -> Answer
+    ensures { λ r. ⌜ r ≡ ofKind kind (normalisedBlackOf rules-0 x s) ⌝ }
+{
+    match kind {
+        1 => prices::black::normalised_black(x, s, OptionType::Call),
+        2 => prices::black::normalised_black(x, s, OptionType::Put),
+        _ => Answer::Refused(24),
+    }
+}
+
+#[no_mangle]
+pub extern "C" fn gintubalos_normalised_black(x: u64, s: u64, kind: u8, number: &mut u8) -> u64
+    ensures { λ r. ⌜ r ≡ toBits binary64 (valueOf (ofKind kind (normalisedBlackOf rules-0 (ofBits binary64 x) (ofBits binary64 s)))) ⌝ }
+    ensures { λ _. ⌜ now (number .exit) ≡ numberOf (ofKind kind (normalisedBlackOf rules-0 (ofBits binary64 x) (ofBits binary64 s))) ⌝ }
+{
+    handed(normalised_black(float_of(x), float_of(s), kind), number)
+}
+
+fn black(forward: f64, strike: f64, sigma: f64, expiry: f64, kind: u8) -> Answer
+    ensures { λ r. ⌜ r ≡ ofKind kind (blackOf rules-0 forward strike sigma expiry) ⌝ }
+{
+    match kind {
+        1 => prices::black::black(forward, strike, sigma, expiry, OptionType::Call),
+        2 => prices::black::black(forward, strike, sigma, expiry, OptionType::Put),
+        _ => Answer::Refused(24),
+    }
+}
+
+// Refused with 2, 3, 5 or 4 for an input that has no price, with 7 at the asymptotic region's edge.
+#[no_mangle]
+pub extern "C" fn gintubalos_black(
+    forward: u64,
+    strike: u64,
+    sigma: u64,
+    expiry: u64,
+    kind: u8,
+    number: &mut u8,
+) -> u64
+    ensures { λ r. ⌜ r ≡ toBits binary64 (valueOf (ofKind kind (blackOf rules-0 (ofBits binary64 forward) (ofBits binary64 strike) (ofBits binary64 sigma) (ofBits binary64 expiry)))) ⌝ }
+    ensures { λ _. ⌜ now (number .exit) ≡ numberOf (ofKind kind (blackOf rules-0 (ofBits binary64 forward) (ofBits binary64 strike) (ofBits binary64 sigma) (ofBits binary64 expiry))) ⌝ }
+{
+    handed(
+        black(
+            float_of(forward),
+            float_of(strike),
+            float_of(sigma),
+            float_of(expiry),
+            kind,
+        ),
+        number,
+    )
+}
