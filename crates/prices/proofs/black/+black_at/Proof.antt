@@ -58,184 +58,9 @@ abbrev black-at-below : ℕ → In 0 black-at-kinds.ps
 black-at-below t =
     and 0 black-at-kinds.ps (falls 0 black-at-kinds.ps _<_ μ-black-at t) black-at.Pre
 
-black-at-price-requires : (t : ℕ) → black-at-lts.Need-price-requires (
-  price-reads.Asked,
-  price-reads.Learnt,
-  times-reads.Asked,
-  times-reads.Learnt,
-  max-reads.Asked,
-  max-reads.Learnt,
-  neg-reads.Asked,
-  neg-reads.Learnt,
-  black-at-below t,
-  black-at.Post,
-  plus-reads.Asked,
-  plus-reads.Learnt,
-) (black-at-at t) black-at.Post
-black-at-price-requires t c κs = tt
-
-black-at-returns : (t : ℕ) → black-at-lts.Need-returns (
-  price-reads.Asked,
-  price-reads.Learnt,
-  times-reads.Asked,
-  times-reads.Learnt,
-  max-reads.Asked,
-  max-reads.Learnt,
-  neg-reads.Asked,
-  neg-reads.Learnt,
-  black-at-below t,
-  black-at.Post,
-  plus-reads.Asked,
-  plus-reads.Learnt,
-) (black-at-at t) black-at.Post
-black-at-returns t c = out _ _ _ _ _ _ _ (c .before .if1 .taken) (c .price .ensures)
-
-black-at-times-requires : (t : ℕ) → black-at-lts.Need-times-requires (
-  price-reads.Asked,
-  price-reads.Learnt,
-  times-reads.Asked,
-  times-reads.Learnt,
-  max-reads.Asked,
-  max-reads.Learnt,
-  neg-reads.Asked,
-  neg-reads.Learnt,
-  black-at-below t,
-  black-at.Post,
-  plus-reads.Asked,
-  plus-reads.Learnt,
-) (black-at-at t) black-at.Post
-black-at-times-requires t c κs = tt
-
-black-at-max-requires : (t : ℕ) → black-at-lts.Need-max-requires (
-  price-reads.Asked,
-  price-reads.Learnt,
-  times-reads.Asked,
-  times-reads.Learnt,
-  max-reads.Asked,
-  max-reads.Learnt,
-  neg-reads.Asked,
-  neg-reads.Learnt,
-  black-at-below t,
-  black-at.Post,
-  plus-reads.Asked,
-  plus-reads.Learnt,
-) (black-at-at t) black-at.Post
-black-at-max-requires t c κs = tt
-
-black-at-sub-black-at : (t : ℕ) → black-at-lts.Need-sub-black-at (
-  price-reads.Asked,
-  price-reads.Learnt,
-  times-reads.Asked,
-  times-reads.Learnt,
-  max-reads.Asked,
-  max-reads.Learnt,
-  neg-reads.Asked,
-  neg-reads.Learnt,
-  black-at-below t,
-  black-at.Post,
-  plus-reads.Asked,
-  plus-reads.Learnt,
-) (black-at-at t) black-at.Post
-black-at-sub-black-at t c = not-zero _ (c .before .before .before .if1 .left)
-
-black-at-neg-requires : (t : ℕ) → black-at-lts.Need-neg-requires (
-  price-reads.Asked,
-  price-reads.Learnt,
-  times-reads.Asked,
-  times-reads.Learnt,
-  max-reads.Asked,
-  max-reads.Learnt,
-  neg-reads.Asked,
-  neg-reads.Learnt,
-  black-at-below t,
-  black-at.Post,
-  plus-reads.Asked,
-  plus-reads.Learnt,
-) (black-at-at t) black-at.Post
-black-at-neg-requires t c κs = tt
-
-black-at-black-at-requires : (t : ℕ) → black-at-lts.Need-black-at-requires (
-  price-reads.Asked,
-  price-reads.Learnt,
-  times-reads.Asked,
-  times-reads.Learnt,
-  max-reads.Asked,
-  max-reads.Learnt,
-  neg-reads.Asked,
-  neg-reads.Learnt,
-  black-at-below t,
-  black-at.Post,
-  plus-reads.Asked,
-  plus-reads.Learnt,
-) (black-at-at t) black-at.Post
-black-at-black-at-requires t c κs = (falls-below _ t (c .before .before .before .before .before .pre .0) (c .before .before .before .before .if1 .left), tt)
-
-black-at-plus-requires : (t : ℕ) → black-at-lts.Need-plus-requires (
-  price-reads.Asked,
-  price-reads.Learnt,
-  times-reads.Asked,
-  times-reads.Learnt,
-  max-reads.Asked,
-  max-reads.Learnt,
-  neg-reads.Asked,
-  neg-reads.Learnt,
-  black-at-below t,
-  black-at.Post,
-  plus-reads.Asked,
-  plus-reads.Learnt,
-) (black-at-at t) black-at.Post
-black-at-plus-requires t c κs = tt
-
-black-at-returns-2 : (t : ℕ) → black-at-lts.Need-returns-2 (
-  price-reads.Asked,
-  price-reads.Learnt,
-  times-reads.Asked,
-  times-reads.Learnt,
-  max-reads.Asked,
-  max-reads.Learnt,
-  neg-reads.Asked,
-  neg-reads.Learnt,
-  black-at-below t,
-  black-at.Post,
-  plus-reads.Asked,
-  plus-reads.Learnt,
-) (black-at-at t) black-at.Post
-black-at-returns-2 t c = mapped _ _ _ _ _ _ _ _ _ _ _ (c .before .before .before .before .before .before .if1 .left) (c .before .before .before .before .before .times .ensures) (c .before .before .before .before .if2 .taken) (c .before .before .before .max .ensures) (c .before .before .neg .ensures) (c .before .black-at .ensures) (c .plus .ensures)
-
-black-at-price-requires-2 : (t : ℕ) → black-at-lts.Need-price-requires-2 (
-  price-reads.Asked,
-  price-reads.Learnt,
-  times-reads.Asked,
-  times-reads.Learnt,
-  max-reads.Asked,
-  max-reads.Learnt,
-  neg-reads.Asked,
-  neg-reads.Learnt,
-  black-at-below t,
-  black-at.Post,
-  plus-reads.Asked,
-  plus-reads.Learnt,
-) (black-at-at t) black-at.Post
-black-at-price-requires-2 t c κs = tt
-
-black-at-returns-3 : (t : ℕ) → black-at-lts.Need-returns-3 (
-  price-reads.Asked,
-  price-reads.Learnt,
-  times-reads.Asked,
-  times-reads.Learnt,
-  max-reads.Asked,
-  max-reads.Learnt,
-  neg-reads.Asked,
-  neg-reads.Learnt,
-  black-at-below t,
-  black-at.Post,
-  plus-reads.Asked,
-  plus-reads.Learnt,
-) (black-at-at t) black-at.Post
-black-at-returns-3 t c = direct _ _ _ _ _ _ _ _ (c .before .before .before .if1 .left) (c .before .before .times .ensures) (c .before .if2 .left) (c .price2 .ensures)
-
-pub +black-at-spec : {M : Type 1} → statement M
-+black-at-spec = close μ-black-at λ t. black-at-lts.spec (
+-- what the calls ask and ensure
+abbrev claims : ℕ → black-at-lts.Claims
+claims t = (
   price-reads.Asked,
   price-reads.Learnt,
   times-reads.Asked,
@@ -249,6 +74,42 @@ pub +black-at-spec : {M : Type 1} → statement M
   plus-reads.Asked,
   plus-reads.Learnt,
 )
+
+black-at-price-requires : (t : ℕ) → black-at-lts.Need-price-requires (claims t) (black-at-at t) black-at.Post
+black-at-price-requires t c κs = tt
+
+black-at-returns : (t : ℕ) → black-at-lts.Need-returns (claims t) (black-at-at t) black-at.Post
+black-at-returns t c = out _ _ _ _ _ _ _ (c .before .if1 .taken) (c .price .ensures)
+
+black-at-times-requires : (t : ℕ) → black-at-lts.Need-times-requires (claims t) (black-at-at t) black-at.Post
+black-at-times-requires t c κs = tt
+
+black-at-max-requires : (t : ℕ) → black-at-lts.Need-max-requires (claims t) (black-at-at t) black-at.Post
+black-at-max-requires t c κs = tt
+
+black-at-sub-black-at : (t : ℕ) → black-at-lts.Need-sub-black-at (claims t) (black-at-at t) black-at.Post
+black-at-sub-black-at t c = not-zero _ (c .before .before .before .if1 .left)
+
+black-at-neg-requires : (t : ℕ) → black-at-lts.Need-neg-requires (claims t) (black-at-at t) black-at.Post
+black-at-neg-requires t c κs = tt
+
+black-at-black-at-requires : (t : ℕ) → black-at-lts.Need-black-at-requires (claims t) (black-at-at t) black-at.Post
+black-at-black-at-requires t c κs = (falls-below _ t (c .before .before .before .before .before .pre .0) (c .before .before .before .before .if1 .left), tt)
+
+black-at-plus-requires : (t : ℕ) → black-at-lts.Need-plus-requires (claims t) (black-at-at t) black-at.Post
+black-at-plus-requires t c κs = tt
+
+black-at-returns-2 : (t : ℕ) → black-at-lts.Need-returns-2 (claims t) (black-at-at t) black-at.Post
+black-at-returns-2 t c = mapped _ _ _ _ _ _ _ _ _ _ _ (c .before .before .before .before .before .before .if1 .left) (c .before .before .before .before .before .times .ensures) (c .before .before .before .before .if2 .taken) (c .before .before .before .max .ensures) (c .before .before .neg .ensures) (c .before .black-at .ensures) (c .plus .ensures)
+
+black-at-price-requires-2 : (t : ℕ) → black-at-lts.Need-price-requires-2 (claims t) (black-at-at t) black-at.Post
+black-at-price-requires-2 t c κs = tt
+
+black-at-returns-3 : (t : ℕ) → black-at-lts.Need-returns-3 (claims t) (black-at-at t) black-at.Post
+black-at-returns-3 t c = direct _ _ _ _ _ _ _ _ (c .before .before .before .if1 .left) (c .before .before .times .ensures) (c .before .if2 .left) (c .price2 .ensures)
+
+pub +black-at-spec : {M : Type 1} → statement M
++black-at-spec = close μ-black-at λ t. black-at-lts.spec (claims t)
     (black-at-at t)
     black-at.Post
     (black-at-price-requires t)

@@ -48,116 +48,9 @@ call-at-at t = and 0 call-at-kinds.ps (is 0 call-at-kinds.ps μ-call-at t) call-
 abbrev call-at-below : ℕ → In 0 call-at-kinds.ps
 call-at-below t = and 0 call-at-kinds.ps (falls 0 call-at-kinds.ps _<_ μ-call-at t) call-at.Pre
 
-call-at-out-of-the-money-requires : (t : ℕ) → call-at-lts.Need-out-of-the-money-requires (
-  out-of-the-money-reads.Asked,
-  out-of-the-money-reads.Learnt,
-  normalised-intrinsic-reads.Asked,
-  normalised-intrinsic-reads.Learnt,
-  call-at-below t,
-  call-at.Post,
-  plus-reads.Asked,
-  plus-reads.Learnt,
-) (call-at-at t) call-at.Post
-call-at-out-of-the-money-requires t c κs = tt
-
-call-at-returns : (t : ℕ) → call-at-lts.Need-returns (
-  out-of-the-money-reads.Asked,
-  out-of-the-money-reads.Learnt,
-  normalised-intrinsic-reads.Asked,
-  normalised-intrinsic-reads.Learnt,
-  call-at-below t,
-  call-at.Post,
-  plus-reads.Asked,
-  plus-reads.Learnt,
-) (call-at-at t) call-at.Post
-call-at-returns t c = out _ _ _ _ (c .before .if1 .taken) (c .out-of-the-money .ensures)
-
-call-at-normalised-intrinsic-requires : (t : ℕ) → call-at-lts.Need-normalised-intrinsic-requires (
-  out-of-the-money-reads.Asked,
-  out-of-the-money-reads.Learnt,
-  normalised-intrinsic-reads.Asked,
-  normalised-intrinsic-reads.Learnt,
-  call-at-below t,
-  call-at.Post,
-  plus-reads.Asked,
-  plus-reads.Learnt,
-) (call-at-at t) call-at.Post
-call-at-normalised-intrinsic-requires t c κs = tt
-
-call-at-sub-call-at : (t : ℕ) → call-at-lts.Need-sub-call-at (
-  out-of-the-money-reads.Asked,
-  out-of-the-money-reads.Learnt,
-  normalised-intrinsic-reads.Asked,
-  normalised-intrinsic-reads.Learnt,
-  call-at-below t,
-  call-at.Post,
-  plus-reads.Asked,
-  plus-reads.Learnt,
-) (call-at-at t) call-at.Post
-call-at-sub-call-at t c = not-zero _ (c .before .before .if1 .left)
-
-call-at-call-at-requires : (t : ℕ) → call-at-lts.Need-call-at-requires (
-  out-of-the-money-reads.Asked,
-  out-of-the-money-reads.Learnt,
-  normalised-intrinsic-reads.Asked,
-  normalised-intrinsic-reads.Learnt,
-  call-at-below t,
-  call-at.Post,
-  plus-reads.Asked,
-  plus-reads.Learnt,
-) (call-at-at t) call-at.Post
-call-at-call-at-requires t c κs = (falls-below _ t (c .before .before .before .pre .0) (c .before .before .if1 .left), tt)
-
-call-at-plus-requires : (t : ℕ) → call-at-lts.Need-plus-requires (
-  out-of-the-money-reads.Asked,
-  out-of-the-money-reads.Learnt,
-  normalised-intrinsic-reads.Asked,
-  normalised-intrinsic-reads.Learnt,
-  call-at-below t,
-  call-at.Post,
-  plus-reads.Asked,
-  plus-reads.Learnt,
-) (call-at-at t) call-at.Post
-call-at-plus-requires t c κs = tt
-
-call-at-returns-2 : (t : ℕ) → call-at-lts.Need-returns-2 (
-  out-of-the-money-reads.Asked,
-  out-of-the-money-reads.Learnt,
-  normalised-intrinsic-reads.Asked,
-  normalised-intrinsic-reads.Learnt,
-  call-at-below t,
-  call-at.Post,
-  plus-reads.Asked,
-  plus-reads.Learnt,
-) (call-at-at t) call-at.Post
-call-at-returns-2 t c = mapped _ _ _ _ _ _ (c .before .before .before .before .if1 .left) (c .before .before .before .if2 .taken) (c .before .before .normalised-intrinsic .ensures) (c .before .call-at .ensures) (c .plus .ensures)
-
-call-at-out-of-the-money-requires-2 : (t : ℕ) → call-at-lts.Need-out-of-the-money-requires-2 (
-  out-of-the-money-reads.Asked,
-  out-of-the-money-reads.Learnt,
-  normalised-intrinsic-reads.Asked,
-  normalised-intrinsic-reads.Learnt,
-  call-at-below t,
-  call-at.Post,
-  plus-reads.Asked,
-  plus-reads.Learnt,
-) (call-at-at t) call-at.Post
-call-at-out-of-the-money-requires-2 t c κs = tt
-
-call-at-returns-3 : (t : ℕ) → call-at-lts.Need-returns-3 (
-  out-of-the-money-reads.Asked,
-  out-of-the-money-reads.Learnt,
-  normalised-intrinsic-reads.Asked,
-  normalised-intrinsic-reads.Learnt,
-  call-at-below t,
-  call-at.Post,
-  plus-reads.Asked,
-  plus-reads.Learnt,
-) (call-at-at t) call-at.Post
-call-at-returns-3 t c = direct _ _ _ _ (c .before .before .if1 .left) (c .before .if2 .left) (c .out-of-the-money2 .ensures)
-
-pub +call-at-spec : {M : Type 1} → statement M
-+call-at-spec = close μ-call-at λ t. call-at-lts.spec (
+-- what the calls ask and ensure
+abbrev claims : ℕ → call-at-lts.Claims
+claims t = (
   out-of-the-money-reads.Asked,
   out-of-the-money-reads.Learnt,
   normalised-intrinsic-reads.Asked,
@@ -167,6 +60,36 @@ pub +call-at-spec : {M : Type 1} → statement M
   plus-reads.Asked,
   plus-reads.Learnt,
 )
+
+call-at-out-of-the-money-requires : (t : ℕ) → call-at-lts.Need-out-of-the-money-requires (claims t) (call-at-at t) call-at.Post
+call-at-out-of-the-money-requires t c κs = tt
+
+call-at-returns : (t : ℕ) → call-at-lts.Need-returns (claims t) (call-at-at t) call-at.Post
+call-at-returns t c = out _ _ _ _ (c .before .if1 .taken) (c .out-of-the-money .ensures)
+
+call-at-normalised-intrinsic-requires : (t : ℕ) → call-at-lts.Need-normalised-intrinsic-requires (claims t) (call-at-at t) call-at.Post
+call-at-normalised-intrinsic-requires t c κs = tt
+
+call-at-sub-call-at : (t : ℕ) → call-at-lts.Need-sub-call-at (claims t) (call-at-at t) call-at.Post
+call-at-sub-call-at t c = not-zero _ (c .before .before .if1 .left)
+
+call-at-call-at-requires : (t : ℕ) → call-at-lts.Need-call-at-requires (claims t) (call-at-at t) call-at.Post
+call-at-call-at-requires t c κs = (falls-below _ t (c .before .before .before .pre .0) (c .before .before .if1 .left), tt)
+
+call-at-plus-requires : (t : ℕ) → call-at-lts.Need-plus-requires (claims t) (call-at-at t) call-at.Post
+call-at-plus-requires t c κs = tt
+
+call-at-returns-2 : (t : ℕ) → call-at-lts.Need-returns-2 (claims t) (call-at-at t) call-at.Post
+call-at-returns-2 t c = mapped _ _ _ _ _ _ (c .before .before .before .before .if1 .left) (c .before .before .before .if2 .taken) (c .before .before .normalised-intrinsic .ensures) (c .before .call-at .ensures) (c .plus .ensures)
+
+call-at-out-of-the-money-requires-2 : (t : ℕ) → call-at-lts.Need-out-of-the-money-requires-2 (claims t) (call-at-at t) call-at.Post
+call-at-out-of-the-money-requires-2 t c κs = tt
+
+call-at-returns-3 : (t : ℕ) → call-at-lts.Need-returns-3 (claims t) (call-at-at t) call-at.Post
+call-at-returns-3 t c = direct _ _ _ _ (c .before .before .if1 .left) (c .before .if2 .left) (c .out-of-the-money2 .ensures)
+
+pub +call-at-spec : {M : Type 1} → statement M
++call-at-spec = close μ-call-at λ t. call-at-lts.spec (claims t)
     (call-at-at t)
     call-at.Post
     (call-at-out-of-the-money-requires t)
