@@ -1,6 +1,6 @@
 -- How a kind, a side and a choice cross as bytes. Definitions only.
 use Prim.Native.Nat.{ℕ}
-use mathlib.Core.Bool.{Bool, true, false, not, cond}
+use mathlib.Core.Bool.{Bool, not, cond}
 use lib.Dec.{eqb}
 use lib.Ieee.{Float}
 use Rattle.prices.specs.declared.inputs.OptionType.{OptionType}

@@ -1,10 +1,10 @@
 -- How large the results of binary64's operations can be. A bound b that the format holds is kept by rounding: what is at most b in size is so after it.
 -- From these laws it follows that a computation never meets an infinity, and so no NaN. Assumes nothing.
 use mathlib.Core.Path.{_≡_, refl, sym, ap, _∙_, subst}
-use mathlib.Core.Bool.{Bool, true, false, not, _&&_, _||_, Bool·beq, cond, true≢false}
-use mathlib.Core.Logic.{_⊎_, inl, inr, ⊎-elim}
-use Prim.Native.Nat.{ℕ, zero, suc, _+_, _-_, _*_, _/_, _^_, _≤_, _<_}
-use native.Mathlib.Nat.{le-trans, le-of-eq, le-of-lt, lt-of-not-le, lt-of-lt-of-le, mul-assoc, mul-comm, mul-left-comm, mul-right-comm, mul-one, one-mul, zero-mul, add-mul, mul-le-mul, mul-le-mul-right, le-of-mul-le-mul-right, mul-pos, mul-mul-mul-comm, suc-mul, div-le-of-le-mul, div-lt-iff-lt-mul}
+use mathlib.Core.Bool.{Bool, true, false, not, _&&_, Bool·beq, cond}
+use mathlib.Core.Logic.{_⊎_, inl, inr}
+use Prim.Native.Nat.{ℕ, zero, suc, _+_, _-_, _*_, _^_, _≤_, _<_}
+use native.Mathlib.Nat.{le-trans, le-of-eq, lt-of-not-le, lt-of-lt-of-le, mul-assoc, mul-comm, mul-left-comm, mul-right-comm, mul-one, one-mul, zero-mul, add-mul, mul-le-mul, mul-le-mul-right, le-of-mul-le-mul-right, mul-pos, mul-mul-mul-comm, suc-mul, div-le-of-le-mul, div-lt-iff-lt-mul}
 use native.Mathlib.Decide.{decLe}
 use native.Mathlib.Omega.{arith}
 use lib.Dec.{T, ltb, eqb·suc-zero, lit<, lit≤}

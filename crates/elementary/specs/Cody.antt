@@ -1,5 +1,5 @@
 -- Cody's rational approximations of the error function, cody/optimized.rs: tables, thresholds and Horner order are the Rust's. Definitions only.
-use mathlib.Core.Bool.{Bool, true, false, cond}
+use mathlib.Core.Bool.{cond}
 use mathlib.Core.List.{List, [], _∷_}
 use Prim.Native.Nat.{ℕ}
 use lib.ListN.{getD}

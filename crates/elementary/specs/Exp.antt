@@ -1,8 +1,8 @@
 -- Document 01's exp, operation by operation. Definitions only.
 use mathlib.Core.Path.{_≡_}
-use mathlib.Core.Bool.{Bool, true, false, cond}
+use mathlib.Core.Bool.{Bool, false, cond}
 use Prim.Native.Nat.{ℕ, zero, suc, _*_, _≤_}
-use lib.IntN.{ℤ, pos, negsuc}
+use lib.IntN.{ℤ}
 use lib.Ieee.{Float, nan, inf, fin, Format, binary64, up, down, minus, round, neg, lt, ne, toSigned}
 use lib.Ieee.Exact.{HasValue}
 use Rattle.elementary.specs.Ops.{_⊕_, _⊖_, _⊗_, _⊘_, bits, whole, +0, half, one, H, L}

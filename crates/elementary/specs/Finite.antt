@@ -1,25 +1,24 @@
 -- Where the definitions give finite numbers: exp of a number that is not above 0, and the cdf from -39 to 39. So the bisection behind the inverse
 -- meets no NaN. The bounds are coarse: most are powers of two. Assumes nothing.
 use mathlib.Core.Path.{_≡_, refl, sym, ap, _∙_, subst}
-use mathlib.Core.Bool.{Bool, true, false, not, _&&_, _||_, Bool·beq, cond, true≢false}
+use mathlib.Core.Bool.{Bool, true, false, _&&_, _||_, cond, true≢false}
 use mathlib.Core.List.{List, [], _∷_}
 use mathlib.Core.Logic.{_⊎_, inl, inr, ⊎-elim}
-use Prim.Native.Nat.{ℕ, zero, suc, _+_, _-_, _*_, _/_, _%_, _^_, _≤_, _<_, min}
-use native.Mathlib.Nat.{le-trans, le-of-eq, lt-of-lt-of-le, lt-of-le-of-lt, not-le-of-lt, sub-le, mul-assoc, mul-comm, mul-left-comm, mul-right-comm, mul-one, one-mul, zero-mul, mul-zero, mul-suc, add-zero, zero-add, mul-le-mul, mul-le-mul-left, mul-le-mul-right, le-mul-of-pos-right, mul-pos, mul-lt-mul-of-pos-right, lt-of-mul-lt-mul-right, div-le-of-le-mul, div-mul-le-self, div-eq-of-lt, le-of-mul-le-mul-right, min-le-left, pow-suc}
-use native.Mathlib.Decide.{decLe}
+use Prim.Native.Nat.{ℕ, zero, suc, _+_, _-_, _*_, _/_, _^_, _≤_, _<_, min}
+use native.Mathlib.Nat.{le-trans, le-of-eq, lt-of-lt-of-le, lt-of-le-of-lt, sub-le, mul-assoc, mul-comm, mul-left-comm, mul-right-comm, mul-one, one-mul, zero-mul, mul-zero, mul-suc, add-zero, zero-add, mul-le-mul, mul-le-mul-left, mul-le-mul-right, le-mul-of-pos-right, mul-pos, mul-lt-mul-of-pos-right, lt-of-mul-lt-mul-right, div-le-of-le-mul, div-mul-le-self, div-eq-of-lt, le-of-mul-le-mul-right, min-le-left, pow-suc}
 use native.Mathlib.Omega.{arith}
-use lib.Dec.{T, leb, ltb, eqb, leb→le, ltb→lt, eqb→eq, lit<, lit≤}
+use lib.Dec.{T, leb, ltb, leb→le, eqb→eq, lit<, lit≤}
 use lib.ListN.{length}
-use lib.Pow.{pow-add, pow-pos, pow-mono, pow-lt}
+use lib.Pow.{pow-add, pow-pos, pow-mono}
 use lib.IntN.{ℤ, pos, negsuc, negℤ}
-use borrow.Author.Tests.{eq-eqb, ltb-false, le-ltb}
-use lib.Ieee.{Float, nan, inf, fin, binary64, up, down, unlike, fits, round, sum, add, sub, mul, div, neg, lt, le, eq, ne, ofBits, ofInt, toSigned}
+use borrow.Author.Tests.{ltb-false, le-ltb}
+use lib.Ieee.{Float, nan, inf, fin, binary64, up, down, unlike, fits, round, sum, add, sub, mul, div, neg, lt, le, ofBits, ofInt, toSigned}
 use lib.Ieee.Fits.{up-pos, down-pos, and-l, and-r, mul-fits}
 use lib.Ieee.Exact.{HasValue, round-exact}
 use lib.Ieee.Scale.{round-same, round-val, grid}
 use lib.Ieee.Order.{round-mono, transfer}
 use lib.Ieee.Back.{round-whole}
-use Rattle.elementary.specs.Ops.{_⊕_, _⊖_, _⊗_, _⊘_, bits, whole, +0, half, one, two, H, L}
+use Rattle.elementary.specs.Ops.{_⊕_, _⊖_, _⊗_, _⊘_, whole, +0, half, one, two, H, L}
 use Rattle.elementary.specs.Floor.{floorOf}
 use Rattle.elementary.specs.Exp.{LARGEST, LEAST, LOG2-E, expSum, scaled, expK, expR, expInner, expOf}
 use Rattle.elementary.specs.Cody.{THRESHOLD, FRAC-1-SQRT-PI, XBIG, four, erfcxAboveThreshold, erfcAbs, erfcOf, A, B, C, D, P, Q, sixteen, dIntOf, tildeOf, smoothenedExponentialOfNegativeSquare, abOf, cdOf, pqOf}

@@ -4,15 +4,15 @@ use mathlib.Core.Path.{_≡_, refl, sym}
 use mathlib.Core.Bool.{Bool, true, false, cond, true≢false}
 use Prim.Native.Nat.{ℕ, zero, suc}
 use lib.Dec.{T, lit≤}
-use lib.Ieee.{Float, nan, inf, fin, binary64, mul, div, sub, neg, lt, le, eq, ne, ofBits, ofInt, toSigned}
+use lib.Ieee.{Float, nan, inf, fin, mul, div, sub, neg, lt, le, ne, ofBits, ofInt, toSigned}
 use lib.Ieee.Scale.{finite}
-use Rattle.elementary.specs.Ops.{_⊕_, _⊗_, +0, half, one}
+use Rattle.elementary.specs.Ops.{+0, one}
 use Rattle.elementary.specs.Rules.{Rules}
 use Rattle.elementary.specs.Methods.{absOf}
 use Rattle.elementary.specs.Floor.{floorOf}
 use Rattle.elementary.specs.Exp.{expOf, expInner, expSum, scaled}
 use Rattle.elementary.specs.Cody.{erfcOf, erfcAbs, smoothenedExponentialOfNegativeSquare, tildeOf}
-use Rattle.elementary.specs.NormalDistribution.{cdfOf, Ends, midOf, bisected, lowest, highest, endsOf, inverseOf}
+use Rattle.elementary.specs.NormalDistribution.{cdfOf, midOf, bisected, lowest, highest, endsOf, inverseOf}
 use Rattle.elementary.specs.Bounds.{AtMost, side-finite, small-exact, half-at-most, add-at-most}
 use Rattle.elementary.specs.Compare.{lt-asym, le-of-not-lt, not-le-of-lt, equal-itself}
 use Rattle.elementary.specs.Finite.{cdf-at-most}

@@ -1,7 +1,7 @@
 -- Document 01's ln and powf(1/3), operation by operation. Definitions only.
 use mathlib.Core.Bool.{true, false, cond}
 use Prim.Native.Nat.{ℕ, zero, suc, _+_, _-_, _*_, _^_}
-use lib.Ieee.{Float, nan, inf, fin, binary64, low, size, minus, round, ofInt, lt, eq, ne}
+use lib.Ieee.{Float, nan, inf, binary64, low, size, minus, round, ofInt, lt, eq, ne}
 use Rattle.elementary.specs.Ops.{_⊕_, _⊖_, _⊗_, _⊘_, bits, whole, +0, half, one, two, H, L}
 use Rattle.elementary.specs.Sqrt.{inUnits}
 use Rattle.elementary.specs.Exp.{expOf}

@@ -1,8 +1,7 @@
 -- The small methods of f64: abs, max, is_zero, powi(2). Definitions only.
 -- `Examples` has closed cases.
 pub mod Examples
-use mathlib.Core.Bool.{Bool, true, false, cond}
-use Prim.Native.Nat.{ℕ}
+use mathlib.Core.Bool.{Bool, false, cond}
 use lib.Ieee.{Float, nan, inf, fin, lt, eq, ne}
 use Rattle.elementary.specs.Ops.{_⊗_, +0}
 

@@ -1,5 +1,5 @@
 -- The normal distribution, normal_distribution.rs over document 01's rules. Definitions only.
-use mathlib.Core.Bool.{Bool, true, false, cond}
+use mathlib.Core.Bool.{true, false, cond}
 use Prim.Native.Nat.{ℕ, zero, suc}
 use lib.Ieee.{Float, nan, inf, neg, lt, le, ne}
 use Rattle.elementary.specs.Ops.{_⊕_, _⊗_, bits, +0, half, one, two}

@@ -2,7 +2,7 @@
 -- to nearest, ties to even. Definitions only.
 use Prim.Native.Nat.{ℕ}
 use lib.IntN.{pos}
-use lib.Ieee.{Float, binary64, add, sub, mul, div, neg, ofBits, ofInt}
+use lib.Ieee.{Float, binary64, add, sub, mul, div, ofBits, ofInt}
 
 infixl 65 _⊕_ _⊖_
 infixl 70 _⊗_ _⊘_

@@ -1,6 +1,6 @@
 -- What a rule set (document 01's and 02's term) decides in this layer. The definitions that it reaches take it as an argument, so that a later rule
 -- set is a further value and no further text. Definitions only.
-use mathlib.Core.Bool.{Bool, true, false}
+use mathlib.Core.Bool.{Bool, true}
 
 pub record Rules : Type 0 where
   -- erfc's exponential factor multiplies its far arm too

@@ -1,6 +1,6 @@
 -- black.rs, operation by operation, and `black` of mod.rs. Definitions only.
-use mathlib.Core.Bool.{Bool, true, false, not, cond, _&&_, _||_}
-use Prim.Native.Nat.{ℕ, zero, suc, _+_, _*_}
+use mathlib.Core.Bool.{Bool, cond, _&&_, _||_}
+use Prim.Native.Nat.{ℕ, zero, suc}
 use lib.Ieee.{Float, binary64, neg, lt, le}
 use Rattle.elementary.specs.Ops.{_⊕_, _⊖_, _⊗_, _⊘_, bits, whole, +0, half, one, two}
 use Rattle.elementary.specs.Rules.{Rules}
@@ -10,9 +10,8 @@ use Rattle.elementary.specs.MulAdd.{fma}
 use Rattle.elementary.specs.Exp.{expOf}
 use Rattle.elementary.specs.Ln.{lnOf}
 use Rattle.elementary.specs.Cody.{erfcOf, erfcxOf}
-use Rattle.elementary.specs.NormalDistribution.{FRAC-1-SQRT-2}
 use Rattle.prices.specs.declared.inputs.OptionType.{OptionType}
-use Rattle.prices.specs.declared.inputs.OptionType.the-variants.{Call, Put}
+use Rattle.prices.specs.declared.inputs.OptionType.the-variants.{Call}
 use Rattle.prices.specs.declared.answer.Answer.{Answer}
 use Rattle.prices.specs.declared.answer.Answer.the-variants.{Value, Refused}
 use Rattle.prices.specs.Inputs.{negated, times}

@@ -1,5 +1,5 @@
 -- intrinsic.rs, operation by operation. Definitions only.
-use mathlib.Core.Bool.{true, false, cond}
+use mathlib.Core.Bool.{cond}
 use lib.Ieee.{Float, le, lt}
 use Rattle.elementary.specs.Ops.{_⊕_, _⊖_, _⊗_, _⊘_, bits, whole, +0, half, one}
 use Rattle.elementary.specs.Methods.{maxOf}

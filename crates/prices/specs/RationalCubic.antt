@@ -1,5 +1,5 @@
 -- rational_cubic.rs, operation by operation. Definitions only.
-use mathlib.Core.Bool.{Bool, true, false, not, cond, _&&_, _||_}
+use mathlib.Core.Bool.{Bool, false, not, cond, _&&_, _||_}
 use lib.Ieee.{Float, lt, le, eq, inf}
 use Rattle.elementary.specs.Ops.{_⊕_, _⊖_, _⊗_, _⊘_, bits, whole, +0, half, one}
 use Rattle.elementary.specs.Methods.{absOf, maxOf, isZero}

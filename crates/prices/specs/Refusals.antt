@@ -7,7 +7,7 @@ use native.Mathlib.Omega.{arith}
 use lib.Ieee.{Float, neg, lt, le}
 use Rattle.elementary.specs.Ops.{_⊖_, _⊗_, _⊕_, _⊘_, +0, half}
 use Rattle.elementary.specs.Rules.{Rules}
-use Rattle.elementary.specs.Methods.{absOf, maxOf}
+use Rattle.elementary.specs.Methods.{absOf}
 use Rattle.elementary.specs.Compare.{not-le-of-lt}
 use Rattle.prices.specs.declared.inputs.OptionType.{OptionType}
 use Rattle.prices.specs.declared.inputs.OptionType.the-variants.{Call}
@@ -16,7 +16,7 @@ use Rattle.prices.specs.declared.answer.Answer.the-variants.{Value, Refu
 use Rattle.prices.specs.Inputs.{negated, times}
 use Rattle.prices.specs.Answers.{numberOf}
 use Rattle.prices.specs.Intrinsic.{intrinsicOf}
-use Rattle.prices.specs.Black.{SMALL-T, smallTInner, smallTOf, asymptoticInner, asymptoticOf, codysOf, H-LARGE, isAsymptotic, regionOf, outOfTheMoney, added, callAt, callOf, normalisedBlackOf, isPositiveNormal, isFinite, scaledUp, priceOf, blackAt, blackOf}
+use Rattle.prices.specs.Black.{SMALL-T, smallTOf, asymptoticOf, codysOf, H-LARGE, isAsymptotic, regionOf, outOfTheMoney, added, callAt, callOf, normalisedBlackOf, isPositiveNormal, isFinite, scaledUp, priceOf, blackAt, blackOf}
 
 -- the answers of normalised_black_call
 pub data CallAnswer : Answer → Type 0 where

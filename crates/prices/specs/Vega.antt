@@ -1,7 +1,7 @@
 -- `normalised_vega` of so_rational.rs, operation by operation. Definitions only.
-use mathlib.Core.Bool.{true, false, cond, _||_}
+use mathlib.Core.Bool.{cond, _||_}
 use lib.Ieee.{Float, neg, le}
-use Rattle.elementary.specs.Ops.{_⊕_, _⊗_, _⊘_, bits, +0, half, one}
+use Rattle.elementary.specs.Ops.{_⊕_, _⊗_, _⊘_, bits, +0, half}
 use Rattle.elementary.specs.Methods.{absOf, squareOf}
 use Rattle.elementary.specs.Exp.{expOf}
 

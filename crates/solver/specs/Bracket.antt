@@ -1,5 +1,5 @@
 -- What a completed step says of the bracket's ends, and so what every record of a loop says. Of the steps nothing is used but the two moves. Assumes nothing.
-use mathlib.Core.Path.{_≡_, refl, sym, subst, _∙_, ap}
+use mathlib.Core.Path.{_≡_, refl, subst}
 use mathlib.Core.Bool.{Bool, true, false, cond, _&&_}
 use mathlib.Core.Logic.{_⊎_, inl, inr}
 use mathlib.Core.List.{List}
@@ -16,7 +16,7 @@ use Rattle.solver.specs.declared.state.State.{State}
 use Rattle.solver.specs.declared.state.Record.{Record}
 use Rattle.solver.specs.declared.state.Stepped.{Stepped}
 use Rattle.solver.specs.declared.state.Stepped.the-variants.{Went, Refused}
-use Rattle.solver.specs.Loop.{Turn, goes, ends, tested, run, At, Linked}
+use Rattle.solver.specs.Loop.{goes, ends, tested, run, At, Linked}
 use Rattle.solver.specs.Step.{Ends, endsAfter, dsAt, recordOf, stateAfter, withPrice, stepBy, isClose, turnOf, nextBy}
 use Rattle.solver.specs.Runs.{trace, linked, from}
 

@@ -1,24 +1,24 @@
 -- The half step: s + max(ds, −0.5 × s) is at least s / 2, for every ds and every finite s from 2^−1021 on. There s / 2 is exact, so that |−0.5 × s| is s / 2, and a
 -- sum of s and anything from −s / 2 on is s / 2 or more before it is rounded, and so after it. Assumes nothing.
-use mathlib.Core.Path.{_≡_, refl, sym, _∙_, ap, subst}
-use mathlib.Core.Bool.{Bool, true, false, not, cond, true≢false, _&&_}
+use mathlib.Core.Path.{_≡_, refl, sym, _∙_, subst}
+use mathlib.Core.Bool.{Bool, true, false, cond, true≢false}
 use mathlib.Core.Logic.{_⊎_, inl, inr, ⊎-elim}
-use Prim.Native.Nat.{ℕ, zero, suc, _+_, _-_, _*_, _%_, _^_, _≤_, _<_}
+use Prim.Native.Nat.{ℕ, zero, suc, _+_, _-_, _*_, _^_, _≤_, _<_}
 use native.Mathlib.Omega.{arith}
 use native.Mathlib.Decide.{decLe}
-use native.Mathlib.Nat.{mul-assoc, mul-comm, mul-left-comm, mul-right-comm, one-mul, mul-one, zero-mul, mul-pos, mul-le-mul-right, mul-lt-mul-of-pos-right, le-of-eq, le-trans, lt-of-lt-of-le, lt-of-mul-lt-mul-right, lt-of-le-of-lt, lt-irrefl, mul-le-mul-left}
-use lib.Dec.{T, ltb, leb, eqb, ltb→lt, leb→le, lit<}
+use native.Mathlib.Nat.{mul-assoc, mul-comm, mul-left-comm, mul-right-comm, one-mul, mul-one, zero-mul, mul-pos, mul-le-mul-right, mul-lt-mul-of-pos-right, le-of-eq, lt-of-lt-of-le, lt-of-mul-lt-mul-right, lt-of-le-of-lt, lt-irrefl, mul-le-mul-left}
+use lib.Dec.{T, lit<}
 use lib.Pow.{pow-add, pow-mono, pow-pos}
 use lib.IntN.{ℤ, pos, negsuc}
-use lib.Ieee.{Float, nan, inf, fin, binary64, up, down, ofBits, ofFields, odd, fits, round, sum, add, sub, mul, div, neg, lt, le, eq, ne}
-use lib.Ieee.Fits.{up-pos, down-pos, add-fits}
+use lib.Ieee.{Float, nan, inf, fin, binary64, up, down, ofBits, fits, round, sum, add, mul, div, neg, lt, le, ne}
+use lib.Ieee.Fits.{down-pos}
 use lib.Ieee.Bits.{is-true}
 use lib.Ieee.Exact.{HasValue, round-exact}
 use lib.Ieee.Order.{round-mono}
 use lib.Ieee.Scale.{finite}
-use lib.Ieee.Positive.{through, above-of-le, le→cross, first-pos}
+use lib.Ieee.Positive.{through, above-of-le, le→cross}
 use lib.Ieee.Compare.{nan-differs, differs-from-itself}
-use borrow.Author.Tests.{ltb-false, le-ltb, ne-eqb}
+use borrow.Author.Tests.{ltb-false, le-ltb}
 use Rattle.elementary.specs.Ops.{half, two}
 use Rattle.elementary.specs.Methods.{signOf, maxOf}
 use Rattle.elementary.specs.Held.{holds}

@@ -1,14 +1,15 @@
--- Demand 3 of document 00, sentence by sentence, over any rule set and any price, forward, strike, expiry and kind, refused ones included. A run is `solveWithTrail` with
--- a limit of n steps, n being max(limit, 0), and a trail of at least 48 × n bytes. Each statement is a record whose fields are the sentences; `demand-3` proves them.
+-- Demand 3 of document 00, sentence by sentence, over any rule set and any price, forward, strike, expiry and kind, refused ones included. A run is `solveWithTrail` at
+-- max(limit, 0) steps, `stepsOf limit`, with a trail of so many bytes. Each statement is a record whose fields are the sentences; `demand-3` proves them.
 -- Assumes nothing.
-use mathlib.Core.Path.{_≡_, refl, sym, ap, _∙_, subst}
-use mathlib.Core.Bool.{Bool, true, false, cond}
+use mathlib.Core.Path.{_≡_, refl, sym, ap, _∙_}
+use mathlib.Core.Bool.{Bool, true, false}
 use mathlib.Core.Logic.{_⊎_, inl, inr}
 use mathlib.Core.List.{List, [], _∷_, _++_, append-assoc, append-nil}
-use Prim.Native.Nat.{ℕ, zero, suc, _+_, _*_, _≤_, _<_, zero-le}
+use Prim.Native.Nat.{ℕ, _*_, _≤_, zero-le}
 use native.Mathlib.Omega.{arith}
 use lib.Dec.{T, ltb, eqb}
-use lib.ListN.{length, take, drop}
+use lib.IntN.{ℤ, pos, negsuc}
+use lib.ListN.{length, take}
 use lib.Seq.{take-at}
 use borrow.Author.Tests.{le-ltb}
 use lib.Ieee.{Float, binary64, lt, le, div, fits}
@@ -24,15 +25,15 @@ use Rattle.solver.specs.declared.state.Stepped.{Stepped}
 use Rattle.solver.specs.declared.state.Solution.{Solution}
 use Rattle.solver.specs.declared.state.Solution.the-variants.{Solved, Refused}
 use Rattle.solver.specs.RuleSets.{RuleSet}
-use Rattle.solver.specs.Loop.{Ending, tested, limited, refused, Run, run, byLimit, At, Linked, goes}
+use Rattle.solver.specs.Loop.{Ending, tested, limited, refused, run, byLimit, At, Linked, goes}
 use Rattle.solver.specs.Step.{Ends, lowerDs, upperDs, generalDs, halved, plain, stepBy, lowerStep, upperStep, generalStep, nextBy}
 use Rattle.solver.specs.Guess.{Begun, answered, stopped, looping}
-use Rattle.solver.specs.Solve.{begunOf, Solving, answerOf, ran, solvingOf, solveWithTrail}
+use Rattle.solver.specs.Solve.{begunOf, Solving, answerOf, ran, solvingOf, solveWithTrail, stepsOf}
 use Rattle.solver.specs.Trail.{recordBytes, allBytes, trailAfter}
 use Rattle.solver.specs.Runs.{begins, same, steps, trace, every}
-use Rattle.solver.specs.Bracket.{Moved, Completed, completed, NotBelow, NotAbove, EndFrom, left-never-falls, right-never-grows, left-from, right-from}
+use Rattle.solver.specs.Bracket.{Moved, completed, NotBelow, NotAbove, EndFrom, left-never-falls, right-never-grows, left-from, right-from}
 use Rattle.solver.specs.Half.{least, leaves-half}
-use Rattle.solver.specs.Forms.{LoopForm, lower, upper, lower-middle, upper-middle, upper-tail, Formed, known, ended, loop, begun-formed}
+use Rattle.solver.specs.Forms.{LoopForm, lower, upper, lower-middle, upper-middle, upper-tail, Formed, loop, begun-formed}
 
 -- ---- what is promised
 
@@ -77,13 +78,25 @@ Kept (answered v) rs = rs ≡ []
 Kept (stopped n) rs = rs ≡ []
 Kept (looping branch beta step st) rs = InLoop branch beta st rs
 
--- the whole of demand 3
-pub record Demand-3 (rules : RuleSet) (price forward strike expiry : Float) (kind : OptionType) : Type 0 where
-  pub longer-run : (n m bytes bytes′ : ℕ) → n ≤ m → 48 * n ≤ bytes → 48 * m ≤ bytes′
-      → Longer (solveWithTrail rules price forward strike expiry kind n bytes) (solveWithTrail rules price forward strike expiry kind m bytes′)
-  pub each-run : (n bytes : ℕ) → Alone n (solveWithTrail rules price forward strike expiry kind n bytes)
-  pub each-record : (n bytes : ℕ)
-      → Kept (begunOf rules (ltb bytes (48 * n)) price forward strike expiry kind) (solveWithTrail rules price forward strike expiry kind n bytes .records)
+-- a limit that is at most another, either of any sign
+abbrev pub NotAboveLimit : ℤ → ℤ → Type 0
+NotAboveLimit (pos n) (pos m) = n ≤ m
+NotAboveLimit (pos n) (negsuc m) = ⊥
+NotAboveLimit (negsuc n) (pos m) = T true
+NotAboveLimit (negsuc n) (negsuc m) = m ≤ n
+
+-- the whole of demand 3: a run of limit n with a trail of so many bytes
+module _ (rules : RuleSet) (price forward strike expiry : Float) (kind : OptionType) where
+  abbrev pub runOf : ℤ → ℕ → Solving
+  runOf limit bytes = solveWithTrail rules price forward strike expiry kind (stepsOf limit) bytes
+
+  abbrev pub beginOf : ℤ → ℕ → Begun
+  beginOf limit bytes = begunOf rules (ltb bytes (48 * stepsOf limit)) price forward strike expiry kind
+
+  pub record Demand-3 : Type 0 where
+    pub longer-run : (n m : ℤ) (bytes bytes′ : ℕ) → NotAboveLimit n m → 48 * stepsOf n ≤ bytes → 48 * stepsOf m ≤ bytes′ → Longer (runOf n bytes) (runOf m bytes′)
+    pub each-run : (n : ℤ) (bytes : ℕ) → Alone (stepsOf n) (runOf n bytes)
+    pub each-record : (n : ℤ) (bytes : ℕ) → Kept (beginOf n bytes) (runOf n bytes .records)
 
 -- ---- a short run and a long one
 all-length : (rs : List Record) → length (allBytes rs) ≡ 48 * length rs
@@ -195,11 +208,19 @@ kept (stopped k) f expiry n = refl
 kept (looping branch beta step st) (loop form) expiry n = loop-kept branch beta step st form n
 
 -- ---- demand 3
-pub demand-3 : (rules : RuleSet) (price forward strike expiry : Float) (kind : OptionType) → Demand-3 rules price forward strike expiry kind
-unfolding solveWithTrail
-demand-3 rules price forward strike expiry kind = record {
-  longer-run = λ n m bytes bytes′ l a b.
-      rw (le-ltb bytes (48 * n) a, le-ltb bytes′ (48 * m) b) (longer (begunOf rules false price forward strike expiry kind) expiry n m l);
-  each-run = λ n bytes. alone (begunOf rules (ltb bytes (48 * n)) price forward strike expiry kind) expiry n;
-  each-record = λ n bytes. kept (begunOf rules (ltb bytes (48 * n)) price forward strike expiry kind) (begun-formed rules (ltb bytes (48 * n)) price forward strike expiry kind) expiry n;
-}
+in-order : (n m : ℤ) → NotAboveLimit n m → stepsOf n ≤ stepsOf m
+in-order (pos n) (pos m) h = h
+in-order (pos n) (negsuc m) h = absurd h
+in-order (negsuc n) (pos m) h = zero-le
+in-order (negsuc n) (negsuc m) h = zero-le
+
+module _ (rules : RuleSet) (price forward strike expiry : Float) (kind : OptionType) where
+  pub demand-3 : Demand-3 rules price forward strike expiry kind
+  unfolding solveWithTrail
+  demand-3 = record {
+    longer-run = λ n m bytes bytes′ l a b.
+        rw (le-ltb bytes (48 * stepsOf n) a, le-ltb bytes′ (48 * stepsOf m) b) (longer (begunOf rules false price forward strike expiry kind) expiry (stepsOf n) (stepsOf m) (in-order n m l));
+    each-run = λ n bytes. alone (beginOf rules price forward strike expiry kind n bytes) expiry (stepsOf n);
+    each-record = λ n bytes.
+        kept (beginOf rules price forward strike expiry kind n bytes) (begun-formed rules (ltb bytes (48 * stepsOf n)) price forward strike expiry kind) expiry (stepsOf n);
+  }

@@ -1,13 +1,13 @@
 -- Demand 3 of any loop: a longer limit gives the same run or continues it, the steps keep within the limit, and what a step keeps or moves is so in every
 -- record. Assumes nothing.
-use mathlib.Core.Path.{_≡_, refl, sym, _∙_, ap}
-use mathlib.Core.Bool.{Bool, true, false}
+use mathlib.Core.Path.{_≡_, refl, _∙_, ap}
+use mathlib.Core.Bool.{false}
 use mathlib.Core.Logic.{_⊎_, inl, inr, ⊎-elim}
 use mathlib.Core.List.{List, [], _∷_, _++_}
 use Prim.Native.Nat.{ℕ, zero, suc, _≤_, zero-le, suc-le-suc}
 use native.Mathlib.Omega.{arith}
 use lib.ListN.{length}
-use Rattle.solver.specs.Loop.{Ending, tested, limited, refused, Turn, goes, ends, Run, after, follow, run, byLimit, At, here, there, Linked}
+use Rattle.solver.specs.Loop.{Turn, goes, ends, Run, after, follow, run, byLimit, At, here, there, Linked}
 
 module _ {S R : Type 0} where
   -- the records of w begin with those of v

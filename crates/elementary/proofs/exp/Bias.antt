@@ -1,13 +1,13 @@
 -- A whole number k, and k + 2048 as a float and as a whole number. Assumes nothing.
 use mathlib.Core.Path.{_≡_, refl, sym, ap, _∙_}
 use mathlib.Core.Bool.{Bool, true, false, cond}
-use Prim.Native.Nat.{ℕ, zero, suc, _+_, _-_, _*_, _/_, _^_, min, _≤_, _<_}
-use native.Mathlib.Nat.{le-trans, lt-of-le-of-lt, mul-one, mul-comm, mul-assoc, add-mul, mul-sub, mul-div-cancel, mul-pos, mul-lt-mul-of-pos-right, min-eq-left}
+use Prim.Native.Nat.{ℕ, zero, suc, _+_, _-_, _*_, _/_, _^_, min, _≤_}
+use native.Mathlib.Nat.{le-trans, lt-of-le-of-lt, mul-one, mul-comm, add-mul, mul-sub, mul-div-cancel, mul-pos, mul-lt-mul-of-pos-right, min-eq-left}
 use native.Mathlib.Omega.{arith}
-use lib.Dec.{T, ltb, leb, lit<, lit≤, le→leb}
-use lib.IntN.{ℤ, pos, negsuc, negℤ}
+use lib.Dec.{T, lit<, lit≤, le→leb}
+use lib.IntN.{pos, negℤ}
 use borrow.Author.Tests.{lt-ltb, le-leb, lt-leb}
-use lib.Ieee.{Float, nan, inf, fin, binary64, up, down, round, sum, add, ofBits, ofInt, minus, toSigned, toUnsigned, inUnsigned, inFloat}
+use lib.Ieee.{Float, nan, inf, fin, binary64, up, down, sum, add, ofBits, ofInt, minus, toSigned, toUnsigned, inUnsigned, inFloat}
 use lib.Ieee.Fits.{down-pos}
 use lib.Ieee.Exact.{HasValue}
 use lib.Ieee.Scale.{round-same}

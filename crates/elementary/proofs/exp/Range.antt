@@ -1,6 +1,6 @@
 -- Between exp's two ends y is at most 746 in size, so k is a whole number of at most 1078. Assumes nothing.
 use mathlib.Core.Path.{_≡_, refl, sym, _∙_}
-use mathlib.Core.Bool.{Bool, true, false, true≢false}
+use mathlib.Core.Bool.{true, false, true≢false}
 use Prim.Native.Nat.{_*_, _^_}
 use native.Mathlib.Omega.{arith}
 use lib.Dec.{lit≤}
@@ -8,7 +8,6 @@ use lib.Pow.{pow-pos}
 use borrow.Author.Tests.{ltb-false}
 use lib.Ieee.{Float, nan, inf, fin, up, down, lt, ne, neg, ofBits}
 use lib.Ieee.Compare.{nan-differs}
-use Rattle.elementary.specs.Ops.{half}
 use Rattle.elementary.specs.Exp.{LARGEST, LEAST, LOG2-E, expK, Whole}
 use Rattle.elementary.specs.Bounds.{AtMost, small-exact, unsigned, mul-by, add-at-most, floor-whole}
 use Rattle.elementary.specs.Finite.{half-side}

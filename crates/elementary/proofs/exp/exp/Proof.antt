@@ -1,5 +1,4 @@
 -- `exp::exp` meets its contract: each way out is the arm that the tests before it leave. Assumes nothing.
-use mathlib.Core.Path.{_∙_}
 use lib.Ieee.{div, ofBits}
 use lib.Ieee.Compare.{differs-from-itself}
 use Rattle.elementary.specs.Exp.{expOf}
