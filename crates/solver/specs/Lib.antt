@@ -14,3 +14,4 @@ pub mod Half
 pub mod Forms
 pub mod Promises
 pub mod Table
+pub mod Examples
