@@ -302,7 +302,8 @@ pub fn normalised_black(x: f64, s: f64, option_type: OptionType) -> Answer
 
 // ---- black
 
-fn is_positive_normal(x: f64) -> bool
+// Not so for document 01's 2, 3 and 4.
+pub fn is_positive_normal(x: f64) -> bool
     ensures { λ r. ⌜ r ≡ isPositiveNormal x ⌝ }
 {
     if x >= 2.2250738585072014e-308 {
@@ -312,7 +313,8 @@ fn is_positive_normal(x: f64) -> bool
     }
 }
 
-fn is_finite(x: f64) -> bool
+// Not so for document 01's 1 and 5.
+pub fn is_finite(x: f64) -> bool
     ensures { λ r. ⌜ r ≡ isFinite x ⌝ }
 {
     if x >= -1.7976931348623157e308 {

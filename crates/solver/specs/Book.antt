@@ -8,7 +8,6 @@ use lib.ListN.{length, take, drop, getD, replicate}
 use lib.Ieee.{Float, binary64, ofBits}
 use Rattle.prices.specs.declared.inputs.OptionType.{OptionType}
 use Rattle.prices.specs.declared.inputs.OptionType.the-variants.{Call, Put}
-use Rattle.prices.specs.Black.{isPositiveNormal, isFinite}
 use Rattle.solver.specs.declared.state.Solution.{Solution}
 use Rattle.solver.specs.declared.state.Solution.the-variants.{Solved, Refused}
 use Rattle.solver.specs.declared.state.Filing.{Filing}
@@ -16,8 +15,8 @@ use Rattle.solver.specs.declared.state.Filing.the-variants.{Filed, Refus
 use Rattle.solver.specs.declared.state.Checking.{Checking}
 use Rattle.solver.specs.declared.state.Checking.the-variants.{Agrees, Differs, Refused as NotChecked}
 use Rattle.solver.specs.RuleSets.{RuleSet}
-use Rattle.solver.specs.Solve.{solveOf, stepsOf}
-use Rattle.solver.specs.Trail.{bytesOf, floatBytes}
+use Rattle.solver.specs.Solve.{inputNumber, solveOf, stepsOf}
+use Rattle.solver.specs.Trail.{bytesOf, floatBytes, part, numberAt, floatAt, laid}
 
 -- ---- a record's bytes
 
@@ -44,20 +43,6 @@ filedBytes price forward strike expiry kind limit volatility branch ending steps
     ++ (kindByte kind ∷ branch ∷ ending ∷ replicate 13 0)
 
 -- ---- a record read
-
--- the number whose bytes these are, the lowest first
-abbrev pub numberFrom : List ℕ → ℕ
-numberFrom [] = 0
-numberFrom (b ∷ bs) = b + 256 * numberFrom bs
-
-abbrev pub part : ℕ → ℕ → List ℕ → List ℕ
-part at size bytes = take size (drop at bytes)
-
-abbrev pub numberAt : ℕ → ℕ → List ℕ → ℕ
-numberAt at size bytes = numberFrom (part at size bytes)
-
-abbrev pub floatAt : ℕ → List ℕ → Float
-floatAt at bytes = ofBits binary64 (numberAt at 8 bytes)
 
 -- max(limit, 0) of a limit's 32 bits
 abbrev pub stepsFrom : ℕ → ℕ
@@ -130,7 +115,7 @@ pub record FiledBook : Type 0 where
 
 module _ (price forward strike expiry : Float) (kind : OptionType) (limit : ℤ) (book : List ℕ) (used : ℕ) where
   abbrev pub laidIn : List ℕ → List ℕ
-  laidIn r = take (64 * used) book ++ r ++ drop (64 * used + 64) book
+  laidIn r = laid (64 * used) r book
 
   abbrev pub filed : Solution → FiledBook
   filed (Solved volatility branch ending steps) =
@@ -143,10 +128,5 @@ module _ (price forward strike expiry : Float) (kind : OptionType) (limit : ℤ)
   unfoldable pub fileOf : RuleSet → FiledBook
   fileOf rules =
       let solved = filed (solveOf rules price forward strike expiry kind (stepsOf limit) .answer) in
-      cond (isFinite price)
-      (cond (isPositiveNormal forward)
-      (cond (isPositiveNormal strike)
-      (cond (isPositiveNormal expiry) (cond (leb used (slots book)) (cond (ltb used (slots book)) solved (unfiled 22)) (unfiled 23)) (unfiled 4))
-      (unfiled 3))
-      (unfiled 2))
-      (unfiled 1)
+      let number = inputNumber price forward strike expiry in
+      cond (eqb number 0) (cond (leb used (slots book)) (cond (ltb used (slots book)) solved (unfiled 22)) (unfiled 23)) (unfiled number)

@@ -17,7 +17,8 @@ use Rattle.solver.specs.declared.state.Record.{Record}
 use Rattle.solver.specs.declared.state.Stepped.{Stepped}
 use Rattle.solver.specs.declared.state.Stepped.the-variants.{Went, Refused}
 use Rattle.solver.specs.Loop.{goes, ends, tested, run, At, Linked}
-use Rattle.solver.specs.Step.{Ends, endsAfter, dsAt, recordOf, stateAfter, withPrice, stepBy, isClose, turnOf, nextBy}
+use Rattle.solver.specs.declared.state.Ends.{Ends}
+use Rattle.solver.specs.Step.{endsAfter, dsAt, recordOf, stateAfter, withPrice, stepBy, isClose, turnOf, nextBy}
 use Rattle.solver.specs.Runs.{trace, linked, from}
 
 -- ---- a completed step, from the state that it starts at

@@ -2,7 +2,7 @@
 -- value of binary64. Assumes nothing.
 use mathlib.Core.Bool.{Bool, true, false, cond}
 use Prim.Native.Nat.{ℕ}
-use lib.Dec.{T}
+use lib.Dec.{T, eqb}
 use lib.Ieee.{Float, binary64, neg, lt, le, fits}
 use lib.Ieee.Fits.{mul-fits, div-fits, cond-fits}
 use lib.Ieee.Bits.{ofBits-fits}
@@ -17,9 +17,9 @@ use Rattle.solver.specs.declared.state.State.{State}
 use Rattle.solver.specs.declared.state.Stepped.{Stepped}
 use Rattle.solver.specs.RuleSets.{RuleSet}
 use Rattle.solver.specs.Step.{lowerStep, upperStep, generalStep}
-use Rattle.prices.specs.Black.{callOf, isPositiveNormal, isFinite}
-use Rattle.solver.specs.Guess.{isBelowHorizon, inverseFLowerMap, onValue, lowerGuess, upperGuess, Begun, answered, stopped, looping, withValue, lowerBegun, upperBegun, mappedBegun, normalisedBegun}
-use Rattle.solver.specs.Solve.{overExpiry, acceptedBegun, begunOf}
+use Rattle.prices.specs.Black.{callOf}
+use Rattle.solver.specs.Guess.{isBelowHorizon, inverseFLowerMap, onValue, lowerGuess, upperGuess, Begun, answered, stopped, looping, withValue, lowerBegun, tailBegun, upperBegun, mappedBegun, normalisedBegun}
+use Rattle.solver.specs.Solve.{overExpiry, acceptedBegun, inputNumber, begunOf}
 
 pub data LoopForm : ℕ → Float → (State → Stepped) → State → Type 0 where
   lower : (rules : Rules) (x : Float) {beta : Float} {st : State} → T (fits binary64 (st .s)) → LoopForm 1 beta (lowerStep rules x beta) st
@@ -61,12 +61,15 @@ unfolding lowerBegun lowerGuess
 lower-formed rules x beta s-c b-c v-c =
     with-value (callOf rules x (s-c ⊖ b-c ⊘ v-c)) _ (λ b-l. either (lt beta b-l) (on-value _ _ _ (λ f. loop (lower rules x (lower-fits rules x _)))) (with-value _ _ (λ s. loop (lower-middle rules x))))
 
+tail-formed : (rules : Rules) (x beta b-max b-h s-h : Float) → Formed (tailBegun rules x beta b-max b-h s-h)
+unfolding tailBegun upperGuess
+tail-formed rules x beta b-max b-h s-h =
+    on-value _ _ _ (λ f. either (lt (half ⊗ b-max) beta) (loop (upper rules b-max x (upper-fits rules _))) (loop (upper-tail rules x)))
+
 upper-formed : (rules : Rules) (x beta b-max s-c b-c v-c : Float) → Formed (upperBegun rules x beta b-max s-c b-c v-c)
-unfolding upperBegun upperGuess
+unfolding upperBegun
 upper-formed rules x beta b-max s-c b-c v-c =
-    with-value (callOf rules x _) _ (λ b-h.
-    either (le beta b-h) (with-value _ _ (λ s. loop (upper-middle rules x)))
-    (on-value _ _ _ (λ f. either (lt (half ⊗ b-max) beta) (loop (upper rules b-max x (upper-fits rules _))) (loop (upper-tail rules x)))))
+    with-value (callOf rules x _) _ (λ b-h. either (le beta b-h) (with-value _ _ (λ s. loop (upper-middle rules x))) (tail-formed rules x beta b-max b-h _))
 
 mapped-formed : (rules : Rules) (x beta : Float) → Formed (mappedBegun rules x beta)
 unfolding mappedBegun
@@ -88,8 +91,4 @@ accepted-formed rules price forward strike expiry kind =
 pub begun-formed : (rules : RuleSet) (short : Bool) (price forward strike expiry : Float) (kind : OptionType) → Formed (begunOf rules short price forward strike expiry kind)
 unfolding begunOf
 begun-formed rules short price forward strike expiry kind =
-    either (isFinite price)
-    (either (isPositiveNormal forward)
-    (either (isPositiveNormal strike) (either (isPositiveNormal expiry) (either short ended (accepted-formed rules price forward strike expiry kind)) ended) ended)
-    ended)
-    ended
+    either (eqb (inputNumber price forward strike expiry) 0) (either short ended (accepted-formed rules price forward strike expiry kind)) ended

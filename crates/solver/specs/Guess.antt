@@ -13,6 +13,7 @@ use Rattle.elementary.specs.NormalDistribution.{cdfOf, inverseOf, inverseFUpper
 use Rattle.prices.specs.declared.inputs.OptionType.{OptionType}
 use Rattle.prices.specs.declared.answer.Answer.{Answer}
 use Rattle.prices.specs.declared.answer.Answer.the-variants.{Value, Refused as Number}
+use Rattle.prices.specs.declared.rational_cubic.Side.{Side}
 use Rattle.prices.specs.declared.rational_cubic.Side.the-variants.{Left, Right}
 use Rattle.prices.specs.Inputs.{times}
 use Rattle.prices.specs.Intrinsic.{intrinsicOf}
@@ -20,8 +21,11 @@ use Rattle.prices.specs.Vega.{eighth, vegaOf}
 use Rattle.prices.specs.Black.{callOf}
 use Rattle.prices.specs.RationalCubic.{MIN, interpolationOf, convexParameterOf}
 use Rattle.solver.specs.declared.state.State.{State}
+use Rattle.solver.specs.declared.state.Mapped.{Mapped}
+use Rattle.solver.specs.declared.state.Start.{Start}
+use Rattle.solver.specs.declared.state.Start.the-variants.{Answered, Stopped, Looping}
 use Rattle.solver.specs.declared.state.Stepped.{Stepped}
-use Rattle.solver.specs.Step.{quarter, lowerStep, upperStep, generalStep}
+use Rattle.solver.specs.Step.{quarter, lowerStep, upperStep, generalStep, branchStep}
 
 -- 1.3407807929942596e154, √3, 2π/√27, √(π/2), √(1/3), π and π/6, as the Rust rounds them
 abbrev pub SQRT-DBL-MAX : Float
@@ -50,12 +54,6 @@ abbrev pub isBelowHorizon : Float → Bool
 isBelowHorizon x = lt (absOf x) +0
 
 -- ---- the maps
-
--- a map's value with its first two derivatives
-pub record Mapped : Type 0 where
-  pub f : Float
-  pub fp : Float
-  pub fpp : Float
 
 unfoldable pub inverseFLowerMap : Rules → Float → Float → Float
 inverseFLowerMap rules x f =
@@ -102,23 +100,25 @@ lowerGuess rules x beta b-l s-l =
     onValue (interpolationOf beta +0 b-l +0 (m .f) one (m .fp) r) (λ f. inverseFLowerMap rules x (cond (le f +0) instead f))
 
 -- between two places with their prices and vegas
-unfoldable pub middleGuess : Float → Float → Float → Float → Float → Float → Float → Bool → Answer
-middleGuess beta b-1 b-2 s-1 s-2 v-1 v-2 from-right =
-    let side = cond from-right Right Left in
+unfoldable pub middleGuess : Float → Float → Float → Float → Float → Float → Float → Side → Answer
+middleGuess beta b-1 b-2 s-1 s-2 v-1 v-2 side =
     let r = convexParameterOf b-1 b-2 s-1 s-2 (one ⊘ v-1) (one ⊘ v-2) +0 false side in
     interpolationOf beta b-1 b-2 s-1 s-2 (one ⊘ v-1) (one ⊘ v-2) r
 
 -- f stays −f64::MAX where the second derivative is too large for the cubic
+abbrev pub upperF : Float → Float → Float → Mapped → Answer
+upperF beta b-max b-h m =
+    let r = convexParameterOf b-h b-max (m .f) +0 (m .fp) (neg half) (m .fpp) true Left in
+    let interpolated = interpolationOf beta b-h b-max (m .f) +0 (m .fp) (neg half) r in
+    cond (lt (neg SQRT-DBL-MAX) (m .fpp) && lt (m .fpp) SQRT-DBL-MAX) interpolated (Value MIN)
+
 unfoldable pub upperGuess : Rules → Float → Float → Float → Float → Float → Answer
 upperGuess rules x beta b-max b-h s-h =
     let m = upperMap rules x s-h in
-    let r = convexParameterOf b-h b-max (m .f) +0 (m .fp) (neg half) (m .fpp) true Left in
-    let interpolated = interpolationOf beta b-h b-max (m .f) +0 (m .fp) (neg half) r in
     let h = b-max ⊖ b-h in
     let t = (beta ⊖ b-h) ⊘ h in
     let instead = (m .f ⊗ (one ⊖ t) ⊕ half ⊗ h ⊗ t) ⊗ (one ⊖ t) in
-    onValue (cond (lt (neg SQRT-DBL-MAX) (m .fpp) && lt (m .fpp) SQRT-DBL-MAX) interpolated (Value MIN))
-    (λ f. inverseFUpperMapOf rules (cond (le f +0) instead f))
+    onValue (upperF beta b-max b-h m) (λ f. inverseFUpperMapOf rules (cond (le f +0) instead f))
 
 -- ---- where a run begins
 
@@ -129,6 +129,12 @@ pub data Begun : Type 0 where
   stopped : ℕ → Begun
   -- the branch, the target, the loop's step and the state before the first one
   looping : ℕ → Float → (State → Stepped) → State → Begun
+
+-- what the code's three cases say; the branch tells the loop's step
+abbrev pub begunFrom : Rules → Start → Begun
+begunFrom rules (Answered v) = answered v
+begunFrom rules (Stopped n) = stopped n
+begunFrom rules (Looping branch b-max x beta st) = looping branch beta (branchStep rules branch b-max x beta) st
 
 unfoldable pub withValue : Answer → (Float → Begun) → Begun
 withValue (Value b) f = f b
@@ -144,18 +150,27 @@ lowerBegun rules x beta s-c b-c v-c =
     let s-l = s-c ⊖ b-c ⊘ v-c in
     withValue (callOf rules x s-l) (λ b-l.
     let loop-1 = withValue (lowerGuess rules x beta b-l s-l) (λ s. looping 1 beta (lowerStep rules x beta) (startAt MIN s-l s)) in
-    let loop-2 = withValue (middleGuess beta b-l b-c s-l s-c (vegaOf x s-l) v-c true) (λ s. looping 2 beta (generalStep rules x beta) (startAt s-l s-c s)) in
+    let loop-2 = withValue (middleGuess beta b-l b-c s-l s-c (vegaOf x s-l) v-c Right) (λ s. looping 2 beta (generalStep rules x beta) (startAt s-l s-c s)) in
     cond (lt beta b-l) loop-1 loop-2)
+
+-- s_h, from b_c on
+abbrev pub upperPlace : Float → Float → Float → Float → Float
+upperPlace b-max s-c b-c v-c = cond (lt MIN v-c) (s-c ⊕ (b-max ⊖ b-c) ⊘ v-c) s-c
+
+-- above b_h
+unfoldable pub tailBegun : Rules → Float → Float → Float → Float → Float → Begun
+tailBegun rules x beta b-max b-h s-h =
+    let loop-4 : Float → Begun = λ s. looping 4 beta (upperStep rules b-max x beta) (startAt s-h MAX s) in
+    let loop-5 : Float → Begun = λ s. looping 5 beta (generalStep rules x beta) (startAt s-h MAX s) in
+    withValue (upperGuess rules x beta b-max b-h s-h) (λ s. cond (lt (half ⊗ b-max) beta) (loop-4 s) (loop-5 s))
 
 -- from b_c on
 unfoldable pub upperBegun : Rules → Float → Float → Float → Float → Float → Float → Begun
 upperBegun rules x beta b-max s-c b-c v-c =
-    let s-h = cond (lt MIN v-c) (s-c ⊕ (b-max ⊖ b-c) ⊘ v-c) s-c in
+    let s-h = upperPlace b-max s-c b-c v-c in
     withValue (callOf rules x s-h) (λ b-h.
-    let loop-3 = withValue (middleGuess beta b-c b-h s-c s-h v-c (vegaOf x s-h) false) (λ s. looping 3 beta (generalStep rules x beta) (startAt s-c s-h s)) in
-    let loop-4 : Float → Begun = λ s. looping 4 beta (upperStep rules b-max x beta) (startAt s-h MAX s) in
-    let loop-5 : Float → Begun = λ s. looping 5 beta (generalStep rules x beta) (startAt s-h MAX s) in
-    let tail = withValue (upperGuess rules x beta b-max b-h s-h) (λ s. cond (lt (half ⊗ b-max) beta) (loop-4 s) (loop-5 s)) in
+    let loop-3 = withValue (middleGuess beta b-c b-h s-c s-h v-c (vegaOf x s-h) Left) (λ s. looping 3 beta (generalStep rules x beta) (startAt s-c s-h s)) in
+    let tail = tailBegun rules x beta b-max b-h s-h in
     cond (le beta b-h) loop-3 tail)
 
 -- the target and x after all mapping

@@ -4,6 +4,7 @@ pub mod Loop
 pub mod Step
 pub mod Guess
 pub mod Solve
+pub mod Answers
 pub mod Trail
 pub mod Book
 pub mod Listing
@@ -15,3 +16,5 @@ pub mod Forms
 pub mod Promises
 pub mod Table
 pub mod Examples
+pub mod Laid
+pub mod Lines

@@ -9,6 +9,7 @@ use Rattle.solver.specs.declared.state.Solution.{Solution}
 use Rattle.solver.specs.declared.state.Solution.the-variants.{Solved, Refused}
 use Rattle.solver.specs.RuleSets.{RuleSet}
 use Rattle.solver.specs.Book.{resolved}
+use Rattle.solver.specs.Trail.{laid}
 
 -- a number in decimal, for one of at most k digits
 unfoldable pub decimalBy : ℕ → ℕ → List ℕ
@@ -37,9 +38,20 @@ abbrev pub told : Solution → List ℕ
 told (Solved volatility branch ending steps) = 32 ∷ hexBy 16 (toBits binary64 volatility) ++ spaced steps ++ spaced branch ++ spaced ending
 told (Refused n steps) = 32 ∷ 82 ∷ 69 ∷ 70 ∷ spaced n
 
--- the line of record i; a last part under 64 bytes gives REF 23
+-- what the bytes of a record answer; a last part under 64 bytes gives 23
+unfoldable pub answerAt : RuleSet → List ℕ → Solution
+answerAt rules bytes = let again = resolved rules bytes in cond (ltb (length bytes) 64) (Refused 23 0) again
+
+-- the line of record i
 unfoldable pub lineOf : RuleSet → ℕ → List ℕ → List ℕ
-lineOf rules i bytes =
-    let again = resolved rules bytes in
-    let answer = cond (ltb (length bytes) 64) (Refused 23 0) again in
-    decimal i ++ told answer ++ (10 ∷ [])
+lineOf rules i bytes = decimal i ++ told (answerAt rules bytes) ++ (10 ∷ [])
+
+-- a line laid at the start of a buffer, with its length; a buffer under 128 bytes, in which a line may not fit, takes none
+pub record Lined : Type 0 where
+  pub count : ℕ
+  pub bytes : List ℕ
+
+unfoldable pub lineIn : RuleSet → ℕ → List ℕ → List ℕ → Lined
+lineIn rules i bytes out =
+    let line = lineOf rules i bytes in
+    cond (ltb (length out) 128) (record { count = 0; bytes = out }) (record { count = length line; bytes = laid 0 line out })

@@ -26,8 +26,10 @@ use Rattle.solver.specs.declared.state.Solution.{Solution}
 use Rattle.solver.specs.declared.state.Solution.the-variants.{Solved, Refused}
 use Rattle.solver.specs.RuleSets.{RuleSet}
 use Rattle.solver.specs.Loop.{Ending, tested, limited, refused, run, byLimit, At, Linked, goes}
-use Rattle.solver.specs.Step.{Ends, lowerDs, upperDs, generalDs, halved, plain, stepBy, lowerStep, upperStep, generalStep, nextBy}
+use Rattle.solver.specs.declared.state.Ends.{Ends}
+use Rattle.solver.specs.Step.{lowerDs, upperDs, generalDs, halved, plain, stepBy, lowerStep, upperStep, generalStep, nextBy}
 use Rattle.solver.specs.Guess.{Begun, answered, stopped, looping}
+use Rattle.solver.specs.Answers.{stepsIn, endedByLimit}
 use Rattle.solver.specs.Solve.{begunOf, Solving, answerOf, ran, solvingOf, solveWithTrail, stepsOf}
 use Rattle.solver.specs.Trail.{recordBytes, allBytes, trailAfter}
 use Rattle.solver.specs.Runs.{begins, same, steps, trace, every}
@@ -36,16 +38,6 @@ use Rattle.solver.specs.Half.{least, leaves-half}
 use Rattle.solver.specs.Forms.{LoopForm, lower, upper, lower-middle, upper-middle, upper-tail, Formed, loop, begun-formed}
 
 -- ---- what is promised
-
--- the steps that an answer tells
-abbrev pub stepsIn : Solution → ℕ
-stepsIn (Solved v branch ending steps) = steps
-stepsIn (Refused number steps) = steps
-
--- the run ended for its limit: ending 2
-abbrev pub endedByLimit : Solution → Bool
-endedByLimit (Solved v branch ending steps) = eqb ending 2
-endedByLimit (Refused number steps) = false
 
 -- A short run and a long one: the long trail's records begin with all the short trail's, bit for bit, whatever the trails held before; and if the short run ends for any
 -- cause but its limit, both have the same records and the same answer.
@@ -99,12 +91,12 @@ module _ (rules : RuleSet) (price forward strike expiry : Float) (kind : OptionT
     pub each-record : (n : ℤ) (bytes : ℕ) → Kept (beginOf n bytes) (runOf n bytes .records)
 
 -- ---- a short run and a long one
-all-length : (rs : List Record) → length (allBytes rs) ≡ 48 * length rs
+pub all-length : (rs : List Record) → length (allBytes rs) ≡ 48 * length rs
 unfolding recordBytes
 all-length [] = refl
 all-length (r ∷ rs) = omega (arith, all-length rs)
 
-all-append : (rs qs : List Record) → allBytes (rs ++ qs) ≡ allBytes rs ++ allBytes qs
+pub all-append : (rs qs : List Record) → allBytes (rs ++ qs) ≡ allBytes rs ++ allBytes qs
 all-append [] qs = refl
 all-append (r ∷ rs) qs = rw (all-append rs qs, append-assoc)
 

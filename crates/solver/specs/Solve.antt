@@ -1,9 +1,9 @@
 -- solve: `implied_volatility_from_a_transformed_rational_guess_with_limited_iterations` with document 01's refusals. Definitions only.
-use mathlib.Core.Bool.{Bool, false, cond}
+use mathlib.Core.Bool.{Bool, false, cond, _&&_}
 use mathlib.Core.List.{List, []}
 use Prim.Native.Nat.{ℕ, _*_}
 use lib.ListN.{length}
-use lib.Dec.{ltb}
+use lib.Dec.{ltb, eqb}
 use lib.IntN.{ℤ, pos, negsuc}
 use lib.Ieee.{Float, binary64, lt, le}
 use Rattle.elementary.specs.Ops.{_⊖_, _⊗_, _⊘_, +0, MAX}
@@ -42,15 +42,17 @@ acceptedBegun rules price forward strike expiry kind =
     let guessed = cond (lt +0 (times kind x)) mapped direct in
     cond (lt price intrinsic) (answered MIN) (cond (le (rules .cap kind forward strike) price) (answered MAX) guessed)
 
--- 1, 2, 3, 4 in this order, then 21 where the trail is too short
+-- 1, 2, 3, 4 in this order, or 0 where none is met
+unfoldable pub inputNumber : Float → Float → Float → Float → ℕ
+inputNumber price forward strike expiry =
+    cond (isFinite price) (cond (isPositiveNormal forward) (cond (isPositiveNormal strike) (cond (isPositiveNormal expiry) 0 4) 3) 2) 1
+
+-- 1 to 4, then 21 where the trail is too short
 unfoldable pub begunOf : RuleSet → Bool → Float → Float → Float → Float → OptionType → Begun
 begunOf rules short price forward strike expiry kind =
+    let number = inputNumber price forward strike expiry in
     let accepted = acceptedBegun rules price forward strike expiry kind in
-    cond (isFinite price)
-    (cond (isPositiveNormal forward)
-    (cond (isPositiveNormal strike) (cond (isPositiveNormal expiry) (cond short (stopped 21) accepted) (stopped 4)) (stopped 3))
-    (stopped 2))
-    (stopped 1)
+    cond (eqb number 0) (cond short (stopped 21) accepted) (stopped number)
 
 -- ---- the run
 
@@ -74,7 +76,12 @@ solvingOf (answered v) expiry n = record { records = []; answer = Solved v 0 0 0
 solvingOf (stopped k) expiry n = record { records = []; answer = Refused k 0 }
 solvingOf (looping branch beta step st) expiry n = ran branch (sqrtOf binary64 expiry) (run (nextBy step) n st)
 
--- solve with no trail; n is max(limit, 0)
+-- with a trail of so many bytes where `keep` is true, else with none; n is max(limit, 0)
+unfoldable pub solvingWith : RuleSet → Bool → ℕ → Float → Float → Float → Float → OptionType → ℕ → Solving
+solvingWith rules keep bytes price forward strike expiry kind n =
+    solvingOf (begunOf rules (keep && ltb bytes (48 * n)) price forward strike expiry kind) expiry n
+
+-- solve with no trail
 unfoldable pub solveOf : RuleSet → Float → Float → Float → Float → OptionType → ℕ → Solving
 solveOf rules price forward strike expiry kind n = solvingOf (begunOf rules false price forward strike expiry kind) expiry n
 

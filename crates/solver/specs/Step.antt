@@ -1,5 +1,7 @@
 -- The three steps of so_rational.rs, operation by operation. Definitions only.
 use mathlib.Core.Bool.{Bool, cond, _&&_, _||_}
+use Prim.Native.Nat.{ℕ}
+use lib.Dec.{eqb}
 use lib.Ieee.{Float, neg, lt, le}
 use Rattle.elementary.specs.Ops.{_⊕_, _⊖_, _⊗_, _⊘_, bits, whole, +0, half, one, two}
 use Rattle.elementary.specs.Rules.{Rules}
@@ -11,6 +13,7 @@ use Rattle.prices.specs.Vega.{vegaOf}
 use Rattle.prices.specs.Black.{callOf}
 use Rattle.prices.specs.RationalCubic.{EPSILON, MIN}
 use Rattle.solver.specs.declared.state.State.{State}
+use Rattle.solver.specs.declared.state.Ends.{Ends}
 use Rattle.solver.specs.declared.state.Record.{Record}
 use Rattle.solver.specs.declared.state.Stepped.{Stepped}
 use Rattle.solver.specs.declared.state.Stepped.the-variants.{Went, Refused}
@@ -24,10 +27,6 @@ unfoldable pub householderFactor : Float → Float → Float → Float
 householderFactor newton halley hh3 = (one ⊕ half ⊗ halley ⊗ newton) ⊘ (one ⊕ newton ⊗ (halley ⊕ hh3 ⊗ newton ⊘ whole 6))
 
 -- ---- the bracket
-
-pub record Ends : Type 0 where
-  pub left : Float
-  pub right : Float
 
 -- The move after a price b at s: the right end becomes s where b lies above the target and s below that end; else the left end, where b lies below and s above it.
 abbrev pub endsAfter : Float → Float → Float → Float → Float → Ends
@@ -129,6 +128,21 @@ upperStep rules b-max x beta st = stepBy (upperDs b-max x beta) halved rules x b
 
 unfoldable pub generalStep : Rules → Float → Float → State → Stepped
 generalStep rules x beta st = stepBy (generalDs x beta) plain rules x beta st
+
+-- ---- the branch's own: branch 1 has the lower loop, branch 4 the upper one, every other branch the general one
+
+abbrev pub branchDs : ℕ → Float → Float → Float → Float → Float → Float → Ends → Float
+branchDs branch b-max x beta s b bp bracket =
+    let lower = lowerDs x beta s b bp bracket in
+    let upper = upperDs b-max x beta s b bp bracket in
+    let general = generalDs x beta s b bp bracket in
+    cond (eqb branch 1) lower (cond (eqb branch 4) upper general)
+
+abbrev pub branchAfter : ℕ → Float → Float → Float
+branchAfter branch s ds = cond (eqb branch 1) (halved s ds) (cond (eqb branch 4) (halved s ds) (plain s ds))
+
+abbrev pub branchStep : Rules → ℕ → Float → Float → Float → State → Stepped
+branchStep rules branch b-max x beta = stepBy (branchDs branch b-max x beta) (branchAfter branch) rules x beta
 
 -- ---- what a state leads to
 

@@ -9,6 +9,19 @@ pub struct State {
     pub right: f64,
 }
 
+// The bracket's ends.
+pub struct Ends {
+    pub left: f64,
+    pub right: f64,
+}
+
+// A map's value with its first two derivatives: the Rust's triple.
+pub struct Mapped {
+    pub f: f64,
+    pub fp: f64,
+    pub fpp: f64,
+}
+
 // What the trail keeps of a completed step: s, the computed price b, vega, the bracket's ends after
 // the move, and s after the step.
 pub struct Record {
@@ -24,6 +37,20 @@ pub struct Record {
 pub enum Stepped {
     Went(State, Record),
     Refused(u8),
+}
+
+// Where a run begins: answered before a guess, refused before a loop, or with a loop's branch, b_max,
+// x, target and the state before its first step.
+pub enum Start {
+    Answered(f64),
+    Stopped(u8),
+    Looping(u8, f64, f64, f64, State),
+}
+
+// What a loop yields where it is left: its ending, 1 step test or 2 limit, with the state.
+pub struct Left {
+    pub ending: u8,
+    pub state: State,
 }
 
 // What solve answers: volatility, branch, ending and steps, or the number and the completed steps.

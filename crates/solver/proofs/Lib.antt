@@ -1,0 +1,4 @@
+-- Laws that the proofs of several functions use.
+pub mod Parts
+pub mod Reached
+pub mod Solving

@@ -1,0 +1,2 @@
+-- Laws that the proofs of the book use.
+pub mod Slots

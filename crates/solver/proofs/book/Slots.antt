@@ -1,0 +1,58 @@
+-- A record's slot of the book: where one is held, its 64 bytes are inside, and what read and recheck answer there.
+use mathlib.Core.Path.{_≡_, refl, sym}
+use mathlib.Core.Bool.{Bool, true, false, true≢false, cond, _&&_}
+use mathlib.Core.List.{List, []}
+use Prim.Native.Nat.{ℕ, _+_, _-_, _*_, _≤_}
+use native.Mathlib.Omega.{arith}
+use native.Mathlib.Nat.{mul-comm}
+use borrow.Author.Tests.{ltb-true, leb-true}
+use lib.Dec.{ltb, leb}
+use lib.ListN.{length, take, drop}
+use Rattle.solver.specs.declared.state.Checking.{Checking}
+use Rattle.solver.specs.declared.state.Checking.the-variants.{Refused}
+use Rattle.solver.specs.RuleSets.{RuleSet}
+use Rattle.solver.specs.Book.{slots, isHeld, recordAt, Read, readOf, recheckOf, resolved, checked}
+
+both : (a b : Bool) → (a && b) ≡ true → (a ≡ true) × (b ≡ true)
+both true b e = (refl, e)
+both false b e = absurd (true≢false (sym e))
+
+-- the part that the code takes
+abbrev pub slot : ℕ → List ℕ → List ℕ
+slot k book = take (k * 64 + 64 - k * 64) (drop (k * 64) book)
+
+pub slot-is : (k : ℕ) (book : List ℕ) → slot k book ≡ recordAt k book
+slot-is k book =
+    let m : k * 64 + 64 - k * 64 ≡ 64 = omega arith in
+    rw (m, mul-comm k 64)
+
+number-zero : (h : Bool) (bytes : List ℕ) → cond {A = Read} h (record { number = 0; bytes = bytes }) (record { number = 23; bytes = [] }) .number ≡ 0 → h ≡ true
+number-zero true bytes e = refl
+number-zero false bytes e = absurd (omega (arith, e))
+
+module _ (book : List ℕ) (used k : ℕ) where
+  pub inside : isHeld book used k ≡ true → k * 64 + 64 ≤ length book
+  inside e =
+      let h = both (ltb k used) (leb used (slots book)) e in
+      omega (arith, ltb-true k used (h .0), leb-true used (slots book) (h .1))
+
+  -- read's number says it too
+  pub held : readOf book used k .number ≡ 0 → isHeld book used k ≡ true
+  unfolding readOf
+  held e = number-zero (isHeld book used k) (recordAt k book) e
+
+  pub read-held : isHeld book used k ≡ true → (slot k book ≡ readOf book used k .bytes) × (0 ≡ readOf book used k .number)
+  unfolding readOf
+  read-held e = rw (e, slot-is k book) (refl, refl)
+
+  pub read-none : isHeld book used k ≡ false → ([] ≡ readOf book used k .bytes) × (23 ≡ readOf book used k .number)
+  unfolding readOf
+  read-none e = rw e (refl, refl)
+
+  pub recheck-held : (rules : RuleSet) (a : Checking) → isHeld book used k ≡ true → a ≡ checked (slot k book) (resolved rules (slot k book)) → a ≡ recheckOf rules book used k
+  unfolding recheckOf
+  recheck-held rules a e h = rw e (rw (slot-is k book) at h)
+
+  pub recheck-none : (rules : RuleSet) → isHeld book used k ≡ false → Refused 23 0 ≡ recheckOf rules book used k
+  unfolding recheckOf
+  recheck-none rules e = rw e

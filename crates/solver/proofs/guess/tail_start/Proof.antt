@@ -1,0 +1,27 @@
+-- `guess::tail_start` meets its contract: each way out is the arm that the test leaves, and the branch tells its step by computing. Assumes nothing.
+use Rattle.solver.specs.Step.{upperStep, generalStep}
+use Rattle.solver.specs.Guess.{tailBegun}
+use borrow.Author.Needs.{needs}
+use Rattle.solver.proofs.guess.tail_start.Statement.{statement}
+use Rattle.solver.proofs.guess.tail_start.Tie as tie
+
+upper-guess-requires : tie.Need-upper-guess-requires
+upper-guess-requires c κs = search needs
+
+looping-requires : tie.Need-looping-requires
+looping-requires c κs = search needs
+
+returns : tie.Need-returns
+unfolding tailBegun upperStep
+returns c = rw (← c .before .before .upper-guess .ensures, c .before .if1 .taken) (c .looping .ensures)
+
+looping-requires-2 : tie.Need-looping-requires-2
+looping-requires-2 c κs = search needs
+
+returns-2 : tie.Need-returns-2
+unfolding tailBegun generalStep
+returns-2 c = rw (← c .before .before .upper-guess .ensures, c .before .if1 .left) (c .looping2 .ensures)
+
+pub tail-start-spec : {M : Type 1} → statement M
+tail-start-spec =
+    tie.close (tie.spec upper-guess-requires looping-requires returns looping-requires-2 returns-2)

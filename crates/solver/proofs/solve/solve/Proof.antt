@@ -1,0 +1,103 @@
+-- `solve::solve` meets its contract: a number, 21, or what the start leads to. Assumes nothing.
+use mathlib.Core.Logic.{inl, inr, ⊎-elim}
+use lib.ListN.{length}
+use denote.Ref.{now}
+use borrow.Author.Needs.{needs}
+use Rattle.solver.specs.Solve.{solvingOf}
+use Rattle.solver.proofs.Solving.{by-number, by-trail, by-start, Long, short, long, room, untouched, ran-on}
+use Rattle.solver.proofs.solve.solve.Statement.{statement}
+use Rattle.solver.proofs.solve.solve.Tie as tie
+
+input-number-requires : tie.Need-input-number-requires
+input-number-requires c κs = search needs
+
+returns : tie.Need-returns
+returns c =
+    let a = c .before .before .before .args in
+    untouched _ _ (a .keep) (now (a .trail)) (by-number (a .keep) (length (now (a .trail))) (a .price) (a .forward) (a .strike) (a .expiry) (a .option-type) (a .limit) _ (c .before .input-number .ensures) (c .if1 .taken))
+
+mul-if3 : tie.Need-mul-if3
+mul-if3 c = search needs
+
+returns-2 : tie.Need-returns-2
+returns-2 c =
+    let a = c .before .before .before .before .before .args in
+    untouched _ _ (a .keep) (now (a .trail))
+    (by-trail (a .keep) (length (now (a .trail))) (a .price) (a .forward) (a .strike) (a .expiry) (a .option-type) (a .limit) _ (c .before .before .before .input-number .ensures) (c .before .before .if1 .left)
+    (short (a .keep) (length (now (a .trail))) (a .limit) (c .before .if2 .taken) (c .if3 .taken)))
+
+-- where the trail was not too short
+came : (c : tie.Joined2) → Long (c .before .before .before .before .args .keep) (length (now (c .before .before .before .before .args .trail))) (c .before .before .before .before .args .limit)
+came c = ⊎-elim (λ w. inl (w .0 .taken, w .1 .left)) (λ w. inr (w .left)) (c .if2 .came)
+
+accepted-start-requires : tie.Need-accepted-start-requires
+accepted-start-requires c κs = search needs
+
+enum-known-v : tie.Need-enum-known-v
+enum-known-v c = search needs
+
+enum-known-n : tie.Need-enum-known-n
+enum-known-n c = search needs
+
+enum-known-branch : tie.Need-enum-known-branch
+enum-known-branch c = search needs
+
+sqrt-requires : tie.Need-sqrt-requires
+sqrt-requires c κs = search needs
+
+run-requires : tie.Need-run-requires
+run-requires c κs =
+    let test = c .before .before .before .before .before .before in
+    let a = test .before .before .before .before .args in
+    room (a .keep) (length (now (a .trail))) (a .limit) (came test)
+
+returns-3 : tie.Need-returns-3
+unfolding solvingOf
+returns-3 c =
+    let start = c .before .before .before in
+    let test = start .before in
+    let a = test .before .before .before .before .args in
+    untouched _ _ (a .keep) (now (a .trail)) (by-start (a .keep) (length (now (a .trail))) (a .price) (a .forward) (a .strike) (a .expiry) (a .option-type) (a .limit) _ (test .before .before .input-number .ensures) (test .before .if1 .left) (long (a .keep) (length (now (a .trail))) (a .limit) (came test)) _ (start .accepted-start .ensures) _ (c .before .v .given .1))
+
+returns-4 : tie.Need-returns-4
+unfolding solvingOf
+returns-4 c =
+    let start = c .before .before .before in
+    let test = start .before in
+    let a = test .before .before .before .before .args in
+    untouched _ _ (a .keep) (now (a .trail)) (by-start (a .keep) (length (now (a .trail))) (a .price) (a .forward) (a .strike) (a .expiry) (a .option-type) (a .limit) _ (test .before .before .input-number .ensures) (test .before .if1 .left) (long (a .keep) (length (now (a .trail))) (a .limit) (came test)) _ (start .accepted-start .ensures) _ (c .before .n .given .1))
+
+same-length : tie.Need-same-length
+same-length c = search needs
+
+returns-5 : tie.Need-returns-5
+unfolding solvingOf
+returns-5 c =
+    let call = c .before .before in
+    let root = call .before .before in
+    let told = root .before .before in
+    let start = told .before .before in
+    let test = start .before in
+    let a = test .before .before .before .before .args in
+    ran-on (a .keep) _ _ _ _ _
+    (by-start (a .keep) (length (now (a .trail))) (a .price) (a .forward) (a .strike) (a .expiry) (a .option-type) (a .limit) _ (test .before .before .input-number .ensures) (test .before .if1 .left) (long (a .keep) (length (now (a .trail))) (a .limit) (came test)) _ (start .accepted-start .ensures) _ (told .branch .given .1))
+    (rw (root .sqrt .ensures) at (call .run .ensures))
+
+pub solve-spec : {M : Type 1} → statement M
+solve-spec =
+    tie.close
+    (tie.spec
+    input-number-requires
+    returns
+    mul-if3
+    returns-2
+    accepted-start-requires
+    enum-known-v
+    enum-known-n
+    enum-known-branch
+    sqrt-requires
+    run-requires
+    returns-3
+    returns-4
+    same-length
+    returns-5)

@@ -1,0 +1,18 @@
+-- `solve::solve_without_trail` meets its contract: it is `solve::solve` that keeps no trail. Assumes nothing.
+use borrow.Author.Needs.{needs}
+use Rattle.solver.specs.Solve.{solvingWith, solveOf}
+use Rattle.solver.proofs.solve.solve_without_trail.Statement.{statement}
+use Rattle.solver.proofs.solve.solve_without_trail.Tie as tie
+
+slice-aggregate-solve : tie.Need-slice-aggregate-solve
+slice-aggregate-solve c = search needs
+
+solve-requires : tie.Need-solve-requires
+solve-requires c κs = search needs
+
+returns : tie.Need-returns
+unfolding solvingWith solveOf
+returns c = c .before .solve .ensures .0
+
+pub solve-without-trail-spec : {M : Type 1} → statement M
+solve-without-trail-spec = tie.close (tie.spec slice-aggregate-solve solve-requires returns)

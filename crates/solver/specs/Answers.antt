@@ -1,0 +1,73 @@
+-- What a case of an answer says: document 01's number, 0 where there is none, and its values. Definitions only.
+use mathlib.Core.Bool.{Bool, true, false}
+use Prim.Native.Nat.{ℕ}
+use lib.Dec.{eqb}
+use lib.Ieee.{Float, nan}
+use Rattle.solver.specs.declared.state.Solution.{Solution}
+use Rattle.solver.specs.declared.state.Solution.the-variants.{Solved, Refused}
+use Rattle.solver.specs.declared.state.Filing.{Filing}
+use Rattle.solver.specs.declared.state.Filing.the-variants.{Filed, Refused as NotFiled}
+use Rattle.solver.specs.declared.state.Checking.{Checking}
+use Rattle.solver.specs.declared.state.Checking.the-variants.{Agrees, Differs, Refused as NotChecked}
+
+-- ---- solve's
+
+abbrev pub numberIn : Solution → ℕ
+numberIn (Solved v branch ending steps) = 0
+numberIn (Refused number steps) = number
+
+-- a refusal has none; NaN stands for it
+abbrev pub volatilityIn : Solution → Float
+volatilityIn (Solved v branch ending steps) = v
+volatilityIn (Refused number steps) = nan
+
+-- 0 where it is refused
+abbrev pub branchIn : Solution → ℕ
+branchIn (Solved v branch ending steps) = branch
+branchIn (Refused number steps) = 0
+
+abbrev pub endingIn : Solution → ℕ
+endingIn (Solved v branch ending steps) = ending
+endingIn (Refused number steps) = 0
+
+-- the completed steps
+abbrev pub stepsIn : Solution → ℕ
+stepsIn (Solved v branch ending steps) = steps
+stepsIn (Refused number steps) = steps
+
+-- the run ended for its limit: ending 2
+abbrev pub endedByLimit : Solution → Bool
+endedByLimit (Solved v branch ending steps) = eqb ending 2
+endedByLimit (Refused number steps) = false
+
+-- ---- file's
+
+abbrev pub filingNumber : Filing → ℕ
+filingNumber (Filed used) = 0
+filingNumber (NotFiled number steps) = number
+
+-- the used count after it; 0 where it is refused
+abbrev pub filingUsed : Filing → ℕ
+filingUsed (Filed used) = used
+filingUsed (NotFiled number steps) = 0
+
+abbrev pub filingSteps : Filing → ℕ
+filingSteps (Filed used) = 0
+filingSteps (NotFiled number steps) = steps
+
+-- ---- recheck's
+
+abbrev pub checkingNumber : Checking → ℕ
+checkingNumber Agrees = 0
+checkingNumber Differs = 0
+checkingNumber (NotChecked number steps) = number
+
+abbrev pub checkingAgrees : Checking → Bool
+checkingAgrees Agrees = true
+checkingAgrees Differs = false
+checkingAgrees (NotChecked number steps) = false
+
+abbrev pub checkingSteps : Checking → ℕ
+checkingSteps Agrees = 0
+checkingSteps Differs = 0
+checkingSteps (NotChecked number steps) = steps
