@@ -1,2 +1,3 @@
 -- What the exported functions add to the layers' definitions.
 pub mod Bytes
+pub mod Solutions

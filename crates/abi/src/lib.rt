@@ -2,9 +2,11 @@
 // with the bits 7FF8000000000000.
 mod answer;
 pub mod black;
+pub mod book;
 pub mod cody;
 pub mod functions;
 pub mod intrinsic;
 pub mod normal_distribution;
 pub mod rational_cubic;
+pub mod solve;
 pub mod vega;

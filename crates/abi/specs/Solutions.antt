@@ -1,0 +1,62 @@
+-- How the answers of solve, file, recheck and read cross as plain numbers. Definitions only.
+use mathlib.Core.Bool.{cond}
+use mathlib.Core.List.{List, []}
+use Prim.Native.Nat.{ℕ, _+_, _*_, _^_}
+use lib.Dec.{eqb}
+use lib.IntN.{ℤ}
+use lib.Ieee.{Float}
+use Rattle.prices.specs.declared.inputs.OptionType.the-variants.{Call, Put}
+use Rattle.solver.specs.declared.state.Solution.{Solution}
+use Rattle.solver.specs.declared.state.Solution.the-variants.{Refused}
+use Rattle.solver.specs.declared.state.Filing.{Filing}
+use Rattle.solver.specs.declared.state.Filing.the-variants.{Refused as NotFiled}
+use Rattle.solver.specs.declared.state.Checking.{Checking}
+use Rattle.solver.specs.Answers.{numberIn, branchIn, endingIn, stepsIn, filingNumber, filingSteps, checkingNumber, checkingAgrees, checkingSteps}
+use Rattle.solver.specs.RuleSets.{rule-set-0}
+use Rattle.solver.specs.Solve.{Solving, solveOf, solveWithTrail, stepsOf}
+use Rattle.solver.specs.Book.{FiledBook, fileOf, Read}
+
+-- number, branch, ending and steps in one word: bytes 0, 1 and 2, and from byte 4 on the steps
+abbrev pub outcomeFrom : ℕ → ℕ → ℕ → ℕ → ℕ
+outcomeFrom number branch ending steps = number + branch * 256 + ending * 65536 + steps * 2 ^ 32
+
+abbrev pub outcomeOf : Solution → ℕ
+outcomeOf a = outcomeFrom (numberIn a) (branchIn a) (endingIn a) (stepsIn a)
+
+abbrev pub filingOutcome : Filing → ℕ
+filingOutcome a = outcomeFrom (filingNumber a) 0 0 (filingSteps a)
+
+abbrev pub checkingOutcome : Checking → ℕ
+checkingOutcome a = outcomeFrom (checkingNumber a) 0 0 (checkingSteps a)
+
+-- 1 where it agrees, else 0
+abbrev pub agreesByte : Checking → ℕ
+agreesByte a = cond (checkingAgrees a) 1 0
+
+-- ---- a kind as document 01's byte; any other byte is refused before all else, with its number for a kind outside the layout
+
+-- solve with a trail of so many bytes
+unfoldable pub solvingAt : ℕ → Float → Float → Float → Float → ℤ → ℕ → Solving
+solvingAt kind price forward strike expiry limit bytes =
+    let call = solveWithTrail rule-set-0 price forward strike expiry Call (stepsOf limit) bytes in
+    let put = solveWithTrail rule-set-0 price forward strike expiry Put (stepsOf limit) bytes in
+    cond (eqb kind 1) call (cond (eqb kind 2) put (record { records = []; answer = Refused 24 0 }))
+
+-- the wrapper's, with limit 2
+unfoldable pub wrappedAt : ℕ → Float → Float → Float → Float → Solution
+wrappedAt kind price forward strike expiry =
+    let call = solveOf rule-set-0 price forward strike expiry Call 2 .answer in
+    let put = solveOf rule-set-0 price forward strike expiry Put 2 .answer in
+    cond (eqb kind 1) call (cond (eqb kind 2) put (Refused 24 0))
+
+unfoldable pub filingAt : ℕ → Float → Float → Float → Float → ℤ → List ℕ → ℕ → FiledBook
+filingAt kind price forward strike expiry limit book used =
+    let call = fileOf price forward strike expiry Call limit book used rule-set-0 in
+    let put = fileOf price forward strike expiry Put limit book used rule-set-0 in
+    cond (eqb kind 1) call (cond (eqb kind 2) put (record { answer = NotFiled 24 0; book = book }))
+
+-- ---- read
+
+-- where record k's part begins; 0 where there is none
+abbrev pub placeOf : Read → ℕ → ℕ
+placeOf r k = cond (eqb (r .number) 0) (k * 64) 0
