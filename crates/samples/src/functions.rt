@@ -1,5 +1,7 @@
 // The functions that the list names, by number. The numbers are those of `differential --samples`.
 use crate::list::Line;
+use crate::records;
+use crate::records::Word;
 use elementary::cody;
 use elementary::methods::bits_of;
 use elementary::methods::float_of;
@@ -13,10 +15,13 @@ use prices::rational_cubic::Side;
 use prices::vega;
 
 // How many there are.
-pub const COUNT: u64 = 37;
+pub const COUNT: u64 = 41;
 
 // Where the prices start.
 const PRICES: u64 = 24;
+
+// Where solve and the book start.
+const RECORDS: u64 = 37;
 
 // Whether the line's function yields the line's answer; the arguments that it has not are left unread.
 pub fn agrees(line: Line) -> bool {
@@ -27,8 +32,30 @@ pub fn agrees(line: Line) -> bool {
         } else {
             false
         }
-    } else {
+    } else if function < RECORDS {
         says(price(line), line.bits, line.refused)
+    } else {
+        is_word(record(line), line.bits, line.refused)
+    }
+}
+
+// ---- solve and the book
+
+fn record(line: Line) -> Word {
+    let function = line.function;
+    match function {
+        37 => records::solve(line),
+        38 => records::file(line),
+        39 => records::recheck(line),
+        _ => records::read(line),
+    }
+}
+
+fn is_word(word: Word, bits: u64, refused: u64) -> bool {
+    if word.number == refused {
+        word.bits == bits
+    } else {
+        false
     }
 }
 
@@ -252,6 +279,10 @@ fn print_price(function: u64) {
         34 => print(b"minimum_rational_cubic_control_parameter"),
         35 => print(b"rational_cubic_control_parameter"),
         36 => print(b"convex_rational_cubic_control_parameter"),
+        37 => print(b"solve"),
+        38 => print(b"file"),
+        39 => print(b"recheck"),
+        40 => print(b"read"),
         _ => print(b"?"),
     }
 }

@@ -2,6 +2,7 @@
 // writes them. For each function it prints how many there are and whether all agree.
 mod functions;
 mod list;
+mod records;
 
 ghost use Prim.Native.Nat.{_+_, _≤_};
 ghost use lib.ListN.{length};
@@ -14,7 +15,7 @@ struct Tally {
 }
 
 fn main() {
-    let mut buffer: [u8; 262144] = [0; 262144];
+    let mut buffer: [u8; 524288] = [0; 524288];
     let n = io::read_full(0, &mut buffer);
     report(&buffer[..n]);
 }

@@ -3,11 +3,12 @@
 //! refusal in two decimal digits, 00 where there is none.
 //!
 //! Number 0 is erfc at published points: x, the float nearest to the true value, and how many units in the last place
-//! the rules are away from it. From 1 on the numbers are those of the table of functions.
+//! the rules are away from it. From 1 on the numbers are those of the table of functions, and from 37 on layer 3's.
 
 use crate::{
     functions::{Answer, Function, FUNCTIONS},
     inputs::{wide, Arguments},
+    records,
     words::Words,
 };
 use reference::lets_be_rational::cody::optimized::erfc;
@@ -21,7 +22,7 @@ const EDGES: usize = 14;
 const BORDERS: usize = 6;
 const RANDOM: usize = 12;
 
-fn line(number: usize, arguments: Arguments, (bits, refused): Answer) {
+pub fn line(number: usize, arguments: Arguments, (bits, refused): Answer) {
     let words: String = arguments.iter().map(|x| format!(" {x:016X}")).collect();
     println!("{number:02}{words} {bits:016X} {refused:02}");
 }
@@ -64,4 +65,5 @@ pub fn write() {
     for (i, function) in FUNCTIONS.iter().enumerate() {
         inputs(function).into_iter().for_each(|a| line(i + 1, a, (function.reference)(a)));
     }
+    records::write(SEED);
 }

@@ -1,0 +1,3 @@
+-- Laws that the proofs of the program use.
+mod Parts
+mod Listed

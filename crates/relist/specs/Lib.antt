@@ -1,0 +1,4 @@
+-- Definitions.
+pub mod Lines
+-- Theorems about them.
+pub mod Blocks
