@@ -46,6 +46,25 @@ const NAMES: [(&str, &str); 5] = [
     ("use num_traits::", "use crate::num_traits::"),
 ];
 
+/// What keeps s before a step, and what hands the completed step on.
+const BEFORE: &str = "let before = s; ";
+const AFTER: &str = " crate::steps::took(before, b, bp, s_left, s_right, s);";
+
+/// Where so_rational.rs is laid open: what is put before and after a piece of it, and how often the piece stands there. It
+/// computes what it did; `steps` sees the branch, the step test and each completed step.
+const HOOKS: [(&str, &str, &str, usize); 8] = [
+    ("s_right = s_l;", "", " crate::steps::branch(1);", 1),
+    ("s_left = s_l;", "", " crate::steps::branch(2);", 1),
+    ("s_left = s_c;", "", " crate::steps::branch(3);", 1),
+    // The upper tail is branch 5 until the upper loop is chosen.
+    ("s_left = s_h;", "", " crate::steps::branch(5);", 1),
+    ("if beta > 0.5 * b_max {", "", " crate::steps::branch(4);", 1),
+    ("if ds.abs() <= f64::EPSILON * s {", "", " crate::steps::close();", 3),
+    ("s += ds.max(-0.5 * s);", BEFORE, AFTER, 2),
+    ("s += ds;", BEFORE, AFTER, 1),
+];
+const HOOKED: &str = "src/lets_be_rational/so_rational.rs";
+
 /// Method calls that stay as they are: no arithmetic of std's is behind them.
 const KEPT: [&str; 5] = ["cdf", "inverse_cdf", "is_infinite", "pdf", "to_string"];
 
@@ -89,7 +108,7 @@ const FILES: [File; 6] = [
         names: [2, 2, 0, 0, 1],
     },
     File {
-        path: "src/lets_be_rational/so_rational.rs",
+        path: HOOKED,
         module: "so_rational",
         methods: [7, 4, 5, 0, 9, 6, 0, 0, 0, 9, 1, 0, 4, 0, 0],
         names: [6, 9, 3, 0, 0],
@@ -157,6 +176,11 @@ fn read(root: &Path, file: &File) -> String {
 fn transformed(root: &Path, file: &File) -> String {
     // A line feed in front, so that a first line is found as any other is.
     let mut text = format!("\n{}", read(root, file));
+    if file.path == HOOKED {
+        for (piece, before, after, count) in HOOKS {
+            text = replace(&text, file.path, piece, &format!("{before}{piece}{after}"), count);
+        }
+    }
     for (&(from, to), &count) in METHODS.iter().zip(&file.methods) {
         text = replace(&text, file.path, from, to, count);
     }

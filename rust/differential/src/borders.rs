@@ -44,7 +44,7 @@ pub const VOLATILITY: [Border; 5] = [
 ];
 
 /// The kinds' bytes, and one that is none.
-const KINDS: [u64; 3] = [1, 2, 0];
+pub const KINDS: [u64; 3] = [1, 2, 0];
 
 /// Each argument's values, which are compared in all combinations; inputs on borders; and those that stand in the list of
 /// samples, too.
@@ -120,7 +120,7 @@ pub fn intrinsic() -> Edges {
 }
 
 /// Prices that are refused or just not, and usual ones.
-fn prices() -> Vec<u64> {
+pub fn prices() -> Vec<u64> {
     let least = f64::MIN_POSITIVE.to_bits();
     let largest = f64::MAX.to_bits();
     let usual = [1e-300, 0.5, 1.0, 100.0, 101.0, 1e300].map(f64::to_bits);

@@ -12,7 +12,7 @@ const BLOCK: u64 = 50_000;
 /// After so many inputs a line says how far the run is.
 const ROUND: u64 = 50 * BLOCK;
 /// So many differing inputs of a function are shown.
-const SHOWN: usize = 10;
+pub const SHOWN: usize = 10;
 
 #[derive(Clone, Copy)]
 pub struct Difference {
@@ -42,6 +42,12 @@ impl Found {
         }
     }
 
+    fn sum(all: Vec<Found>) -> Found {
+        let mut sum = Found::default();
+        all.into_iter().for_each(|found| sum.add(found));
+        sum
+    }
+
     fn add(&mut self, other: Found) {
         self.compared += other.compared;
         self.different += other.different;
@@ -51,7 +57,7 @@ impl Found {
 }
 
 /// Fills the arguments from `place` on with all combinations of their values.
-fn combine(values: &[Vec<u64>], place: usize, arguments: &mut Arguments, each: &mut impl FnMut(Arguments)) {
+pub fn combine(values: &[Vec<u64>], place: usize, arguments: &mut Arguments, each: &mut impl FnMut(Arguments)) {
     if place == values.len() {
         return each(*arguments);
     }
@@ -86,37 +92,35 @@ impl Run {
         println!("{} {} {} different ({what})", function.name, found.compared, found.different);
     }
 
-    /// Hands the parts 0 .. parts to the threads, and takes what they found in the parts' order.
-    fn in_parts(&self, parts: u64, part: impl Fn(u64) -> Found + Sync) -> Found {
+    /// Hands the parts 0 .. parts to the threads, and gives what they found in the parts' order.
+    pub fn in_parts<T: Send>(&self, parts: u64, part: impl Fn(u64) -> T + Sync) -> Vec<T> {
         let part = &part;
-        let mut all: Vec<(u64, Found)> = thread::scope(|scope| {
+        let mut all: Vec<(u64, T)> = thread::scope(|scope| {
             let start =
                 |t| scope.spawn(move || (t..parts).step_by(self.threads as usize).map(|i| (i, part(i))).collect());
             let started: Vec<thread::ScopedJoinHandle<Vec<_>>> = (0..self.threads).map(start).collect();
             started.into_iter().flat_map(|t| t.join().expect("a comparison doesn't panic")).collect()
         });
         all.sort_by_key(|(i, _)| *i);
-        let mut sum = Found::default();
-        all.into_iter().for_each(|(_, found)| sum.add(found));
-        sum
+        all.into_iter().map(|(_, found)| found).collect()
     }
 
     fn edges(&self, function: &Function) -> Found {
         let edges = (function.edges)();
-        let mut found = self.in_parts(edges.combined[0].len() as u64, |i| {
+        let mut found = Found::sum(self.in_parts(edges.combined[0].len() as u64, |i| {
             let mut found = Found::default();
             let mut arguments = [0; 9];
             arguments[0] = edges.combined[0][i as usize];
             combine(&edges.combined, 1, &mut arguments, &mut |a| found.compare(function, a));
             found
-        });
+        }));
         edges.further.into_iter().chain(edges.kept).for_each(|a| found.compare(function, a));
         found
     }
 
     fn random(&self, function: &Function, from: u64, to: u64) -> Found {
         let blocks = (to - from).div_ceil(BLOCK);
-        self.in_parts(blocks, |i| {
+        Found::sum(self.in_parts(blocks, |i| {
             let start = from + i * BLOCK;
             let mut words = Words::new(self.seed, function.name, start / BLOCK);
             let mut found = Found::default();
@@ -124,6 +128,6 @@ impl Run {
                 found.compare(function, (function.inputs)(&mut words));
             }
             found
-        })
+        }))
     }
 }

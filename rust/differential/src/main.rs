@@ -1,22 +1,28 @@
 //! Compares the proved functions with the Rust, bit for bit.
 //!
 //! The last line of a run is `N compared, M differences`. Exit status: 0 no difference; 1 a difference, the first ones in
-//! the lines above; 2 bad usage; 3 the Rust's source wasn't at hand when this was built, and nothing was compared.
+//! the lines above, or a branch, an ending or a refusal of solve that no input met; 2 bad usage; 3 the Rust's source wasn't
+//! at hand when this was built, and nothing was compared.
 
 mod accuracy;
+mod books;
 mod borders;
 mod compare;
 mod edges;
 mod functions;
 mod inputs;
+mod markets;
 mod prices;
+mod records;
 mod samples;
 mod search;
 mod sevens;
+mod solves;
 mod words;
 
 use compare::{Found, Run};
 use functions::{Answer, Function, FUNCTIONS};
+use solves::{Part, PARTS, SOLVE};
 use std::{env, process::exit, thread};
 
 const USAGE: &str = "usage: differential [--quick] [--function NAME] [--inputs N] [--seed N] [--threads N]
@@ -25,10 +31,10 @@ const USAGE: &str = "usage: differential [--quick] [--function NAME] [--inputs N
 
   --quick          fewer random inputs: under a minute, for the gate
   --function NAME  this function alone
-  --inputs N       random inputs of each function (default 10000000)
+  --inputs N       random inputs of each function (default 10000000; of solve 2000000)
   --seed N         other random inputs (default 1)
   --threads N      default: as many as the machine has processors
-  --search         looks for refusals of `black` at the asymptotic expansion's borders
+  --search         looks for refusals of `black` and solve at the asymptotic expansion's borders
   --samples        writes the list that crates/samples replays, answers of the Rust, to standard output
   --accuracy       measures document 01's rules over a table of rust/accuracy/table.py on standard input";
 
@@ -86,18 +92,20 @@ fn wanted() -> Wanted {
 }
 
 impl Wanted {
-    fn functions(&self) -> Vec<&'static Function> {
-        let of_name = |f: &&Function| self.function.as_ref().is_none_or(|name| name == f.name);
-        let functions: Vec<&Function> = FUNCTIONS.iter().filter(of_name).collect();
-        if functions.is_empty() {
-            usage("there is no such function");
-        }
-        functions
+    fn names(&self, name: &str) -> bool {
+        self.function.as_ref().is_none_or(|wanted| wanted == name)
     }
 
-    fn run(&self, function: &Function) -> Run {
-        // In a quick run a slow function has fewer inputs.
-        let usual = if self.quick { QUICK / function.cost } else { INPUTS };
+    fn functions(&self) -> Vec<&'static Function> {
+        FUNCTIONS.iter().filter(|f| self.names(f.name)).collect()
+    }
+
+    /// Those of layer 3.
+    fn parts(&self) -> Vec<&'static Part> {
+        PARTS.iter().filter(|p| self.names(p.name)).collect()
+    }
+
+    fn run(&self, usual: u64) -> Run {
         Run { seed: self.seed, inputs: self.inputs.unwrap_or(usual), threads: self.threads }
     }
 }
@@ -135,13 +143,30 @@ fn main() {
     if wanted.search {
         exit(i32::from(!search::search(wanted.seed, wanted.inputs.unwrap_or(INPUTS))));
     }
+    let (functions, parts) = (wanted.functions(), wanted.parts());
+    if functions.is_empty() && parts.is_empty() {
+        usage("there is no such function");
+    }
     let (mut compared, mut different) = (0, 0);
-    for function in wanted.functions() {
-        let found = wanted.run(function).function(function);
+    for function in functions {
+        // In a quick run a slow function has fewer inputs.
+        let found = wanted.run(if wanted.quick { QUICK / function.cost } else { INPUTS }).function(function);
         show(function, &found);
         compared += found.compared;
         different += found.different;
     }
+    let mut missing = Vec::new();
+    for part in parts {
+        let found = part.run(&wanted.run(if wanted.quick { part.quick } else { part.inputs }));
+        found.first.iter().for_each(|line| println!("{line}"));
+        compared += found.compared;
+        different += found.different;
+        if part.name == SOLVE {
+            found.table();
+            missing = found.missing();
+        }
+    }
+    missing.iter().for_each(|what| println!("no solve met this: {what}"));
     println!("{compared} compared, {different} differences");
-    exit(i32::from(different != 0));
+    exit(i32::from(different != 0 || !missing.is_empty()));
 }

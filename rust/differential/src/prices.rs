@@ -10,7 +10,7 @@ use crate::{
 use reference::elementary::{exp, ln};
 
 /// A few units up or down.
-fn beside(words: &mut Words, x: f64) -> u64 {
+pub fn beside(words: &mut Words, x: f64) -> u64 {
     moved(x.to_bits(), words.between(-4, 4))
 }
 
@@ -20,13 +20,13 @@ fn near_a_price_point(words: &mut Words) -> u64 {
 }
 
 /// Above 0, every power of two from 2^low to 2^high with the same part.
-fn log_uniform(words: &mut Words, low: i64, high: i64) -> f64 {
+pub fn log_uniform(words: &mut Words, low: i64, high: i64) -> f64 {
     let exponent = (words.between(low, high) + 1023) as u64;
     f64::from_bits(float(0, exponent, words.next()))
 }
 
 /// Zeros, subnormals, infinities, NaNs, negative numbers, and the ends of the normal numbers.
-fn special(words: &mut Words) -> u64 {
+pub fn special(words: &mut Words) -> u64 {
     let fraction = words.next();
     let least = f64::MIN_POSITIVE.to_bits();
     let size = match words.below(7) {
@@ -96,7 +96,7 @@ pub fn expansion(words: &mut Words) -> [u64; 2] {
 }
 
 /// A kind as document 01's byte; rarely one that is none.
-fn kind(words: &mut Words) -> u64 {
+pub fn kind(words: &mut Words) -> u64 {
     if words.below(64) == 0 {
         words.below(256)
     } else {
@@ -123,7 +123,7 @@ pub fn intrinsic(words: &mut Words) -> [u64; 2] {
 }
 
 /// Forward and strike: a usual distance, near the money, far out, and any two.
-fn forward_and_strike(words: &mut Words) -> (f64, f64) {
+pub fn forward_and_strike(words: &mut Words) -> (f64, f64) {
     let forward = log_uniform(words, -7, 14);
     match words.below(8) {
         0 => (forward, f64::from_bits(beside(words, forward))),

@@ -1,5 +1,5 @@
-//! A directed search for refusals of `black` and `normalised_black_call`: inputs are stepped by single units over the
-//! borders of the expansions' regions. 7 comes at one of them; any other number, 8 among them, or another answer than
+//! A directed search for refusals of `black`, `normalised_black_call` and solve: inputs are stepped by single units over
+//! the borders of the expansions' regions. 7 comes at one of them; any other number, 8 among them, or another answer than
 //! the Rust's is a fault.
 
 use crate::{
@@ -7,9 +7,12 @@ use crate::{
     edges::moved,
     functions::{Answer, Function, FUNCTIONS},
     inputs::{wide, Arguments},
+    markets::Terms,
     prices::on,
+    solves::{solve, Tally},
     words::Words,
 };
+use reference::{book::STEP, elementary::ln, prices::normalised_black_call, solver};
 
 /// So many units are stepped to either side.
 const STEPS: i64 = 12;
@@ -81,6 +84,59 @@ fn money(border: Option<Border>, words: &mut Words, tries: u64) -> Found {
     found
 }
 
+/// A price at which solve's guess is this s, or the first after it: the guess grows with the price.
+fn price_of_guess(terms: &Terms, s: f64) -> u64 {
+    let guess = |price| solver::solve(terms.at(price).market().ok()?, 1, None).steps.first().map(|step| step.s);
+    let price = terms.priced(s);
+    let (mut low, mut high) = ((0.5 * price).to_bits(), (2.0 * price).to_bits());
+    while low + 1 < high {
+        let middle = low + (high - low) / 2;
+        match guess(middle) {
+            Some(guess) if guess < s => low = middle,
+            // Without a step it is answered before a guess, or refused in the first step: the price that is looked for.
+            _ => high = middle,
+        }
+    }
+    high
+}
+
+/// Looks for an s of this market at the second border at which the price is refused, then for prices at which solve comes
+/// to that s: those of its neighbours and what lies between, or, in the first step, those whose guess is there.
+fn solves(at_the_guess: bool, words: &mut Words, tries: u64) -> Found {
+    let mut found = Found::default();
+    while found.tried < tries {
+        let terms = Terms::any(words);
+        let x = -ln(terms.forward / terms.strike).abs();
+        let border = VOLATILITY[1](-x).to_bits();
+        let refused = (-STEPS..=STEPS).map(|k| moved(border, k));
+        let Some(s) = refused.into_iter().find(|s| normalised_black_call(x, f64::from_bits(*s)) == Err(7)) else {
+            continue;
+        };
+        let prices: Vec<u64> = if at_the_guess {
+            let price = price_of_guess(&terms, f64::from_bits(s));
+            (-STEPS..=STEPS).map(|k| moved(price, k)).collect()
+        } else {
+            let [low, high] = [-2, 2].map(|k| terms.priced(f64::from_bits(moved(s, k))));
+            (0..=2 * STEPS).map(|k| (low + (high - low) * (k as f64 / (2 * STEPS) as f64)).to_bits()).collect()
+        };
+        let before = found.refused;
+        for price in prices {
+            let asked = terms.at(price);
+            let mut tally = Tally::default();
+            let came = solve(&mut tally, asked, 20, 20 * STEP);
+            found.tried += 1;
+            found.refused += u64::from(came.number == 7);
+            let fault = tally.different != 0 || came.number != 0 && came.number != 7;
+            found.faults += u64::from(fault);
+            // One of a market is enough.
+            if fault || came.number == 7 && found.refused == before + 1 && found.refused <= SHOWN {
+                println!("solve {} {came:?}", asked.shown());
+            }
+        }
+    }
+    found
+}
+
 /// Searches with this many inputs of each sort, and answers whether there was no fault.
 pub fn search(seed: u64, tries: u64) -> bool {
     let mut words = Words::new(seed, "search", 0);
@@ -96,6 +152,12 @@ pub fn search(seed: u64, tries: u64) -> bool {
             found.report(&format!("{what}, {border}"));
             faults += found.faults;
         }
+    }
+    // A solve takes longer than a price.
+    for (what, at_the_guess) in [("solve", false), ("solve, the first step", true)] {
+        let found = solves(at_the_guess, &mut words, tries / 10);
+        found.report(what);
+        faults += found.faults;
     }
     faults == 0
 }

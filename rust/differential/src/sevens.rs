@@ -26,6 +26,25 @@ pub const MONEY: [[u64; 2]; 4] = [
     [0x4042_56FC_E716_EA3F, 0x4009_BEC2_56BD_9F39],
 ];
 
+/// For solve: price, forward, strike, expiry, and the kind. The refusal comes in the first step, and after so many.
+#[rustfmt::skip]
+pub const SOLVES: [[u64; 5]; 12] = [
+    [0x3AEC_D3BE_EE4E_87EC, 0x3FB4_D442_8508_F181, 0x4102_21A8_0900_385D, 0x3F99_1E34_5A2A_9D43, 1],
+    [0x3AD5_C93B_ECD2_E77E, 0x3FA9_CDEF_4F0A_73F5, 0x4083_5A6A_5A6B_0B50, 0x3FFE_150F_4A0E_63E5, 1],
+    [0x3B28_E702_933E_561C, 0x408E_0607_ECE1_CB4D, 0x4008_8F18_95E6_81E3, 0x5BB2_0A54_F226_FB86, 2],
+    [0x3AD9_9A3B_B6A7_0280, 0x4067_302E_0E4A_7998, 0x3FB2_5CA7_571C_B414, 0x4039_5257_7DF5_7BD8, 2],
+    [0x3AB1_A0DB_9506_B0C2, 0x3F8F_1F2E_E368_D2F1, 0x4021_FF6C_E756_B810, 0x3F72_4DE9_04E5_1E22, 1],
+    [0x4550_E417_AF0E_EA91, 0x4E1F_18AE_9C13_9E20, 0x4A09_6A15_88E9_6C2D, 0x404A_BD6F_0369_6393, 2],
+    [0x3D35_CFCC_A2C3_3114, 0x41DB_EC11_84BB_DFD4, 0x62DF_5AB2_7B0C_876F, 0x3F6F_4022_3F58_94A0, 1],
+    [0x19BD_5B67_E029_D826, 0x3FCF_9CB8_915F_5805, 0x1E62_BCB9_2EF1_77CC, 0x3F83_E061_885D_AB00, 2],
+    [0x0849_0ABE_ADB7_66CE, 0x0CF2_A27D_5321_ABCB, 0x1FD3_8CB4_422A_DD6F, 0x4005_33C4_D7EE_0360, 1],
+    [0x2274_6CB6_F4C3_00C5, 0x3F03_AE5D_285B_163B, 0x271C_5D46_7064_1EE7, 0x3FDB_01C9_0019_343E, 2],
+    [0x52B5_91C2_5DDB_5066, 0x6B1E_F42A_C59D_4712, 0x575F_A8AA_75EB_4499, 0x3FF0_0000_0000_0000, 2],
+    [0x032A_EF05_95FA_B650, 0x1EE5_638B_2083_E35C, 0x07D2_E2F1_19C4_C295, 0x3F6E_3251_7BFA_D094, 2],
+];
+#[cfg(test)]
+const STEPS: [u32; 12] = [0, 0, 0, 0, 1, 2, 3, 3, 4, 4, 5, 5];
+
 #[cfg(test)]
 mod tests {
     use super::*;
@@ -38,6 +57,18 @@ mod tests {
         }
         for [x, s] in MONEY {
             assert_eq!(bits::normalised_black_call(x, s).1, 7);
+        }
+        for ([price, forward, strike, expiry, kind], steps) in SOLVES.into_iter().zip(STEPS) {
+            let found = bits::implied_volatility_from_a_transformed_rational_guess_with_limited_iterations(
+                price,
+                forward,
+                strike,
+                expiry,
+                kind as u8,
+                20,
+                &mut [0; 960],
+            );
+            assert_eq!(found, (0x7FF8 << 48, 7 + (u64::from(steps) << 32)));
         }
     }
 }

@@ -1,8 +1,10 @@
 //! The proved functions, for Rust. Every float is accepted, and a NaN comes back with the bits 7FF8000000000000.
 //!
-//! What may be refused is a `Result` with document 01's number of the cause: 2 forward, 3 strike or 4 expiry not a positive
-//! normal finite number, 5 sigma not finite; 6 the cubic got an infinite abscissa; 7 the asymptotic expansion outside its
-//! region; 8 the expansion for a small t at a larger one.
+//! What may be refused is a `Result` with document 01's number of the cause: 1 price not finite; 2 forward, 3 strike or 4
+//! expiry not a positive normal finite number; 5 sigma not finite; 6 the cubic got an infinite abscissa; 7 the asymptotic
+//! expansion outside its region; 8 the expansion for a small t at a larger one.
+
+mod solver;
 
 /// The kind of an option, as document 01's byte.
 #[derive(Clone, Copy, Debug, PartialEq, Eq)]
@@ -66,6 +68,7 @@ macro_rules! functions {
         #[allow(clippy::too_many_arguments)]
         pub mod bits {
             use super::{Crosses, OptionType, Side};
+            pub use super::solver::*;
             // SAFETY, for each: the function takes and returns numbers, writes to `number` alone, has no requires, and
             // is proved to end.
             $(pub fn $name($($x: <$t as Crosses>::Plain),*) -> u64 {
@@ -157,4 +160,22 @@ pub fn bits_of(x: f64) -> u64 {
 /// Equal to 0.
 pub fn is_zero(x: f64) -> bool {
     bits::is_zero(x.to_bits()) != 0
+}
+
+/// The volatility of a price, after two steps at most.
+pub fn implied_volatility_from_a_transformed_rational_guess(
+    market_price: f64,
+    forward_price: f64,
+    strike_price: f64,
+    time_to_maturity: f64,
+    option_type: OptionType,
+) -> Result<f64, u8> {
+    let [price, forward, strike, expiry] =
+        [market_price, forward_price, strike_price, time_to_maturity].map(f64::to_bits);
+    let (volatility, outcome) =
+        bits::implied_volatility_from_a_transformed_rational_guess(price, forward, strike, expiry, option_type as u8);
+    match bits::Outcome::from(outcome).number {
+        0 => Ok(f64::from_bits(volatility)),
+        number => Err(number),
+    }
 }

@@ -20,7 +20,10 @@ pub mod lets_be_rational {
         };
     }
 
-    absent! { black(f64, f64, f64, f64, OptionType) -> f64; }
+    absent! {
+        black(f64, f64, f64, f64, OptionType) -> f64;
+        implied_volatility_from_a_transformed_rational_guess(f64, f64, f64, f64, OptionType) -> f64;
+    }
 
     pub mod cody {
         pub mod optimized {
@@ -52,7 +55,13 @@ pub mod lets_be_rational {
     }
 
     pub mod so_rational {
-        absent! { normalised_vega(f64, f64) -> f64; }
+        use crate::OptionType;
+        absent! {
+            normalised_vega(f64, f64) -> f64;
+            implied_volatility_from_a_transformed_rational_guess_with_limited_iterations(
+                f64, f64, f64, f64, OptionType, i32
+            ) -> f64;
+        }
     }
 
     pub mod black {

@@ -1,9 +1,13 @@
 //! The Rust of the source folder, built over document 01's elementary functions. `elementary` has those, written from
-//! document 01; build.rs reads the rest from the source folder; `prices` has what document 01 says instead of a panic.
+//! document 01; build.rs reads the rest from the source folder; `prices` and `solver` have what document 01 says instead of
+//! a panic. `book` is document 01's trail, book and listing, which the Rust doesn't have.
 
+pub mod book;
 pub mod elementary;
 pub mod prices;
 pub mod refusals;
+pub mod solver;
+pub mod steps;
 
 #[cfg(rust_source)]
 mod num_traits;

@@ -32,7 +32,7 @@ pub fn normalised_black(x: f64, s: f64, kind: OptionType) -> Answer {
 }
 
 /// Document 01's "positive normal finite number".
-fn positive_normal(x: f64) -> bool {
+pub(crate) fn positive_normal(x: f64) -> bool {
     x.is_normal() && x > 0.0
 }
 
