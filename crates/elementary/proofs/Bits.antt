@@ -1,11 +1,11 @@
 -- What a float's tests and its bits say of it: the NaN, the sign, the size. Assumes nothing.
-use mathlib.Core.Path.{_≡_, refl, sym, ap, _∙_}
+use mathlib.Core.Path.{_≡_, refl, sym, ap, _∙_, subst}
 use mathlib.Core.Bool.{Bool, true, false, not, cond}
 use Prim.Native.Nat.{ℕ, _+_, _*_, _%_, _^_, _<_, _≤_}
 use native.Mathlib.Omega.{arith}
 use lib.Dec.{T, leb, eqb, eqb-refl, lt→ltb, le→leb, nleb→lt}
 use lib.Arith.{le→nltb, lt→nleb}
-use lib.Ieee.{Float, nan, inf, fin, binary64, up, down, ne, lt, div, neg, isNan, fits, ofBits, toBits, nanBits}
+use lib.Ieee.{Float, nan, inf, fin, binary64, up, down, eq, ne, lt, div, neg, isNan, fits, ofBits, toBits, nanBits}
 use lib.Ieee.Fits.{neg-fits}
 use lib.Ieee.Bits.{is-true, is-false, toBits-lt, ofBits-toBits, nanBits-is, nanBits-above}
 use lib.Ieee.Compare.{differs-from-itself}
@@ -55,6 +55,24 @@ lt-numbers (fin s m e) (fin t n d) h = (refl, refl)
 
 pub lt-ordered : (x y : Float) → lt x y ≡ true → (ne x x ≡ false) × (ne y y ≡ false)
 lt-ordered x y h = rw (ne-self x, ne-self y) (lt-numbers x y h)
+
+-- ---- floats with the same bits
+pub equal-left : (x y : Float) → eq x y ≡ true → T (not (isNan x))
+unfolding eq isNan
+equal-left nan y h = subst T (sym h) tt
+equal-left (inf s) y h = tt
+equal-left (fin s m e) y h = tt
+
+pub equal-right : (x y : Float) → eq x y ≡ true → T (not (isNan y))
+unfolding eq isNan
+equal-right nan nan h = subst T (sym h) tt
+equal-right (inf s) nan h = subst T (sym h) tt
+equal-right (fin s m e) nan h = subst T (sym h) tt
+equal-right x (inf s) h = tt
+equal-right x (fin s m e) h = tt
+
+pub same-bits : (x y : Float) → T (fits binary64 x) → T (fits binary64 y) → toBits binary64 x ≡ toBits binary64 y → x ≡ y
+same-bits x y a b e = sym (ofBits-toBits binary64 x a) ∙ ap (ofBits binary64) e ∙ ofBits-toBits binary64 y b
 
 -- ---- the sign stands above the size
 pub abs-fits : (x : Float) → T (fits binary64 x) → T (fits binary64 (absOf x))

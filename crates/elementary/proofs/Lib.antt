@@ -9,3 +9,4 @@ mod Sign
 mod Decode
 mod Fields
 mod Adding
+mod Eight

@@ -102,6 +102,13 @@ dIntOf x = cond (lt +0 x) (floorOf binary64 x) (neg (floorOf binary64 (neg x)))
 unfoldable pub tildeOf : Float → Float
 tildeOf y = dIntOf (y ⊗ sixteen) ⊘ sixteen
 
+-- what the two exponentials of a negative square are of
+abbrev pub negativeSquare : Float → Float
+negativeSquare t = neg t ⊗ t
+
+abbrev pub negativeRest : Float → Float
+negativeRest y = neg (y ⊖ tildeOf y) ⊗ (y ⊕ tildeOf y)
+
 unfoldable pub smoothenedExponentialOfNegativeSquare : Float → Float
 smoothenedExponentialOfNegativeSquare y = expOf (neg (tildeOf y) ⊗ tildeOf y) ⊗ expOf (neg (y ⊖ tildeOf y) ⊗ (y ⊕ tildeOf y))
 

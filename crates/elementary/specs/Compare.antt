@@ -99,6 +99,15 @@ not-le-of-lt (fin s m e) (inf true) h = absurd (true≢false (sym h))
 not-le-of-lt (fin s m e) (inf false) h = refl
 not-le-of-lt (fin s m e) (fin t n d) h = or-false (below-asym s _ t _ h) (not-level s _ t _ h)
 
+-- ---- what is not at most a number is above it
+pub left-false : (a b : Bool) → (a || b) ≡ false → a ≡ false
+left-false true b h = h
+left-false false b h = refl
+
+pub not-lt-of-not-le : (x y : Float) → le x y ≡ false → lt x y ≡ false
+unfolding le
+not-lt-of-not-le x y h = left-false (lt x y) (eq x y) h
+
 -- ---- a number equals itself
 pub equal-itself : (x : Float) → T (finite x) → ne x x ≡ false
 unfolding ne eq

@@ -29,6 +29,7 @@ use Rattle.elementary.specs.Compare.{equal-itself}
 use Rattle.elementary.specs.Order.{le→fractions}
 use Rattle.elementary.specs.Powers.{pow-le-back, pow-split}
 use Rattle.elementary.specs.Held.{holds}
+use Rattle.elementary.specs.Compare.{left-false}
 use Rattle.elementary.specs.Bounds.{side-finite, AtMost, Side, Over, Exact, pow-exact, small-exact, unsigned, wider, value-side, value-over, no-overflow, neg-side, round-side, mul-side, mul-at-most, square-over, add-at-most, sub-at-most, add-side, add-over, div-side, floor-side, sum-low}
 
 -- ---- the constants of exp
@@ -398,10 +399,6 @@ not-more {y = fin s m e} c v d w D k l h t =
             D,
       );
     }
-
-left-false : (a b : Bool) → (a || b) ≡ false → a ≡ false
-left-false true b h = h
-left-false false b h = refl
 
 more : {y : Float} {b : ℕ} → Side y false b → le y four ≡ false → Over y 0
 unfolding le lt ofBits

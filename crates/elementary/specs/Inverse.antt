@@ -1,10 +1,10 @@
 -- Document 01's sentence on the inverse cdf, "Then cdf(lo) < p ≤ cdf(hi)": the 64 turns end with p between the cdf's values at the two ends, for every
 -- p strictly between 0 and 1 and under every rule set. The cdf need not be monotone for it. Assumes nothing.
-use mathlib.Core.Path.{_≡_, refl, sym}
+use mathlib.Core.Path.{_≡_, refl, sym, _∙_}
 use mathlib.Core.Bool.{Bool, true, false, cond, true≢false}
 use Prim.Native.Nat.{ℕ, zero, suc}
 use lib.Dec.{T, lit≤}
-use lib.Ieee.{Float, nan, inf, fin, mul, div, sub, neg, lt, le, ne, ofBits, ofInt, toSigned}
+use lib.Ieee.{Float, nan, inf, fin, mul, div, sub, neg, eq, lt, le, ne, ofBits, ofInt, toSigned}
 use lib.Ieee.Scale.{finite}
 use Rattle.elementary.specs.Ops.{+0, one}
 use Rattle.elementary.specs.Rules.{Rules}
@@ -14,7 +14,7 @@ use Rattle.elementary.specs.Exp.{expOf, expInner, expSum, scaled}
 use Rattle.elementary.specs.Cody.{erfcOf, erfcAbs, smoothenedExponentialOfNegativeSquare, tildeOf}
 use Rattle.elementary.specs.NormalDistribution.{cdfOf, midOf, bisected, lowest, highest, endsOf, inverseOf}
 use Rattle.elementary.specs.Bounds.{AtMost, side-finite, small-exact, half-at-most, add-at-most}
-use Rattle.elementary.specs.Compare.{lt-asym, le-of-not-lt, not-le-of-lt, equal-itself}
+use Rattle.elementary.specs.Compare.{lt-asym, le-of-not-lt, not-le-of-lt, not-lt-of-not-le, equal-itself}
 use Rattle.elementary.specs.Finite.{cdf-at-most}
 
 pub record Brackets (cdf : Float → Float) (p lo hi : Float) : Type 0 where
@@ -72,6 +72,24 @@ lowest-range = record { sign = true; side = record { sized = (refl, lit≤ tt) }
 highest-range : AtMost highest 39
 unfolding ofBits
 highest-range = record { sign = false; side = record { sized = (refl, lit≤ tt) } }
+
+-- ---- where the inverse bisects, the first ends lie on both sides of p
+positive : (p : Float) → ne p p ≡ false → le p +0 ≡ false → lt +0 p ≡ true
+unfolding ne eq le lt ofBits
+positive nan n h = absurd (true≢false n)
+positive (inf true) n h = absurd (true≢false h)
+positive (inf false) n h = refl
+positive (fin s m e) n h = go (lt +0 (fin s m e)) refl
+  where
+    go : (b : Bool) → lt +0 (fin s m e) ≡ b → lt +0 (fin s m e) ≡ true
+    go true t = t
+    go false t = absurd (true≢false (sym (le-of-not-lt +0 (fin s m e) tt tt t) ∙ h))
+
+pub lowest-under : (rules : Rules) (p : Float) → ne p p ≡ false → le p +0 ≡ false → lt (cdfOf rules lowest) p ≡ true
+lowest-under rules p n h = rw (at-lowest rules) (positive p n h)
+
+pub highest-over : (rules : Rules) (p : Float) → le one p ≡ false → lt (cdfOf rules highest) p ≡ false
+highest-over rules p h = rw (at-highest rules) (not-lt-of-not-le one p h)
 
 -- ---- the theorem
 pub inverse-brackets : (rules : Rules) (p : Float) → lt +0 p ≡ true → lt p one ≡ true → Brackets (cdfOf rules) p (endsOf rules p .lo) (endsOf rules p .hi)

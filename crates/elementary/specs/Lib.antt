@@ -9,8 +9,10 @@ pub mod Exp
 pub mod Ln
 pub mod Cody
 pub mod NormalDistribution
--- What the contracts of the rounding leaf say.
+-- What the contracts of the rounding leaf, of eight side by side and of the bisection say.
 pub mod Round
+pub mod Each
+pub mod Turns
 -- Theorems about the definitions, and the laws behind them.
 pub mod Powers
 pub mod Held

@@ -4,6 +4,7 @@ use Prim.Native.Nat.{ℕ, zero, suc}
 use lib.Ieee.{Float, nan, inf, neg, lt, le, ne}
 use Rattle.elementary.specs.Ops.{_⊕_, _⊗_, bits, +0, half, one, two}
 use Rattle.elementary.specs.Rules.{Rules}
+use Rattle.elementary.specs.Methods.{absOf}
 use Rattle.elementary.specs.Cody.{erfcOf}
 
 abbrev pub FRAC-1-SQRT-2 : Float
@@ -11,6 +12,10 @@ FRAC-1-SQRT-2 = bits 0x3fe6_a09e_667f_3bcd
 
 unfoldable pub cdfOf : Rules → Float → Float
 cdfOf rules y = half ⊗ erfcOf rules (neg y ⊗ FRAC-1-SQRT-2)
+
+-- the size of erfc's argument
+abbrev pub sizeOf : Float → Float
+sizeOf y = absOf (neg y ⊗ FRAC-1-SQRT-2)
 
 -- ---- the bisection behind the inverse, over any cdf
 

@@ -1,10 +1,18 @@
 // Cody's rational approximations of the error function: cody/optimized.rs, line by line.
 use crate::exp::exp;
+use crate::exp::exps;
 use crate::floor::floor;
 use crate::methods::abs;
+use crate::methods::same;
 ghost use mathlib.Core.Path.{_≡_};
+ghost use mathlib.Core.Bool.{true, cond};
+ghost use lib.Ieee.{lt};
+ghost use Rattle.elementary.specs.Ops.{_⊖_, _⊗_, +0, two};
+ghost use Rattle.elementary.specs.Each.{at, UpTo, Each, Alike};
 ghost use Rattle.elementary.specs.Rules.{rules-0};
-ghost use Rattle.elementary.specs.Cody.{dIntOf, tildeOf, smoothenedExponentialOfNegativeSquare, smoothenedExponentialOfPositiveSquare, abOf, cdOf, pqOf, erfcxAboveThreshold, erfcAbs, erfcOf, erfcxOf};
+ghost use Rattle.elementary.specs.Methods.{absOf};
+ghost use Rattle.elementary.specs.Exp.{expOf};
+ghost use Rattle.elementary.specs.Cody.{dIntOf, tildeOf, smoothenedExponentialOfNegativeSquare, smoothenedExponentialOfPositiveSquare, negativeSquare, negativeRest, abOf, cdOf, pqOf, erfcxAboveThreshold, erfcAbs, erfcOf, erfcxOf};
 
 const FRAC_1_SQRT_PI: f64 = 0.5641895835477563;
 
@@ -132,14 +140,27 @@ pub fn erfcx_above_threshold(y: f64) -> f64
 }
 
 // erfc of |x| above the threshold. The exponential factor multiplies the far arm's 0 too.
-fn erfc_abs(y: f64) -> f64
+fn erfc_abs(y: f64, factor: f64) -> f64
+    requires { ⌜ factor ≡ smoothenedExponentialOfNegativeSquare y ⌝ }
     ensures { λ r. ⌜ r ≡ erfcAbs rules-0 y ⌝ }
 {
-    let factor = smoothened_exponential_of_negative_square(y);
     if y >= XBIG {
         0.0 * factor
     } else {
         erfcx_above_threshold(y) * factor
+    }
+}
+
+// erfc of x above the threshold, y = |x|.
+fn outside(x: f64, y: f64, factor: f64) -> f64
+    requires { ⌜ factor ≡ smoothenedExponentialOfNegativeSquare y ⌝ }
+    ensures { λ r. ⌜ r ≡ cond (lt x +0) (two ⊖ erfcAbs rules-0 y) (erfcAbs rules-0 y) ⌝ }
+{
+    let erfc_abs_x = erfc_abs(y, factor);
+    if x < 0.0 {
+        2.0 - erfc_abs_x
+    } else {
+        erfc_abs_x
     }
 }
 
@@ -150,12 +171,19 @@ pub fn erfc(x: f64) -> f64
     if y <= THRESHOLD {
         return 1.0 - x * ab(y * y);
     }
-    let erfc_abs_x = erfc_abs(y);
-    if x < 0.0 {
-        2.0 - erfc_abs_x
-    } else {
-        erfc_abs_x
+    outside(x, y, smoothened_exponential_of_negative_square(y))
+}
+
+// erfc where the exponential factor is known.
+pub(crate) fn erfc_with(x: f64, factor: f64) -> f64
+    requires { ⌜ factor ≡ smoothenedExponentialOfNegativeSquare (absOf x) ⌝ }
+    ensures { λ r. ⌜ r ≡ erfcOf rules-0 x ⌝ }
+{
+    let y = abs(x);
+    if y <= THRESHOLD {
+        return 1.0 - x * ab(y * y);
     }
+    outside(x, y, factor)
 }
 
 pub fn erfcx(x: f64) -> f64
@@ -176,4 +204,90 @@ pub fn erfcx(x: f64) -> f64
     } else {
         result
     }
+}
+
+// ---- the exponential factor of eight side by side
+
+fn tildes(y: [f64; 8]) -> [f64; 8]
+    ensures { λ t. ⌜ Each tildeOf y t ⌝ }
+{
+    let mut t = [0.0; 8];
+    let mut j: usize = 0;
+    while j < 8 {
+        t[j] = tilde(y[j]);
+        j += 1;
+    }
+    t
+}
+
+fn negative_squares(t: [f64; 8]) -> [f64; 8]
+    ensures { λ z. ⌜ Each negativeSquare t z ⌝ }
+{
+    let mut z = [0.0; 8];
+    let mut j: usize = 0;
+    while j < 8 {
+        z[j] = -t[j] * t[j];
+        j += 1;
+    }
+    z
+}
+
+fn negative_rests(y: [f64; 8], t: [f64; 8]) -> [f64; 8]
+    requires { ⌜ Each tildeOf y t ⌝ }
+    ensures { λ z. ⌜ Each negativeRest y z ⌝ }
+{
+    let mut z = [0.0; 8];
+    let mut j: usize = 0;
+    while j < 8 {
+        z[j] = -(y[j] - t[j]) * (y[j] + t[j]);
+        j += 1;
+    }
+    z
+}
+
+fn alike(t: [f64; 8]) -> bool
+    ensures { λ r. ⌜ (r ≡ true → Alike t) ⌝ }
+{
+    let first = t[0];
+    let mut j: usize = 0;
+    while j < 8 {
+        if same(t[j], first) {
+            j += 1;
+        } else {
+            return false;
+        }
+    }
+    true
+}
+
+// Near the end of a bisection one exponential serves all eight.
+fn exps_of_negative_squares(t: [f64; 8]) -> [f64; 8]
+    ensures { λ r. ⌜ Each (λ a. expOf (negativeSquare a)) t r ⌝ }
+{
+    if alike(t) {
+        let e = exp(-t[0] * t[0]);
+        [e, e, e, e, e, e, e, e]
+    } else {
+        exps(negative_squares(t))
+    }
+}
+
+fn products(a: [f64; 8], b: [f64; 8]) -> [f64; 8]
+    ensures { λ r. ⌜ UpTo (λ k. at a k ⊗ at b k) r 8 ⌝ }
+{
+    let mut r = [0.0; 8];
+    let mut j: usize = 0;
+    while j < 8 {
+        r[j] = a[j] * b[j];
+        j += 1;
+    }
+    r
+}
+
+pub(crate) fn smoothened_exponentials_of_negative_squares(y: [f64; 8]) -> [f64; 8]
+    ensures { λ r. ⌜ Each smoothenedExponentialOfNegativeSquare y r ⌝ }
+{
+    let t = tildes(y);
+    let a = exps_of_negative_squares(t);
+    products(a, exps(negative_rests(y, t)))
 }

@@ -8,6 +8,7 @@ ghost use mathlib.Core.Path.{_≡_};
 ghost use Prim.Native.Nat.{_≤_};
 ghost use lib.Ieee.{binary64, minus};
 ghost use Rattle.elementary.specs.Ops.{one};
+ghost use Rattle.elementary.specs.Each.{Each};
 ghost use Rattle.elementary.specs.Exp as Exp;
 ghost use Rattle.elementary.specs.Exp.{Whole, Biased};
 ghost use Rattle.elementary.specs.Bounds.{AtMost};
@@ -52,10 +53,61 @@ fn sum(r: f64) -> f64
     p
 }
 
+// `sum` of eight side by side: as one loop over i their divisions run as vectors.
+fn sums(r: [f64; 8]) -> [f64; 8]
+    ensures { λ q. ⌜ Each (λ x. Exp.expSum 13 x one) r q ⌝ }
+{
+    let r0 = r[0];
+    let r1 = r[1];
+    let r2 = r[2];
+    let r3 = r[3];
+    let r4 = r[4];
+    let r5 = r[5];
+    let r6 = r[6];
+    let r7 = r[7];
+    let mut p0 = 1.0;
+    let mut p1 = 1.0;
+    let mut p2 = 1.0;
+    let mut p3 = 1.0;
+    let mut p4 = 1.0;
+    let mut p5 = 1.0;
+    let mut p6 = 1.0;
+    let mut p7 = 1.0;
+    let mut i: u64 = 13;
+    while 0 < i {
+        let n = i as f64;
+        p0 = 1.0 + r0 * p0 / n;
+        p1 = 1.0 + r1 * p1 / n;
+        p2 = 1.0 + r2 * p2 / n;
+        p3 = 1.0 + r3 * p3 / n;
+        p4 = 1.0 + r4 * p4 / n;
+        p5 = 1.0 + r5 * p5 / n;
+        p6 = 1.0 + r6 * p6 / n;
+        p7 = 1.0 + r7 * p7 / n;
+        i -= 1;
+    }
+    [p0, p1, p2, p3, p4, p5, p6, p7]
+}
+
 // ln 2 in two parts.
 pub(crate) const H: f64 = 0.6931471803691238;
 
 pub(crate) const L: f64 = 1.9082149292705877e-10;
+
+// The multiple of ln 2 that is taken off y.
+fn multiple(y: f64) -> f64
+    ensures { λ k. ⌜ k ≡ Exp.expK y ⌝ }
+{
+    floor(y * 1.4426950408889634 + 0.5)
+}
+
+// What is left of y.
+fn remainder(y: f64, k: f64) -> f64
+    requires { ⌜ k ≡ Exp.expK y ⌝ }
+    ensures { λ r. ⌜ r ≡ Exp.expR y ⌝ }
+{
+    (y - k * H) - k * L
+}
 
 // The whole number k as k + 2048, which is not negative.
 fn biased(k: f64) -> u64
@@ -65,17 +117,17 @@ fn biased(k: f64) -> u64
     (k + 2048.0) as u64
 }
 
-// exp between its two ends.
-fn inner(y: f64) -> f64
-    requires { ⌜ AtMost y 746 ⌝ }
+// exp between its two ends, from the sum q.
+fn inner(y: f64, k: f64, q: f64) -> f64
+    requires { ⌜ AtMost y 746 ⌝ ∗ ⌜ k ≡ Exp.expK y ⌝ ∗ ⌜ q ≡ Exp.expSum 13 (Exp.expR y) one ⌝ }
     ensures { λ r. ⌜ r ≡ Exp.expInner y ⌝ }
 {
-    let k = floor(y * 1.4426950408889634 + 0.5);
-    let r = (y - k * H) - k * L;
-    scaled(sum(r), biased(k))
+    scaled(q, biased(k))
 }
 
-pub fn exp(y: f64) -> f64
+// exp from the sum q.
+fn finished(y: f64, k: f64, q: f64) -> f64
+    requires { ⌜ k ≡ Exp.expK y ⌝ ∗ ⌜ q ≡ Exp.expSum 13 (Exp.expR y) one ⌝ }
     ensures { λ r. ⌜ r ≡ Exp.expOf y ⌝ }
 {
     if y != y {
@@ -87,5 +139,54 @@ pub fn exp(y: f64) -> f64
     if y < -746.0 {
         return 0.0;
     }
-    inner(y)
+    inner(y, k, q)
+}
+
+pub fn exp(y: f64) -> f64
+    ensures { λ r. ⌜ r ≡ Exp.expOf y ⌝ }
+{
+    let k = multiple(y);
+    let r = remainder(y, k);
+    finished(y, k, sum(r))
+}
+
+// ---- eight side by side
+
+fn multiples(y: [f64; 8]) -> [f64; 8]
+    ensures { λ k. ⌜ Each Exp.expK y k ⌝ }
+{
+    let mut k = [0.0; 8];
+    let mut j: usize = 0;
+    while j < 8 {
+        k[j] = multiple(y[j]);
+        j += 1;
+    }
+    k
+}
+
+fn remainders(y: [f64; 8], k: [f64; 8]) -> [f64; 8]
+    requires { ⌜ Each Exp.expK y k ⌝ }
+    ensures { λ r. ⌜ Each Exp.expR y r ⌝ }
+{
+    let mut r = [0.0; 8];
+    let mut j: usize = 0;
+    while j < 8 {
+        r[j] = remainder(y[j], k[j]);
+        j += 1;
+    }
+    r
+}
+
+pub(crate) fn exps(y: [f64; 8]) -> [f64; 8]
+    ensures { λ r. ⌜ Each Exp.expOf y r ⌝ }
+{
+    let k = multiples(y);
+    let q = sums(remainders(y, k));
+    let mut r = [0.0; 8];
+    let mut j: usize = 0;
+    while j < 8 {
+        r[j] = finished(y[j], k[j], q[j]);
+        j += 1;
+    }
+    r
 }

@@ -1,5 +1,6 @@
 // The small methods of f64, and the border between floats and bits.
 ghost use mathlib.Core.Path.{_≡_};
+ghost use mathlib.Core.Bool.{true};
 ghost use lib.Ieee as Ieee;
 ghost use lib.Ieee.{binary64};
 ghost use Rattle.elementary.specs.Methods.{absOf, maxOf, isZero, squareOf};
@@ -16,6 +17,17 @@ pub fn powi_2(y: f64) -> f64
     ensures { λ r. ⌜ r ≡ squareOf y ⌝ }
 {
     y * y
+}
+
+// Whether a and b are the same float; of two zeros, their signs too.
+pub(crate) fn same(a: f64, b: f64) -> bool
+    ensures { λ r. ⌜ (r ≡ true → a ≡ b) ⌝ }
+{
+    if a == b {
+        f64::to_bits(a) == f64::to_bits(b)
+    } else {
+        false
+    }
 }
 
 // abs clears the sign.

@@ -1,9 +1,13 @@
 // The normal distribution: normal_distribution.rs over document 01's rules.
 use crate::cody::erfc;
+use crate::cody::erfc_with;
+use crate::cody::smoothened_exponentials_of_negative_squares;
+use crate::inverse::bisected;
+use crate::methods::abs;
 ghost use mathlib.Core.Path.{_≡_};
-ghost use Prim.Native.Nat.{ℕ};
+ghost use Rattle.elementary.specs.Each.{Each};
 ghost use Rattle.elementary.specs.Rules.{rules-0};
-ghost use Rattle.elementary.specs.NormalDistribution.{cdfOf, endsOf, inverseOf, inverseFUpperMapOf};
+ghost use Rattle.elementary.specs.NormalDistribution.{sizeOf, cdfOf, inverseOf, inverseFUpperMapOf};
 
 const FRAC_1_SQRT_2: f64 = 0.7071067811865476;
 
@@ -13,23 +17,53 @@ pub fn standard_normal_cdf(y: f64) -> f64
     0.5 * erfc(-y * FRAC_1_SQRT_2)
 }
 
-// 64 times the middle becomes lo if its cdf is below p, else hi.
-fn bisected(p: f64) -> f64
-    ensures { λ r. ⌜ r ≡ endsOf rules-0 p .hi ⌝ }
+// The cdf of eight side by side.
+fn sizes(x: [f64; 8]) -> [f64; 8]
+    ensures { λ y. ⌜ Each sizeOf x y ⌝ }
 {
-    let mut lo = -39.0;
-    let mut hi = 39.0;
-    let mut i: u64 = 0;
-    while i < 64 {
-        let mid = 0.5 * (lo + hi);
-        if standard_normal_cdf(mid) < p {
-            lo = mid;
-        } else {
-            hi = mid;
-        }
-        i += 1;
+    let mut y = [0.0; 8];
+    let mut j: usize = 0;
+    while j < 8 {
+        y[j] = abs(-x[j] * FRAC_1_SQRT_2);
+        j += 1;
     }
-    hi
+    y
+}
+
+fn outer_cdfs(x: [f64; 8]) -> [f64; 8]
+    ensures { λ r. ⌜ Each (cdfOf rules-0) x r ⌝ }
+{
+    let f = smoothened_exponentials_of_negative_squares(sizes(x));
+    let mut r = [0.0; 8];
+    let mut j: usize = 0;
+    while j < 8 {
+        r[j] = 0.5 * erfc_with(-x[j] * FRAC_1_SQRT_2, f[j]);
+        j += 1;
+    }
+    r
+}
+
+fn inner_cdfs(x: [f64; 8]) -> [f64; 8]
+    ensures { λ r. ⌜ Each (cdfOf rules-0) x r ⌝ }
+{
+    let mut r = [0.0; 8];
+    let mut j: usize = 0;
+    while j < 8 {
+        r[j] = standard_normal_cdf(x[j]);
+        j += 1;
+    }
+    r
+}
+
+// Near 0 the cdf has no exponential factor.
+pub(crate) fn cdfs(x: [f64; 8]) -> [f64; 8]
+    ensures { λ r. ⌜ Each (cdfOf rules-0) x r ⌝ }
+{
+    if abs(x[7]) < 0.66 {
+        inner_cdfs(x)
+    } else {
+        outer_cdfs(x)
+    }
 }
 
 pub fn inverse_normal_cdf(p: f64) -> f64

@@ -4,26 +4,21 @@ use borrow.Author.Needs.{needs}
 use Rattle.elementary.proofs.cody.erfc_abs.Statement.{statement}
 use Rattle.elementary.proofs.cody.erfc_abs.Tie as tie
 
-smoothened-exponential-of-negative-square-requires :
-    tie.Need-smoothened-exponential-of-negative-square-requires
-smoothened-exponential-of-negative-square-requires c κs = search needs
-
 erfcx-above-threshold-requires : tie.Need-erfcx-above-threshold-requires
 erfcx-above-threshold-requires c κs = search needs
 
 returns : tie.Need-returns
 unfolding erfcAbs
-returns c = rw (c .if1 .taken, c .before .smoothened-exponential-of-negative-square .ensures)
+returns c = rw (c .if1 .taken, c .before .pre)
 
 returns-2 : tie.Need-returns-2
 unfolding erfcAbs
-returns-2 c = rw (c .before .if1 .left, c .erfcx-above-threshold .ensures, c .before .before .smoothened-exponential-of-negative-square .ensures)
+returns-2 c = rw (c .before .if1 .left, c .erfcx-above-threshold .ensures, c .before .before .pre)
 
 pub erfc-abs-spec : {M : Type 1} → statement M
 erfc-abs-spec =
     tie.close
     (tie.spec
-    smoothened-exponential-of-negative-square-requires
     erfcx-above-threshold-requires
     returns
     returns-2)

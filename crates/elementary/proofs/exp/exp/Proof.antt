@@ -1,29 +1,27 @@
--- `exp::exp` meets its contract: each way out is the arm that the tests before it leave. Assumes nothing.
-use lib.Ieee.{div, ofBits}
-use lib.Ieee.Compare.{differs-from-itself}
-use Rattle.elementary.specs.Exp.{expOf}
-use Rattle.elementary.proofs.exp.Range.{in-range}
+-- `exp::exp` meets its contract: each call's result is its definition's. Assumes nothing.
+use mathlib.Core.Path.{ap, _∙_}
+use borrow.Author.Needs.{needs}
+use Rattle.elementary.specs.Ops.{one}
+use Rattle.elementary.specs.Exp.{expSum}
 use Rattle.elementary.proofs.exp.exp.Statement.{statement}
 use Rattle.elementary.proofs.exp.exp.Tie as tie
 
+multiple-requires : tie.Need-multiple-requires
+multiple-requires c κs = search needs
+
+remainder-requires : tie.Need-remainder-requires
+remainder-requires c κs = c .multiple .ensures
+
+sum-requires : tie.Need-sum-requires
+sum-requires c κs = search needs
+
+finished-requires : tie.Need-finished-requires
+finished-requires c κs = (c .before .before .multiple .ensures, c .sum .ensures ∙ ap (λ r. expSum 13 r one) (c .before .remainder .ensures))
+
 returns : tie.Need-returns
-unfolding expOf
-returns c = rw (c .if1 .taken) (differs-from-itself _ (rw (c .if1 .taken) tt))
-
-returns-2 : tie.Need-returns-2
-unfolding expOf div ofBits
-returns-2 c = rw (c .before .if1 .left, c .if2 .taken)
-
-returns-3 : tie.Need-returns-3
-unfolding expOf
-returns-3 c = rw (c .before .before .if1 .left, c .before .if2 .left, c .if3 .taken)
-
-inner-requires : tie.Need-inner-requires
-inner-requires c κs = in-range _ (c .before .before .if1 .left) (c .before .if2 .left) (c .if3 .left)
-
-returns-4 : tie.Need-returns-4
-unfolding expOf
-returns-4 c = rw (c .before .before .before .if1 .left, c .before .before .if2 .left, c .before .if3 .left) (c .inner .ensures)
+returns c = c .finished .ensures
 
 pub exp-spec : {M : Type 1} → statement M
-exp-spec = tie.close (tie.spec returns returns-2 returns-3 inner-requires returns-4)
+exp-spec =
+    tie.close
+    (tie.spec multiple-requires remainder-requires sum-requires finished-requires returns)

@@ -2,7 +2,9 @@
 use borrow.Author.Needs.{needs}
 use lib.Ieee.{div, neg, ofBits}
 use lib.Ieee.Compare.{differs-from-itself}
+use Rattle.elementary.specs.Rules.{rules-0}
 use Rattle.elementary.specs.NormalDistribution.{inverseOf}
+use Rattle.elementary.specs.Inverse.{lowest-under, highest-over}
 use Rattle.elementary.proofs.normal_distribution.inverse_normal_cdf.Statement.{statement}
 use Rattle.elementary.proofs.normal_distribution.inverse_normal_cdf.Tie as tie
 
@@ -19,7 +21,7 @@ unfolding inverseOf div ofBits
 returns-3 c = rw (c .before .before .if1 .left, c .before .if2 .left, c .if3 .taken)
 
 bisected-requires : tie.Need-bisected-requires
-bisected-requires c κs = search needs
+bisected-requires c κs = (lowest-under rules-0 _ (c .before .before .if1 .left) (c .before .if2 .left), highest-over rules-0 _ (c .if3 .left))
 
 returns-4 : tie.Need-returns-4
 unfolding inverseOf

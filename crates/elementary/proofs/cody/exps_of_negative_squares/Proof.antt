@@ -1,0 +1,45 @@
+-- `cody::exps_of_negative_squares` meets its contract. Assumes nothing.
+use mathlib.Core.Path.{ap, _∙_}
+use Rattle.elementary.specs.Exp.{expOf}
+use Rattle.elementary.specs.Cody.{negativeSquare}
+use Rattle.elementary.proofs.Eight.{copies}
+use borrow.Author.Needs.{needs}
+use Rattle.elementary.proofs.cody.exps_of_negative_squares.Statement.{statement}
+use Rattle.elementary.proofs.cody.exps_of_negative_squares.Tie as tie
+
+alike-requires : tie.Need-alike-requires
+alike-requires c κs = search needs
+
+array-read-exp : tie.Need-array-read-exp
+array-read-exp c = search needs
+
+array-read-exp-2 : tie.Need-array-read-exp-2
+array-read-exp-2 c = search needs
+
+exp-requires : tie.Need-exp-requires
+exp-requires c κs = search needs
+
+negative-squares-requires : tie.Need-negative-squares-requires
+negative-squares-requires c κs = search needs
+
+exps-requires : tie.Need-exps-requires
+exps-requires c κs = search needs
+
+returns : tie.Need-returns
+returns c = copies (λ a. expOf (negativeSquare a)) (c .before .before .before .args .t1) (c .exp .ensures) (c .before .before .alike .ensures (c .before .if1 .taken))
+
+returns-2 : tie.Need-returns-2
+returns-2 c = λ k l. c .exps .ensures k l ∙ ap expOf (c .before .negative-squares .ensures k l)
+
+pub exps-of-negative-squares-spec : {M : Type 1} → statement M
+exps-of-negative-squares-spec =
+    tie.close
+    (tie.spec
+    alike-requires
+    array-read-exp
+    array-read-exp-2
+    exp-requires
+    negative-squares-requires
+    exps-requires
+    returns
+    returns-2)

@@ -1,0 +1,67 @@
+-- `cody::negative_squares` meets its contract: after j turns the first j are filled in. Assumes nothing.
+use mathlib.Core.Path.{_≡_, refl, sym, ap, _∙_}
+use Prim.Native.Nat.{_-_}
+use native.Mathlib.Omega.{arith}
+use Rattle.elementary.specs.Each.{Of}
+use Rattle.elementary.proofs.Eight.{Filled, begun, next, filled}
+use borrow.Author.Needs.{needs}
+use Rattle.elementary.specs.Cody.{negativeSquare}
+use Rattle.elementary.proofs.cody.negative_squares.Statement.{statement}
+use Rattle.elementary.proofs.cody.negative_squares.Tie as tie
+
+abbrev Inv-loop : tie.InvT-loop
+Inv-loop t z₀ j₀ z j = Filled (Of negativeSquare t) z j
+
+abbrev μ-loop : tie.MeasureT-loop
+μ-loop t z₀ j₀ z j = 8 - j
+
+loop-holds : tie.Need-loop-holds Inv-loop μ-loop
+loop-holds c = begun _ _ refl
+
+mul-z : tie.Need-mul-z Inv-loop μ-loop
+mul-z c = search needs
+
+array-read-z : tie.Need-array-read-z Inv-loop μ-loop
+array-read-z c = search needs
+
+mul-z-2 : tie.Need-mul-z-2 Inv-loop μ-loop
+mul-z-2 c = search needs
+
+array-read-z-2 : tie.Need-array-read-z-2 Inv-loop μ-loop
+array-read-z-2 c = search needs
+
+mul-z-3 : tie.Need-mul-z-3 Inv-loop μ-loop
+mul-z-3 c = search needs
+
+array-write-z : tie.Need-array-write-z Inv-loop μ-loop
+array-write-z c = search needs
+
+add-j : tie.Need-add-j Inv-loop μ-loop
+add-j c = search needs
+
+loop-less : tie.Need-loop-less Inv-loop μ-loop
+loop-less c = omega arith
+
+loop-again : tie.Need-loop-again Inv-loop μ-loop
+loop-again c = next _ _ _ _ (c .loop-test .taken) (refl) (c .before .loop .inv)
+
+returns : tie.Need-returns Inv-loop μ-loop
+returns c = filled (c .before .loop .inv) (c .loop-test .left)
+
+pub negative-squares-spec : {M : Type 1} → statement M
+negative-squares-spec =
+    tie.close
+    (tie.spec
+    Inv-loop
+    μ-loop
+    loop-holds
+    mul-z
+    array-read-z
+    mul-z-2
+    array-read-z-2
+    mul-z-3
+    array-write-z
+    add-j
+    loop-less
+    loop-again
+    returns)

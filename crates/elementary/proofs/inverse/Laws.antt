@@ -1,0 +1,63 @@
+-- The bisection's turns, and where they change nothing any more. Assumes nothing.
+use mathlib.Core.Path.{_≡_, refl, sym, _∙_, ap}
+use mathlib.Core.Bool.{Bool, true, false}
+use mathlib.Core.List.{List}
+use Prim.Native.Nat.{ℕ, zero, suc, _+_, _-_, _≤_, _<_}
+use native.Mathlib.Omega.{arith}
+use lib.ListN.{getD}
+use lib.Ieee.{Float, nan, lt}
+use Rattle.elementary.specs.Rules.{rules-0}
+use Rattle.elementary.specs.Each.{Each}
+use Rattle.elementary.specs.NormalDistribution.{cdfOf, midOf, bisected, endsOf}
+use Rattle.elementary.specs.Turns.{After}
+
+-- ---- one turn
+turn-up : (cdf : Float → Float) (n : ℕ) (p lo hi : Float) → lt (cdf (midOf lo hi)) p ≡ true → bisected cdf (suc n) p lo hi ≡ bisected cdf n p (midOf lo hi) hi
+unfolding bisected
+turn-up cdf n p lo hi t = rw t refl
+
+turn-down : (cdf : Float → Float) (n : ℕ) (p lo hi : Float) → lt (cdf (midOf lo hi)) p ≡ false → bisected cdf (suc n) p lo hi ≡ bisected cdf n p lo (midOf lo hi)
+unfolding bisected
+turn-down cdf n p lo hi t = rw t refl
+
+-- ---- where the middle is an end, every later turn leaves both ends
+stays-low : (cdf : Float → Float) (n : ℕ) (p lo hi : Float) → lt (cdf lo) p ≡ true → midOf lo hi ≡ lo → bisected cdf n p lo hi .hi ≡ hi
+unfolding bisected
+stays-low cdf zero p lo hi u e = refl
+stays-low cdf (suc n) p lo hi u e = ap (λ z. z .hi) (turn-up cdf n p lo hi (rw e u)) ∙ rw e (stays-low cdf n p lo hi u e)
+
+stays-high : (cdf : Float → Float) (n : ℕ) (p lo hi : Float) → lt (cdf hi) p ≡ false → midOf lo hi ≡ hi → bisected cdf n p lo hi .hi ≡ hi
+unfolding bisected
+stays-high cdf zero p lo hi o e = refl
+stays-high cdf (suc n) p lo hi o e = ap (λ z. z .hi) (turn-down cdf n p lo hi (rw e o)) ∙ rw e (stays-high cdf n p lo hi o e)
+
+pub ends-low : (p lo hi : Float) (i : ℕ) → After p lo hi i → midOf lo hi ≡ lo → hi ≡ endsOf rules-0 p .hi
+ends-low p lo hi i h e = sym (ap (λ z. z .hi) (h .rest) ∙ stays-low (cdfOf rules-0) (64 - i) p lo hi (h .under) e)
+
+pub ends-high : (p lo hi : Float) (i : ℕ) → After p lo hi i → midOf lo hi ≡ hi → hi ≡ endsOf rules-0 p .hi
+ends-high p lo hi i h e = sym (ap (λ z. z .hi) (h .rest) ∙ stays-high (cdfOf rules-0) (64 - i) p lo hi (h .over) e)
+
+-- ---- after i turns
+one-less : (i : ℕ) → i < 64 → 64 - i ≡ suc (64 - (i + 1))
+one-less i l = omega arith
+
+pub went-up : (p lo hi : Float) (i : ℕ) → After p lo hi i → i < 64 → lt (cdfOf rules-0 (midOf lo hi)) p ≡ true → After p (midOf lo hi) hi (i + 1)
+went-up p lo hi i h l t = record { bound = omega arith; under = t; over = h .over; rest = h .rest ∙ rw (one-less i l) (turn-up (cdfOf rules-0) (64 - (i + 1)) p lo hi t) }
+
+pub went-down : (p lo hi : Float) (i : ℕ) → After p lo hi i → i < 64 → lt (cdfOf rules-0 (midOf lo hi)) p ≡ false → After p lo (midOf lo hi) (i + 1)
+went-down p lo hi i h l t = record { bound = omega arith; under = h .under; over = t; rest = h .rest ∙ rw (one-less i l) (turn-down (cdfOf rules-0) (64 - (i + 1)) p lo hi t) }
+
+pub done : (p lo hi : Float) (i : ℕ) → After p lo hi i → 64 ≤ i → hi ≡ endsOf rules-0 p .hi
+unfolding bisected
+done p lo hi i h l = let z : 64 - i ≡ 0 = omega arith in sym (ap (λ e. e .hi) (rw z at (h .rest)))
+
+-- ---- what a test on a computed value says of the definition
+pub judged : (v x p : Float) (b : Bool) → v ≡ cdfOf rules-0 x → lt v p ≡ b → lt (cdfOf rules-0 x) p ≡ b
+judged v x p b e t = rw (← e) t
+
+pub moved : {p lo lo' hi hi' : Float} {i : ℕ} → lo ≡ lo' → hi ≡ hi' → After p lo' hi' i → After p lo hi i
+moved a b h = rw (a, b) h
+
+-- a value at a point is the cdf's at every float that is the point
+pub at-point : (x f : List Float) (k : ℕ) (mid : Float) → Each (cdfOf rules-0) x f → k < 8 → mid ≡ getD x k nan → getD f k nan ≡ cdfOf rules-0 mid
+at-point x f k mid h l e = h k l ∙ ap (cdfOf rules-0) (sym e)

@@ -1,0 +1,42 @@
+-- `inverse::batch` meets its contract. Assumes nothing.
+use native.Mathlib.Omega.{arith}
+use borrow.Author.Needs.{needs}
+use Rattle.elementary.proofs.inverse.batch.Statement.{statement}
+use Rattle.elementary.proofs.inverse.batch.Tie as tie
+
+middles-requires : tie.Need-middles-requires
+middles-requires c κs = search needs
+
+cdfs-requires : tie.Need-cdfs-requires
+cdfs-requires c κs = search needs
+
+array-read-known : tie.Need-array-read-known
+array-read-known c = search needs
+
+array-read-known-2 : tie.Need-array-read-known-2
+array-read-known-2 c = search needs
+
+known-requires : tie.Need-known-requires
+known-requires c κs = c .cdfs .ensures 0 (omega arith)
+
+turned-requires : tie.Need-turned-requires
+turned-requires c κs = search needs
+
+walk-requires : tie.Need-walk-requires
+walk-requires c κs = search needs
+
+returns : tie.Need-returns
+returns c = search needs
+
+pub batch-spec : {M : Type 1} → statement M
+batch-spec =
+    tie.close
+    (tie.spec
+    middles-requires
+    cdfs-requires
+    array-read-known
+    array-read-known-2
+    known-requires
+    turned-requires
+    walk-requires
+    returns)

@@ -1,0 +1,72 @@
+-- `inverse::bisected` meets its contract. Assumes nothing.
+use mathlib.Core.Path.{refl, sym, _∙_}
+use Prim.Native.Nat.{_-_}
+use native.Mathlib.Omega.{arith}
+use borrow.Author.Needs.{needs}
+use Rattle.elementary.specs.NormalDistribution.{endsOf}
+use Rattle.elementary.specs.Turns.{After}
+use Rattle.elementary.proofs.inverse.Laws.{ends-low, ends-high, done}
+use Rattle.elementary.proofs.inverse.bisected.Statement.{statement}
+use Rattle.elementary.proofs.inverse.bisected.Tie as tie
+
+abbrev Inv-loop : tie.InvT-loop
+Inv-loop p hint e₀ e = After p (e .lo) (e .hi) (e .i)
+
+abbrev μ-loop : tie.MeasureT-loop
+μ-loop p hint e₀ e = 64 - e .i
+
+approximation-requires : tie.Need-approximation-requires Inv-loop μ-loop
+approximation-requires c κs = search needs
+
+loop-holds : tie.Need-loop-holds Inv-loop μ-loop
+unfolding endsOf
+loop-holds c = record { bound = omega arith; under = c .before .pre .0; over = c .before .pre .1; rest = refl }
+
+same-requires : tie.Need-same-requires Inv-loop μ-loop
+same-requires c κs = search needs
+
+returns : tie.Need-returns Inv-loop μ-loop
+returns c =
+    let h = c .before .before .before .before .before .loop .inv in
+    ends-low _ _ _ _ h (c .before .same .ensures (c .if2 .taken))
+
+same-requires-2 : tie.Need-same-requires-2 Inv-loop μ-loop
+same-requires-2 c κs = search needs
+
+returns-2 : tie.Need-returns-2 Inv-loop μ-loop
+returns-2 c =
+    let h = c .before .before .before .before .before .before .before .loop .inv in
+    ends-high _ _ _ _ h (c .before .same2 .ensures (c .if3 .taken))
+
+aim-requires : tie.Need-aim-requires Inv-loop μ-loop
+aim-requires c κs = search needs
+
+batch-requires : tie.Need-batch-requires Inv-loop μ-loop
+batch-requires c κs = search needs
+
+loop-less : tie.Need-loop-less Inv-loop μ-loop
+loop-less c = omega (arith, c .batch .ensures .1, c .batch .ensures .0 .bound)
+
+loop-again : tie.Need-loop-again Inv-loop μ-loop
+loop-again c = c .batch .ensures .0
+
+returns-3 : tie.Need-returns-3 Inv-loop μ-loop
+returns-3 c = done _ _ _ _ (c .before .before .loop .inv) (c .if1 .left)
+
+pub bisected-spec : {M : Type 1} → statement M
+bisected-spec =
+    tie.close
+    (tie.spec
+    Inv-loop
+    μ-loop
+    approximation-requires
+    loop-holds
+    same-requires
+    returns
+    same-requires-2
+    returns-2
+    aim-requires
+    batch-requires
+    loop-less
+    loop-again
+    returns-3)

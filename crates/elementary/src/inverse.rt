@@ -1,0 +1,229 @@
+// The bisection of the inverse normal cdf. The middles of the next eight turns are guessed and their
+// cdf values computed side by side. A turn takes a value only where its own middle is the guessed
+// point, so nothing has to be known of a guess: a wrong one costs time only.
+use crate::ln::ln;
+use crate::methods::same;
+use crate::normal_distribution::cdfs;
+use crate::normal_distribution::standard_normal_cdf;
+use crate::sqrt::sqrt;
+ghost use mathlib.Core.Path.{_≡_};
+ghost use mathlib.Core.Bool.{true, false};
+ghost use Prim.Native.Nat.{_≤_, _<_};
+ghost use lib.Ieee.{lt};
+ghost use Rattle.elementary.specs.Rules.{rules-0};
+ghost use Rattle.elementary.specs.Each.{Each};
+ghost use Rattle.elementary.specs.NormalDistribution.{cdfOf, midOf, lowest, highest, endsOf};
+ghost use Rattle.elementary.specs.Turns.{After};
+
+// The ends after i turns, and the cdf's values there.
+struct Ends {
+    lo: f64,
+    hi: f64,
+    flo: f64,
+    fhi: f64,
+    i: u64,
+}
+
+// ---- guesses
+
+// Acklam's approximation of the inverse normal cdf in the lower tail.
+fn tail(p: f64) -> f64 {
+    let q = sqrt(-2.0 * ln(p));
+    (((((-7.784894002430293e-3 * q - 3.223964580411365e-1) * q - 2.400758277161838) * q
+        - 2.549732539343734)
+        * q
+        + 4.374664141464968)
+        * q
+        + 2.938163982698783)
+        / ((((7.784695709041462e-3 * q + 3.224671290700398e-1) * q + 2.445134137142996) * q
+            + 3.754408661907416)
+            * q
+            + 1.0)
+}
+
+// And between the tails.
+fn central(p: f64) -> f64 {
+    let q = p - 0.5;
+    let r = q * q;
+    (((((-39.69683028665376 * r + 220.9460984245205) * r - 275.9285104469687) * r
+        + 138.357751867269)
+        * r
+        - 30.66479806614716)
+        * r
+        + 2.506628277459239)
+        * q
+        / (((((-54.47609879822406 * r + 161.5858368580409) * r - 155.6989798598866) * r
+            + 66.80131188771972)
+            * r
+            - 13.28068155288572)
+            * r
+            + 1.0)
+}
+
+fn approximation(p: f64) -> f64 {
+    if p < 0.02425 {
+        return tail(p);
+    }
+    if p > 0.97575 {
+        return -tail(1.0 - p);
+    }
+    central(p)
+}
+
+// Where the ends are close, a line through the cdf's values there meets p nearer to the result.
+fn aim(p: f64, at: Ends, guess: f64) -> f64 {
+    if at.hi - at.lo < 1e-6 {
+        at.lo + (p - at.flo) / (at.fhi - at.flo) * (at.hi - at.lo)
+    } else {
+        guess
+    }
+}
+
+// The next eight middles, if the result is near the guess.
+fn middles(a: f64, b: f64, guess: f64) -> [f64; 8] {
+    let mut x = [0.0; 8];
+    let mut lo = a;
+    let mut hi = b;
+    let mut j: usize = 0;
+    while j < 8 {
+        let mid = 0.5 * (lo + hi);
+        x[j] = mid;
+        if mid < guess {
+            lo = mid;
+        } else {
+            hi = mid;
+        }
+        j += 1;
+    }
+    x
+}
+
+// ---- turns
+
+// The turns after the first whose middles were guessed.
+fn walk(p: f64, from: Ends, x: [f64; 8], f: [f64; 8]) -> Ends
+    requires { ⌜ After p (from .lo) (from .hi) (from .i) ⌝ ∗ ⌜ Each (cdfOf rules-0) x f ⌝ }
+    ensures { λ r. ⌜ After p (r .lo) (r .hi) (r .i) ⌝ ∗ ⌜ from .i ≤ r .i ⌝ }
+{
+    let mut lo = from.lo;
+    let mut hi = from.hi;
+    let mut flo = from.flo;
+    let mut fhi = from.fhi;
+    let mut i = from.i;
+    let mut j: usize = 1;
+    while j < 8 {
+        let mid = 0.5 * (lo + hi);
+        let at = x[j];
+        if 64 <= i {
+            return Ends {
+                lo,
+                hi,
+                flo,
+                fhi,
+                i,
+            };
+        }
+        if same(mid, at) {
+            let v = f[j];
+            if v < p {
+                lo = mid;
+                flo = v;
+            } else {
+                hi = mid;
+                fhi = v;
+            }
+        } else {
+            return Ends {
+                lo,
+                hi,
+                flo,
+                fhi,
+                i,
+            };
+        }
+        i += 1;
+        j += 1;
+    }
+    Ends {
+        lo,
+        hi,
+        flo,
+        fhi,
+        i,
+    }
+}
+
+// The cdf at mid, which is f if mid is x.
+fn known(mid: f64, x: f64, f: f64) -> f64
+    requires { ⌜ f ≡ cdfOf rules-0 x ⌝ }
+    ensures { λ r. ⌜ r ≡ cdfOf rules-0 mid ⌝ }
+{
+    if same(mid, x) {
+        f
+    } else {
+        standard_normal_cdf(mid)
+    }
+}
+
+// One turn, whose middle has the cdf's value v.
+fn turned(p: f64, from: Ends, mid: f64, v: f64) -> Ends
+    requires { ⌜ After p (from .lo) (from .hi) (from .i) ⌝ ∗ ⌜ from .i < 64 ⌝ ∗ ⌜ mid ≡ midOf (from .lo) (from .hi) ⌝ ∗ ⌜ v ≡ cdfOf rules-0 mid ⌝ }
+    ensures { λ r. ⌜ After p (r .lo) (r .hi) (r .i) ⌝ ∗ ⌜ from .i < r .i ⌝ }
+{
+    if v < p {
+        Ends {
+            lo: mid,
+            hi: from.hi,
+            flo: v,
+            fhi: from.fhi,
+            i: from.i + 1,
+        }
+    } else {
+        Ends {
+            lo: from.lo,
+            hi: mid,
+            flo: from.flo,
+            fhi: v,
+            i: from.i + 1,
+        }
+    }
+}
+
+// One turn and up to seven more.
+fn batch(p: f64, from: Ends, guess: f64) -> Ends
+    requires { ⌜ After p (from .lo) (from .hi) (from .i) ⌝ ∗ ⌜ from .i < 64 ⌝ }
+    ensures { λ r. ⌜ After p (r .lo) (r .hi) (r .i) ⌝ ∗ ⌜ from .i < r .i ⌝ }
+{
+    let mid = 0.5 * (from.lo + from.hi);
+    let x = middles(from.lo, from.hi, guess);
+    let f = cdfs(x);
+    let v = known(mid, x[0], f[0]);
+    walk(p, turned(p, from, mid, v), x, f)
+}
+
+// The 64 turns: the middle becomes lo if its cdf is below p, else hi. Where the middle is an end, no
+// later turn changes anything.
+pub(crate) fn bisected(p: f64) -> f64
+    requires { ⌜ lt (cdfOf rules-0 lowest) p ≡ true ⌝ ∗ ⌜ lt (cdfOf rules-0 highest) p ≡ false ⌝ }
+    ensures { λ r. ⌜ r ≡ endsOf rules-0 p .hi ⌝ }
+{
+    let guess = approximation(p);
+    let mut e = Ends {
+        lo: -39.0,
+        hi: 39.0,
+        flo: 0.0,
+        fhi: 1.0,
+        i: 0,
+    };
+    while e.i < 64 {
+        let mid = 0.5 * (e.lo + e.hi);
+        if same(mid, e.lo) {
+            return e.hi;
+        }
+        if same(mid, e.hi) {
+            return e.hi;
+        }
+        e = batch(p, e, aim(p, e, guess));
+    }
+    e.hi
+}
