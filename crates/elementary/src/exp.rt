@@ -73,18 +73,18 @@ fn sums(r: [f64; 8]) -> [f64; 8]
     let mut p5 = 1.0;
     let mut p6 = 1.0;
     let mut p7 = 1.0;
-    let mut i: u64 = 13;
-    while 0 < i {
-        let n = i as f64;
-        p0 = 1.0 + r0 * p0 / n;
-        p1 = 1.0 + r1 * p1 / n;
-        p2 = 1.0 + r2 * p2 / n;
-        p3 = 1.0 + r3 * p3 / n;
-        p4 = 1.0 + r4 * p4 / n;
-        p5 = 1.0 + r5 * p5 / n;
-        p6 = 1.0 + r6 * p6 / n;
-        p7 = 1.0 + r7 * p7 / n;
-        i -= 1;
+    let mut n: u64 = 13;
+    while 0 < n {
+        let d = n as f64;
+        p0 = 1.0 + r0 * p0 / d;
+        p1 = 1.0 + r1 * p1 / d;
+        p2 = 1.0 + r2 * p2 / d;
+        p3 = 1.0 + r3 * p3 / d;
+        p4 = 1.0 + r4 * p4 / d;
+        p5 = 1.0 + r5 * p5 / d;
+        p6 = 1.0 + r6 * p6 / d;
+        p7 = 1.0 + r7 * p7 / d;
+        n -= 1;
     }
     [p0, p1, p2, p3, p4, p5, p6, p7]
 }

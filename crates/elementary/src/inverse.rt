@@ -90,7 +90,8 @@ fn middles(a: f64, b: f64, guess: f64) -> [f64; 8] {
         x[j] = mid;
         if mid < guess {
             lo = mid;
-        } else {
+        }
+        if guess <= mid {
             hi = mid;
         }
         j += 1;

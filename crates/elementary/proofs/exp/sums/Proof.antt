@@ -12,11 +12,11 @@ use Rattle.elementary.proofs.exp.sums.Statement.{statement}
 use Rattle.elementary.proofs.exp.sums.Tie as tie
 
 abbrev Inv-loop : tie.InvT-loop
-Inv-loop r0 r1 r2 r3 r4 r5 r6 r7 p0₀ p1₀ p2₀ p3₀ p4₀ p5₀ p6₀ p7₀ i₀ p0 p1 p2 p3 p4 p5 p6 p7 i =
-    (i ≤ 13) × Left r0 p0 i × Left r1 p1 i × Left r2 p2 i × Left r3 p3 i × Left r4 p4 i × Left r5 p5 i × Left r6 p6 i × Left r7 p7 i
+Inv-loop r0 r1 r2 r3 r4 r5 r6 r7 p0₀ p1₀ p2₀ p3₀ p4₀ p5₀ p6₀ p7₀ n₀ p0 p1 p2 p3 p4 p5 p6 p7 n =
+    (n ≤ 13) × Left r0 p0 n × Left r1 p1 n × Left r2 p2 n × Left r3 p3 n × Left r4 p4 n × Left r5 p5 n × Left r6 p6 n × Left r7 p7 n
 
 abbrev μ-loop : tie.MeasureT-loop
-μ-loop r0 r1 r2 r3 r4 r5 r6 r7 p0₀ p1₀ p2₀ p3₀ p4₀ p5₀ p6₀ p7₀ i₀ p0 p1 p2 p3 p4 p5 p6 p7 i = i
+μ-loop r0 r1 r2 r3 r4 r5 r6 r7 p0₀ p1₀ p2₀ p3₀ p4₀ p5₀ p6₀ p7₀ n₀ p0 p1 p2 p3 p4 p5 p6 p7 n = n
 
 array-read-r0 : tie.Need-array-read-r0 Inv-loop μ-loop
 array-read-r0 c = search needs
@@ -45,11 +45,11 @@ array-read-r7 c = search needs
 loop-holds : tie.Need-loop-holds Inv-loop μ-loop
 loop-holds c = (omega arith, refl, refl, refl, refl, refl, refl, refl, refl)
 
-int-to-float-n : tie.Need-int-to-float-n Inv-loop μ-loop
-int-to-float-n c = fits _ (c .before .before .loop .inv .0)
+int-to-float-d : tie.Need-int-to-float-d Inv-loop μ-loop
+int-to-float-d c = fits _ (c .before .before .loop .inv .0)
 
-sub-i : tie.Need-sub-i Inv-loop μ-loop
-sub-i c = omega arith
+sub-n : tie.Need-sub-n Inv-loop μ-loop
+sub-n c = omega arith
 
 loop-less : tie.Need-loop-less Inv-loop μ-loop
 loop-less c = omega arith
@@ -90,8 +90,8 @@ sums-spec =
     array-read-r6
     array-read-r7
     loop-holds
-    int-to-float-n
-    sub-i
+    int-to-float-d
+    sub-n
     loop-less
     loop-again
     returns)
