@@ -9,7 +9,7 @@ use lib.Dec.{lit<}
 use lib.ListN.{length, getD, set, length-set}
 use lib.Seq.{getD-set-same, getD-set-other}
 use lib.Ieee.{Float, nan}
-use Rattle.elementary.specs.Each.{at, Of, UpTo, Each, Alike}
+use Rattle.elementary.specs.Each.{at, Of, UpTo, Each}
 
 pub record Filled (g : ℕ → Float) (r : List Float) (j : ℕ) : Type 0 where
   pub bound : j ≤ 8
@@ -56,10 +56,10 @@ eight g p0 p1 p2 p3 p4 p5 p6 p7 (suc (suc (suc (suc (suc (suc zero)))))) l = p6
 eight g p0 p1 p2 p3 p4 p5 p6 p7 (suc (suc (suc (suc (suc (suc (suc zero))))))) l = p7
 eight g p0 p1 p2 p3 p4 p5 p6 p7 (suc (suc (suc (suc (suc (suc (suc (suc k)))))))) l = absurd (omega arith)
 
--- where all are the first, f of all is f of the first
-pub copies : (f : Float → Float) (x : List Float) {v : Float} → v ≡ f (at x 0) → Alike x → Each f x (v ∷ v ∷ v ∷ v ∷ v ∷ v ∷ v ∷ v ∷ [])
-copies f x {v} e h =
-    eight (Of f x) e (same 1 (lit< tt)) (same 2 (lit< tt)) (same 3 (lit< tt)) (same 4 (lit< tt)) (same 5 (lit< tt)) (same 6 (lit< tt)) (same 7 (lit< tt))
+-- where all are a, f of all is f of a
+pub copies : (f : Float → Float) (x : List Float) (a : Float) {v : Float} → v ≡ f a → UpTo (λ k. a) x 8 → Each f x (v ∷ v ∷ v ∷ v ∷ v ∷ v ∷ v ∷ v ∷ [])
+copies f x a {v} e h =
+    eight (Of f x) (same 0 (lit< tt)) (same 1 (lit< tt)) (same 2 (lit< tt)) (same 3 (lit< tt)) (same 4 (lit< tt)) (same 5 (lit< tt)) (same 6 (lit< tt)) (same 7 (lit< tt))
   where
     same : (k : ℕ) → k < 8 → v ≡ f (at x k)
     same k l = e ∙ ap f (sym (h k l))

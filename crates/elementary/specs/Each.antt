@@ -20,7 +20,3 @@ UpTo g r n = (k : ℕ) → k < n → at r k ≡ g k
 -- each of r is f of x's
 abbrev pub Each : (Float → Float) → List Float → List Float → Type 0
 Each f x r = UpTo (Of f x) r 8
-
--- all are the first
-abbrev pub Alike : List Float → Type 0
-Alike x = UpTo (λ k. at x 0) x 8

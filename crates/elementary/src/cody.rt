@@ -8,7 +8,7 @@ ghost use mathlib.Core.Path.{_≡_};
 ghost use mathlib.Core.Bool.{true, cond};
 ghost use lib.Ieee.{lt};
 ghost use Rattle.elementary.specs.Ops.{_⊖_, _⊗_, +0, two};
-ghost use Rattle.elementary.specs.Each.{at, UpTo, Each, Alike};
+ghost use Rattle.elementary.specs.Each.{at, UpTo, Each};
 ghost use Rattle.elementary.specs.Rules.{rules-0};
 ghost use Rattle.elementary.specs.Methods.{absOf};
 ghost use Rattle.elementary.specs.Exp.{expOf};
@@ -84,7 +84,7 @@ pub fn d_int(x: f64) -> f64
 }
 
 // y to a multiple of 1/16 toward zero.
-fn tilde(y: f64) -> f64
+pub(crate) fn tilde(y: f64) -> f64
     ensures { λ r. ⌜ r ≡ tildeOf y ⌝ }
 {
     d_int(y * 16.0) / 16.0
@@ -245,13 +245,12 @@ fn negative_rests(y: [f64; 8], t: [f64; 8]) -> [f64; 8]
     z
 }
 
-fn alike(t: [f64; 8]) -> bool
-    ensures { λ r. ⌜ (r ≡ true → Alike t) ⌝ }
+fn alike(t: [f64; 8], a: f64) -> bool
+    ensures { λ r. ⌜ (r ≡ true → UpTo (λ k. a) t 8) ⌝ }
 {
-    let first = t[0];
     let mut j: usize = 0;
     while j < 8 {
-        if same(t[j], first) {
+        if same(t[j], a) {
             j += 1;
         } else {
             return false;
@@ -260,12 +259,12 @@ fn alike(t: [f64; 8]) -> bool
     true
 }
 
-// Near the end of a bisection one exponential serves all eight.
-fn exps_of_negative_squares(t: [f64; 8]) -> [f64; 8]
-    ensures { λ r. ⌜ Each (λ a. expOf (negativeSquare a)) t r ⌝ }
+// Where all eight are a, whose exponential is e, that serves them all.
+fn exps_of_negative_squares(t: [f64; 8], a: f64, e: f64) -> [f64; 8]
+    requires { ⌜ e ≡ expOf (negativeSquare a) ⌝ }
+    ensures { λ r. ⌜ Each (λ b. expOf (negativeSquare b)) t r ⌝ }
 {
-    if alike(t) {
-        let e = exp(-t[0] * t[0]);
+    if alike(t, a) {
         [e, e, e, e, e, e, e, e]
     } else {
         exps(negative_squares(t))
@@ -284,10 +283,11 @@ fn products(a: [f64; 8], b: [f64; 8]) -> [f64; 8]
     r
 }
 
-pub(crate) fn smoothened_exponentials_of_negative_squares(y: [f64; 8]) -> [f64; 8]
+pub(crate) fn smoothened_exponentials_of_negative_squares(y: [f64; 8], a: f64, e: f64) -> [f64; 8]
+    requires { ⌜ e ≡ expOf (negativeSquare a) ⌝ }
     ensures { λ r. ⌜ Each smoothenedExponentialOfNegativeSquare y r ⌝ }
 {
     let t = tildes(y);
-    let a = exps_of_negative_squares(t);
-    products(a, exps(negative_rests(y, t)))
+    let s = exps_of_negative_squares(t, a, e);
+    products(s, exps(negative_rests(y, t)))
 }

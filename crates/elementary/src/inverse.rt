@@ -1,8 +1,12 @@
 // The bisection of the inverse normal cdf. The middles of the next eight turns are guessed and their
 // cdf values computed side by side. A turn takes a value only where its own middle is the guessed
 // point, so nothing has to be known of a guess: a wrong one costs time only.
+use crate::cody::tilde;
+use crate::exp::exp;
 use crate::ln::ln;
+use crate::methods::abs;
 use crate::methods::same;
+use crate::normal_distribution::FRAC_1_SQRT_2;
 use crate::normal_distribution::cdfs;
 use crate::normal_distribution::standard_normal_cdf;
 use crate::sqrt::sqrt;
@@ -12,6 +16,8 @@ ghost use Prim.Native.Nat.{_≤_, _<_};
 ghost use lib.Ieee.{lt};
 ghost use Rattle.elementary.specs.Rules.{rules-0};
 ghost use Rattle.elementary.specs.Each.{Each};
+ghost use Rattle.elementary.specs.Exp.{expOf};
+ghost use Rattle.elementary.specs.Cody.{negativeSquare};
 ghost use Rattle.elementary.specs.NormalDistribution.{cdfOf, midOf, lowest, highest, endsOf};
 ghost use Rattle.elementary.specs.Turns.{After};
 
@@ -191,13 +197,13 @@ fn turned(p: f64, from: Ends, mid: f64, v: f64) -> Ends
 }
 
 // One turn and up to seven more.
-fn batch(p: f64, from: Ends, guess: f64) -> Ends
-    requires { ⌜ After p (from .lo) (from .hi) (from .i) ⌝ ∗ ⌜ from .i < 64 ⌝ }
+fn batch(p: f64, from: Ends, guess: f64, a: f64, e: f64) -> Ends
+    requires { ⌜ After p (from .lo) (from .hi) (from .i) ⌝ ∗ ⌜ from .i < 64 ⌝ ∗ ⌜ e ≡ expOf (negativeSquare a) ⌝ }
     ensures { λ r. ⌜ After p (r .lo) (r .hi) (r .i) ⌝ ∗ ⌜ from .i < r .i ⌝ }
 {
     let mid = 0.5 * (from.lo + from.hi);
     let x = middles(from.lo, from.hi, guess);
-    let f = cdfs(x);
+    let f = cdfs(x, a, e);
     let v = known(mid, x[0], f[0]);
     walk(p, turned(p, from, mid, v), x, f)
 }
@@ -209,22 +215,24 @@ pub(crate) fn bisected(p: f64) -> f64
     ensures { λ r. ⌜ r ≡ endsOf rules-0 p .hi ⌝ }
 {
     let guess = approximation(p);
-    let mut e = Ends {
+    let a = tilde(abs(guess * FRAC_1_SQRT_2));
+    let e = exp(-a * a);
+    let mut at = Ends {
         lo: -39.0,
         hi: 39.0,
         flo: 0.0,
         fhi: 1.0,
         i: 0,
     };
-    while e.i < 64 {
-        let mid = 0.5 * (e.lo + e.hi);
-        if same(mid, e.lo) {
-            return e.hi;
+    while at.i < 64 {
+        let mid = 0.5 * (at.lo + at.hi);
+        if same(mid, at.lo) {
+            return at.hi;
         }
-        if same(mid, e.hi) {
-            return e.hi;
+        if same(mid, at.hi) {
+            return at.hi;
         }
-        e = batch(p, e, aim(p, e, guess));
+        at = batch(p, at, aim(p, at, guess), a, e);
     }
-    e.hi
+    at.hi
 }

@@ -7,9 +7,11 @@ use crate::methods::abs;
 ghost use mathlib.Core.Path.{_≡_};
 ghost use Rattle.elementary.specs.Each.{Each};
 ghost use Rattle.elementary.specs.Rules.{rules-0};
+ghost use Rattle.elementary.specs.Exp.{expOf};
+ghost use Rattle.elementary.specs.Cody.{negativeSquare};
 ghost use Rattle.elementary.specs.NormalDistribution.{sizeOf, cdfOf, inverseOf, inverseFUpperMapOf};
 
-const FRAC_1_SQRT_2: f64 = 0.7071067811865476;
+pub(crate) const FRAC_1_SQRT_2: f64 = 0.7071067811865476;
 
 pub fn standard_normal_cdf(y: f64) -> f64
     ensures { λ r. ⌜ r ≡ cdfOf rules-0 y ⌝ }
@@ -30,10 +32,11 @@ fn sizes(x: [f64; 8]) -> [f64; 8]
     y
 }
 
-fn outer_cdfs(x: [f64; 8]) -> [f64; 8]
+fn outer_cdfs(x: [f64; 8], a: f64, e: f64) -> [f64; 8]
+    requires { ⌜ e ≡ expOf (negativeSquare a) ⌝ }
     ensures { λ r. ⌜ Each (cdfOf rules-0) x r ⌝ }
 {
-    let f = smoothened_exponentials_of_negative_squares(sizes(x));
+    let f = smoothened_exponentials_of_negative_squares(sizes(x), a, e);
     let mut r = [0.0; 8];
     let mut j: usize = 0;
     while j < 8 {
@@ -55,14 +58,15 @@ fn inner_cdfs(x: [f64; 8]) -> [f64; 8]
     r
 }
 
-// Near 0 the cdf has no exponential factor.
-pub(crate) fn cdfs(x: [f64; 8]) -> [f64; 8]
+// Near 0 the cdf has no exponential factor. Elsewhere e is of use where a is the tilde of all.
+pub(crate) fn cdfs(x: [f64; 8], a: f64, e: f64) -> [f64; 8]
+    requires { ⌜ e ≡ expOf (negativeSquare a) ⌝ }
     ensures { λ r. ⌜ Each (cdfOf rules-0) x r ⌝ }
 {
     if abs(x[7]) < 0.66 {
         inner_cdfs(x)
     } else {
-        outer_cdfs(x)
+        outer_cdfs(x, a, e)
     }
 }
 

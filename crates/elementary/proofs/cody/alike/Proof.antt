@@ -1,24 +1,19 @@
--- `cody::alike` meets its contract: after j turns the first j are the first. Assumes nothing.
+-- `cody::alike` meets its contract: after j turns the first j are a. Assumes nothing.
 use mathlib.Core.Path.{sym}
 use mathlib.Core.Bool.{true≢false}
 use Prim.Native.Nat.{_-_, _≤_}
 use native.Mathlib.Omega.{arith}
 use borrow.Author.Needs.{needs}
-use lib.ListN.{getD}
-use lib.Ieee.{nan}
 use Rattle.elementary.specs.Each.{UpTo}
 use Rattle.elementary.proofs.Eight.{one-more}
 use Rattle.elementary.proofs.cody.alike.Statement.{statement}
 use Rattle.elementary.proofs.cody.alike.Tie as tie
 
 abbrev Inv-loop : tie.InvT-loop
-Inv-loop t first j₀ j = (j ≤ 8) × UpTo (λ k. first) t j
+Inv-loop a t j₀ j = (j ≤ 8) × UpTo (λ k. a) t j
 
 abbrev μ-loop : tie.MeasureT-loop
-μ-loop t first j₀ j = 8 - j
-
-array-read-first : tie.Need-array-read-first Inv-loop μ-loop
-array-read-first c = search needs
+μ-loop a t j₀ j = 8 - j
 
 loop-holds : tie.Need-loop-holds Inv-loop μ-loop
 loop-holds c = (omega arith, λ k p. absurd (omega arith))
@@ -42,7 +37,7 @@ loop-again : tie.Need-loop-again Inv-loop μ-loop
 loop-again c =
     let h = c .before .before .before .loop .inv in
     let t = c .before .before .before .before .args .t1 in
-    (omega arith, one-more (λ k. getD t 0 nan) t _ (c .before .same .ensures (c .if1 .taken)) (h .1))
+    (omega arith, one-more (λ k. c .before .before .before .before .args .a) t _ (c .before .same .ensures (c .if1 .taken)) (h .1))
 
 returns : tie.Need-returns Inv-loop μ-loop
 returns c = λ h. absurd (true≢false (sym h))
@@ -56,7 +51,6 @@ alike-spec =
     (tie.spec
     Inv-loop
     μ-loop
-    array-read-first
     loop-holds
     mul-same
     array-read-same

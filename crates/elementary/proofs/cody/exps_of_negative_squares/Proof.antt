@@ -10,15 +10,6 @@ use Rattle.elementary.proofs.cody.exps_of_negative_squares.Tie as tie
 alike-requires : tie.Need-alike-requires
 alike-requires c κs = search needs
 
-array-read-exp : tie.Need-array-read-exp
-array-read-exp c = search needs
-
-array-read-exp-2 : tie.Need-array-read-exp-2
-array-read-exp-2 c = search needs
-
-exp-requires : tie.Need-exp-requires
-exp-requires c κs = search needs
-
 negative-squares-requires : tie.Need-negative-squares-requires
 negative-squares-requires c κs = search needs
 
@@ -26,7 +17,7 @@ exps-requires : tie.Need-exps-requires
 exps-requires c κs = search needs
 
 returns : tie.Need-returns
-returns c = copies (λ a. expOf (negativeSquare a)) (c .before .before .before .args .t1) (c .exp .ensures) (c .before .before .alike .ensures (c .before .if1 .taken))
+returns c = copies (λ b. expOf (negativeSquare b)) (c .before .before .args .t) _ (c .before .before .pre) (c .before .alike .ensures (c .if1 .taken))
 
 returns-2 : tie.Need-returns-2
 returns-2 c = λ k l. c .exps .ensures k l ∙ ap expOf (c .before .negative-squares .ensures k l)
@@ -36,9 +27,6 @@ exps-of-negative-squares-spec =
     tie.close
     (tie.spec
     alike-requires
-    array-read-exp
-    array-read-exp-2
-    exp-requires
     negative-squares-requires
     exps-requires
     returns

@@ -10,17 +10,26 @@ use Rattle.elementary.proofs.inverse.bisected.Statement.{statement}
 use Rattle.elementary.proofs.inverse.bisected.Tie as tie
 
 abbrev Inv-loop : tie.InvT-loop
-Inv-loop p hint e₀ e = After p (e .lo) (e .hi) (e .i)
+Inv-loop p guess a e at₀ at = After p (at .lo) (at .hi) (at .i)
 
 abbrev μ-loop : tie.MeasureT-loop
-μ-loop p hint e₀ e = 64 - e .i
+μ-loop p guess a e at₀ at = 64 - at .i
 
 approximation-requires : tie.Need-approximation-requires Inv-loop μ-loop
 approximation-requires c κs = search needs
 
+abs-requires : tie.Need-abs-requires Inv-loop μ-loop
+abs-requires c κs = search needs
+
+tilde-requires : tie.Need-tilde-requires Inv-loop μ-loop
+tilde-requires c κs = search needs
+
+exp-requires : tie.Need-exp-requires Inv-loop μ-loop
+exp-requires c κs = search needs
+
 loop-holds : tie.Need-loop-holds Inv-loop μ-loop
 unfolding endsOf
-loop-holds c = record { bound = omega arith; under = c .before .pre .0; over = c .before .pre .1; rest = refl }
+loop-holds c = record { bound = omega arith; under = c .before .before .before .before .pre .0; over = c .before .before .before .before .pre .1; rest = refl }
 
 same-requires : tie.Need-same-requires Inv-loop μ-loop
 same-requires c κs = search needs
@@ -42,7 +51,9 @@ aim-requires : tie.Need-aim-requires Inv-loop μ-loop
 aim-requires c κs = search needs
 
 batch-requires : tie.Need-batch-requires Inv-loop μ-loop
-batch-requires c κs = search needs
+batch-requires c κs =
+    let l = c .before .before .before .before .before .before .before .before in
+    (l .loop .inv, (c .before .before .before .before .before .before .if1 .taken, l .before .exp .ensures))
 
 loop-less : tie.Need-loop-less Inv-loop μ-loop
 loop-less c = omega (arith, c .batch .ensures .1, c .batch .ensures .0 .bound)
@@ -60,6 +71,9 @@ bisected-spec =
     Inv-loop
     μ-loop
     approximation-requires
+    abs-requires
+    tilde-requires
+    exp-requires
     loop-holds
     same-requires
     returns

@@ -18,10 +18,10 @@ unfolding cdfOf
 cdf-of x e h = rw h
 
 abbrev Inv-loop : tie.InvT-loop
-Inv-loop x f r₀ j₀ r j = Filled (Of (cdfOf rules-0) x) r j
+Inv-loop a e x f r₀ j₀ r j = Filled (Of (cdfOf rules-0) x) r j
 
 abbrev μ-loop : tie.MeasureT-loop
-μ-loop x f r₀ j₀ r j = 8 - j
+μ-loop a e x f r₀ j₀ r j = 8 - j
 
 sizes-requires : tie.Need-sizes-requires Inv-loop μ-loop
 sizes-requires c κs = search needs
