@@ -1,7 +1,7 @@
 -- Where the definitions give finite numbers: exp of a number that is not above 0, and the cdf from -39 to 39. So the bisection behind the inverse
 -- meets no NaN. The bounds are coarse: most are powers of two. Assumes nothing.
 use mathlib.Core.Path.{_≡_, refl, sym, ap, _∙_, subst}
-use mathlib.Core.Bool.{Bool, true, false, _&&_, _||_, cond, true≢false}
+use mathlib.Core.Bool.{Bool, true, false, _&&_, cond, true≢false}
 use mathlib.Core.List.{List, [], _∷_}
 use mathlib.Core.Logic.{_⊎_, inl, inr, ⊎-elim}
 use Prim.Native.Nat.{ℕ, zero, suc, _+_, _-_, _*_, _/_, _^_, _≤_, _<_, min}

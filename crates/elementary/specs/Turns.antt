@@ -4,7 +4,7 @@ use mathlib.Core.Bool.{true, false}
 use Prim.Native.Nat.{ℕ, _-_, _≤_}
 use lib.Ieee.{Float, lt}
 use Rattle.elementary.specs.Rules.{rules-0}
-use Rattle.elementary.specs.NormalDistribution.{cdfOf, bisected, lowest, highest, endsOf}
+use Rattle.elementary.specs.NormalDistribution.{cdfOf, bisected, endsOf}
 
 pub record After (p lo hi : Float) (i : ℕ) : Type 0 where
   pub bound : i ≤ 64

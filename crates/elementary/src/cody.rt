@@ -245,6 +245,7 @@ fn negative_rests(y: [f64; 8], t: [f64; 8]) -> [f64; 8]
     z
 }
 
+// Whether all are a.
 fn alike(t: [f64; 8], a: f64) -> bool
     ensures { λ r. ⌜ (r ≡ true → UpTo (λ k. a) t 8) ⌝ }
 {

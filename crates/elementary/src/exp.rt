@@ -53,7 +53,7 @@ fn sum(r: f64) -> f64
     p
 }
 
-// `sum` of eight side by side: as one loop over i their divisions run as vectors.
+// `sum` of eight side by side: in one loop their divisions run as vectors.
 fn sums(r: [f64; 8]) -> [f64; 8]
     ensures { λ q. ⌜ Each (λ x. Exp.expSum 13 x one) r q ⌝ }
 {

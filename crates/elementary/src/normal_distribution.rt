@@ -19,7 +19,9 @@ pub fn standard_normal_cdf(y: f64) -> f64
     0.5 * erfc(-y * FRAC_1_SQRT_2)
 }
 
-// The cdf of eight side by side.
+// ---- the cdf of eight side by side
+
+// The sizes of erfc's arguments.
 fn sizes(x: [f64; 8]) -> [f64; 8]
     ensures { λ y. ⌜ Each sizeOf x y ⌝ }
 {
@@ -58,7 +60,8 @@ fn inner_cdfs(x: [f64; 8]) -> [f64; 8]
     r
 }
 
-// Near 0 the cdf has no exponential factor. Elsewhere e is of use where a is the tilde of all.
+// Near 0, where the last ones of a bisection's eight lie together, the cdf has no exponential factor.
+// Elsewhere e serves all eight where a is the tilde of each.
 pub(crate) fn cdfs(x: [f64; 8], a: f64, e: f64) -> [f64; 8]
     requires { ⌜ e ≡ expOf (negativeSquare a) ⌝ }
     ensures { λ r. ⌜ Each (cdfOf rules-0) x r ⌝ }

@@ -1,5 +1,5 @@
 -- `cody::tildes` meets its contract: after j turns the first j are filled in. Assumes nothing.
-use mathlib.Core.Path.{_≡_, refl, sym, ap, _∙_}
+use mathlib.Core.Path.{refl}
 use Prim.Native.Nat.{_-_}
 use native.Mathlib.Omega.{arith}
 use Rattle.elementary.specs.Each.{Of}

@@ -1,5 +1,4 @@
 -- `inverse::walk` meets its contract. Assumes nothing.
-use mathlib.Core.Path.{_≡_, sym, _∙_, ap}
 use mathlib.Core.Logic.{⊎-elim}
 use Prim.Native.Nat.{_-_, _≤_}
 use native.Mathlib.Omega.{arith}

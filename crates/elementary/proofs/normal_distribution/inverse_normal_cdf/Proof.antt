@@ -1,5 +1,4 @@
 -- `normal_distribution::inverse_normal_cdf` meets its contract: each way out is the arm that the tests before it leave. Assumes nothing.
-use borrow.Author.Needs.{needs}
 use lib.Ieee.{div, neg, ofBits}
 use lib.Ieee.Compare.{differs-from-itself}
 use Rattle.elementary.specs.Rules.{rules-0}

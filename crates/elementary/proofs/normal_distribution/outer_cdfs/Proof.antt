@@ -1,5 +1,5 @@
 -- `normal_distribution::outer_cdfs` meets its contract: after j turns the first j are filled in. Assumes nothing.
-use mathlib.Core.Path.{_≡_, refl, sym, ap, _∙_}
+use mathlib.Core.Path.{_≡_, refl, ap, _∙_}
 use Prim.Native.Nat.{_-_}
 use native.Mathlib.Omega.{arith}
 use Rattle.elementary.proofs.Eight.{Filled, begun, next, filled}
