@@ -17,8 +17,9 @@
 //! # Ok::<(), gintubalos::Refusal>(())
 //! ```
 //!
-//! [`file`](file()), [`recheck`] and [`read`] keep a book of such answers in 64-byte records, and [`line`](line()) is relist's line of
-//! one. What is refused is a [`Refusal`], which has the number, its meaning in words and the completed steps.
+//! [`file`](file()), [`recheck`] and [`read`] keep a book of such answers in 64-byte records, and [`line`](line()) is
+//! relist's line of one. What is refused is a [`Refusal`], which has the number, its meaning in words and the completed
+//! steps.
 
 #![deny(missing_docs)]
 
