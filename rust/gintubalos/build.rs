@@ -14,6 +14,8 @@ fn main() {
         println!("cargo:warning=no {}: run `rt staticlib abi` first, or set GINTUBALOS_ABI", archive.display());
         exit(1);
     }
+    // For the test that links it to a C program.
+    println!("cargo:rustc-env=GINTUBALOS_ARCHIVE={}", archive.display());
     println!("cargo:rustc-link-search=native={}", folder.display());
     println!("cargo:rustc-link-lib=static=abi");
 }

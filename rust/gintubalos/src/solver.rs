@@ -41,11 +41,21 @@ mod archive {
 }
 
 /// Document 01's number, 0 where nothing is refused; branch and ending, 0 where it is; and the completed steps.
+///
+/// ```
+/// use gintubalos::bits::Outcome;
+///
+/// assert_eq!(Outcome::from(0x0000_0003_0000_0007), Outcome { number: 7, branch: 0, ending: 0, steps: 3 });
+/// ```
 #[derive(Clone, Copy, Debug, PartialEq, Eq)]
 pub struct Outcome {
+    /// Document 01's number, 0 for none.
     pub number: u8,
+    /// 0 to 5.
     pub branch: u8,
+    /// 0 to 2.
     pub ending: u8,
+    /// The completed steps.
     pub steps: u32,
 }
 

@@ -3,6 +3,11 @@
 use gintubalos::OptionType::{Call, Put};
 use gintubalos::*;
 
+/// A refusal by a function that takes no step.
+fn refused(number: u8) -> Result<f64, Refusal> {
+    Err(Refusal { number, steps: 0 })
+}
+
 const NAN_BITS: u64 = 0x7FF8_0000_0000_0000;
 
 #[test]
@@ -60,14 +65,14 @@ fn black_price() {
 #[test]
 fn black_refusals() {
     let (least, nan) = (f64::from_bits(1), f64::NAN);
-    assert_eq!(black(0.0, -1.0, nan, least, Call), Err(2));
-    assert_eq!(black(1.0, f64::INFINITY, nan, least, Put), Err(3));
-    assert_eq!(black(1.0, 1.0, nan, least, Call), Err(5));
-    assert_eq!(black(1.0, 1.0, 0.1, least, Put), Err(4));
+    assert_eq!(black(0.0, -1.0, nan, least, Call), refused(2));
+    assert_eq!(black(1.0, f64::INFINITY, nan, least, Put), refused(3));
+    assert_eq!(black(1.0, 1.0, nan, least, Call), refused(5));
+    assert_eq!(black(1.0, 1.0, 0.1, least, Put), refused(4));
     // Two roundings disagree at the edge of the asymptotic expansion's region.
     let [forward, strike, sigma] =
         [0x3F8C_3B6B_6A8E_A2AE, 0x4050_3C70_C53D_DB57, 0x3FEA_8698_7B35_B0A6].map(f64::from_bits);
-    assert_eq!(black(forward, strike, sigma, 1.0, Call), Err(7));
+    assert_eq!(black(forward, strike, sigma, 1.0, Call), refused(7));
     // A kind that is none is refused before all else.
     assert_eq!(bits::black(0, 0, 0, 0, 3), (NAN_BITS, 24));
     assert_eq!(bits::normalised_intrinsic(0, 0), (NAN_BITS, 24));
@@ -81,9 +86,9 @@ fn normalised_prices() {
     assert_eq!(normalised_black(0.3, 0.5, Put), normalised_black_call(-0.3, 0.5));
     assert_eq!(normalised_vega(-1.0, 0.0), 0.0);
     // P11, and the expansion for a small t at a larger one.
-    assert_eq!(asymptotic_expansion_of_normalised_black_call(-9.5, 0.1), Err(7));
+    assert_eq!(asymptotic_expansion_of_normalised_black_call(-9.5, 0.1), refused(7));
     assert!(asymptotic_expansion_of_normalised_black_call(-10.5, 0.1).is_ok());
-    assert_eq!(small_t_expansion_of_normalised_black_call(-1.0, 0.21132486540518713), Err(8));
+    assert_eq!(small_t_expansion_of_normalised_black_call(-1.0, 0.21132486540518713), refused(8));
     assert!(small_t_expansion_of_normalised_black_call(-1.0, 0.2113248654051871).is_ok());
     // Three ways to one price.
     let (x, s) = (-0.5, 0.4);
@@ -96,7 +101,7 @@ fn normalised_prices() {
 fn cubic() {
     // P9 and P10.
     assert_eq!(rational_cubic_interpolation(1.0, 1.0, 1.0, 2.0, 4.0, 0.0, 0.0, 0.0), Ok(3.0));
-    assert_eq!(rational_cubic_interpolation(1.0, f64::INFINITY, 1.0, 2.0, 4.0, 0.0, 0.0, 0.0), Err(6));
+    assert_eq!(rational_cubic_interpolation(1.0, f64::INFINITY, 1.0, 2.0, 4.0, 0.0, 0.0, 0.0), refused(6));
     // A cubic at r = 3: x³ from 0 to 1.
     assert_eq!(rational_cubic_interpolation(0.5, 0.0, 1.0, 0.0, 1.0, 0.0, 3.0, 3.0), Ok(0.125));
     assert_eq!(minimum_rational_cubic_control_parameter(0.0, 3.0, 1.0, true), 3.0);

@@ -1,0 +1,77 @@
+//! Why a command gives no answer, and the status that says so.
+
+use gintubalos::Refusal;
+use std::{fmt, io, path::PathBuf};
+
+/// The status of a command line that is none of the program's. Like the next it is none of document 01's numbers.
+pub const USAGE: u8 = 64;
+
+/// The status where a file or standard output could not be read or written.
+pub const NOT_READ_OR_WRITTEN: u8 = 74;
+
+#[derive(Debug)]
+pub enum Failure {
+    Usage {
+        message: String,
+    },
+    Refused(Refusal),
+    /// 23, since the file ends in so many bytes that are no whole record.
+    Part {
+        refusal: Refusal,
+        path: PathBuf,
+        bytes: u64,
+    },
+    File {
+        path: PathBuf,
+        error: io::Error,
+    },
+    Unwritten {
+        error: io::Error,
+    },
+}
+
+impl Failure {
+    pub fn usage(message: impl Into<String>) -> Failure {
+        Failure::Usage { message: message.into() }
+    }
+
+    pub fn file(path: impl Into<PathBuf>) -> impl FnOnce(io::Error) -> Failure {
+        let path = path.into();
+        |error| Failure::File { path, error }
+    }
+
+    pub fn status(&self) -> u8 {
+        match self {
+            Failure::Usage { .. } => USAGE,
+            Failure::Refused(refusal) | Failure::Part { refusal, .. } => refusal.number,
+            Failure::File { .. } | Failure::Unwritten { .. } => NOT_READ_OR_WRITTEN,
+        }
+    }
+}
+
+impl fmt::Display for Failure {
+    fn fmt(&self, f: &mut fmt::Formatter) -> fmt::Result {
+        match self {
+            Failure::Usage { message } => write!(f, "{message}; see gintubalos --help"),
+            Failure::Refused(refusal) => write!(f, "{refusal}"),
+            Failure::Part { refusal, path, bytes } => {
+                write!(f, "{refusal}: {} ends in a part of {bytes} bytes", path.display())
+            }
+            Failure::File { path, error } => write!(f, "{}: {error}", path.display()),
+            Failure::Unwritten { error } => write!(f, "standard output: {error}"),
+        }
+    }
+}
+
+impl From<Refusal> for Failure {
+    fn from(refusal: Refusal) -> Failure {
+        Failure::Refused(refusal)
+    }
+}
+
+/// An error that no file is named with is one of standard output.
+impl From<io::Error> for Failure {
+    fn from(error: io::Error) -> Failure {
+        Failure::Unwritten { error }
+    }
+}

@@ -1,0 +1,63 @@
+//! `gintubalos`: solve, price, file, recheck and list on the command line. Every answer is the proved library's; this
+//! program reads arguments and files, and writes answers down.
+
+#![forbid(unsafe_code)]
+
+mod arguments;
+mod books;
+mod failure;
+mod help;
+mod progress;
+mod shown;
+mod solving;
+
+use arguments::Arguments;
+use failure::Failure;
+use std::{
+    env,
+    io::{self, BufWriter, ErrorKind, Write},
+    process::ExitCode,
+};
+
+fn main() -> ExitCode {
+    let mut out = BufWriter::new(io::stdout().lock());
+    let done = run(&mut out);
+    // What was written before a refusal is shown before its words.
+    let done = out.flush().map_err(|error| Failure::Unwritten { error }).and(done);
+    match done {
+        Ok(status) => ExitCode::from(status),
+        Err(failure) => {
+            // A reader that has left has seen what it wanted, and is told nothing.
+            if !matches!(&failure, Failure::Unwritten { error } if error.kind() == ErrorKind::BrokenPipe) {
+                // With standard error gone as well, the status has to do.
+                let _ = writeln!(io::stderr(), "gintubalos: {failure}");
+            }
+            ExitCode::from(failure.status())
+        }
+    }
+}
+
+/// The status: 0, or what a recheck found.
+fn run(out: &mut impl Write) -> Result<u8, Failure> {
+    let mut words = env::args_os().skip(1);
+    let command =
+        words.next().ok_or_else(|| Failure::usage("a command is wanted: solve, black, file, recheck or list"))?;
+    let mut arguments = Arguments::default();
+    for word in words {
+        arguments.take(word)?;
+    }
+    let command = command.to_string_lossy();
+    if arguments.help || ["--help", "-h", "help"].contains(&&*command) {
+        help::write(out)?;
+        return Ok(0);
+    }
+    match &*command {
+        "solve" => solving::solve(arguments, out)?,
+        "black" => solving::black(arguments, out)?,
+        "file" => books::file(arguments, out)?,
+        "recheck" => return books::recheck(arguments, out),
+        "list" => books::list(arguments, out)?,
+        other => return Err(Failure::usage(format!("there is no command {other}"))),
+    }
+    Ok(0)
+}

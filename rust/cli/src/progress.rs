@@ -1,0 +1,64 @@
+//! A bar on standard error, where that is a terminal.
+
+use std::{
+    io::{self, IsTerminal, Write},
+    time::{Duration, Instant},
+};
+
+const WIDTH: u64 = 40;
+const PAUSE: Duration = Duration::from_millis(100);
+
+pub struct Progress {
+    total: u64,
+    /// When it was last drawn; none where nobody would see it.
+    drawn: Option<Instant>,
+}
+
+impl Progress {
+    /// For so many records; 0 where their number isn't known.
+    pub fn new(total: u64) -> Progress {
+        Progress { total, drawn: io::stderr().is_terminal().then(Instant::now) }
+    }
+
+    pub fn at(&mut self, done: u64) {
+        // The clock is read for one record in 256, so that it takes no time from the others.
+        if !done.is_multiple_of(256) || self.drawn.is_none_or(|drawn| drawn.elapsed() < PAUSE) {
+            return;
+        }
+        self.drawn = Some(Instant::now());
+        // A bar that can't be drawn stops nothing.
+        let _ = write!(io::stderr(), "\r{}", bar(done, self.total));
+    }
+}
+
+/// Clears the line for what is written next.
+impl Drop for Progress {
+    fn drop(&mut self) {
+        if self.drawn.is_some() {
+            let _ = write!(io::stderr(), "\r\x1b[K");
+        }
+    }
+}
+
+fn bar(done: u64, total: u64) -> String {
+    if total == 0 {
+        return format!("{done} records");
+    }
+    let part = |of: u64| (u128::from(done.min(total)) * u128::from(of) / u128::from(total)) as u64;
+    let full = "#".repeat(part(WIDTH) as usize);
+    format!("[{full:.<width$}] {:3} %  {done} of {total} records", part(100), width = WIDTH as usize)
+}
+
+#[cfg(test)]
+mod tests {
+    use super::bar;
+
+    #[test]
+    fn bars() {
+        assert_eq!(bar(7, 0), "7 records");
+        assert_eq!(bar(0, 2), "[........................................]   0 %  0 of 2 records");
+        assert_eq!(bar(1, 2), "[####################....................]  50 %  1 of 2 records");
+        assert_eq!(bar(3, 2), "[########################################] 100 %  3 of 2 records");
+        assert!(bar(u64::MAX, u64::MAX).contains("100 %"));
+    }
+}
