@@ -53,7 +53,7 @@ aim-requires c κs = search needs
 batch-requires : tie.Need-batch-requires Inv-loop μ-loop
 batch-requires c κs =
     let l = c .before .before .before .before .before .before .before .before in
-    (l .loop .inv, (c .before .before .before .before .before .before .if1 .taken, l .before .exp .ensures))
+    (l .loop .inv, (omega (arith, c .before .before .before .before .before .before .if1 .taken), l .before .exp .ensures))
 
 loop-less : tie.Need-loop-less Inv-loop μ-loop
 loop-less c = omega (arith, c .batch .ensures .1, c .batch .ensures .0 .bound)
