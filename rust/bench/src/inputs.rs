@@ -104,12 +104,16 @@ impl Class {
     pub fn markets(&self, count: usize) -> Vec<Market> {
         let mut words = Words::new(1, self.name, 0);
         let mut found = Vec::new();
-        for _ in 0..400 * count {
+        for _ in 0..100 * count {
             if found.len() == count {
                 break;
             }
             // Branch 5 is met far from the money alone.
-            let x = -if self.branch == 5 { log_uniform(&mut words, 1.0, 200.0) } else { log_uniform(&mut words, 0.002, 3.0) };
+            let x = -if self.branch == 5 {
+                log_uniform(&mut words, 1.0, 200.0)
+            } else {
+                log_uniform(&mut words, 0.002, 3.0)
+            };
             let [s_l, s_c, s_h] = borders(x);
             let s = match self.branch {
                 1 => uniform(&mut words, 0.2, 1.0) * s_l,

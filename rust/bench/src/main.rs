@@ -66,7 +66,7 @@ impl Bench {
             return;
         }
         if inputs.len() < COUNT {
-            println!("| {name} | {} inputs found, {COUNT} wanted |", inputs.len());
+            println!("<!-- {name}: {} inputs found, {COUNT} wanted -->", inputs.len());
             return;
         }
         // The same answers are the same work.
