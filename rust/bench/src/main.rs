@@ -23,7 +23,7 @@ const LIMIT: i32 = 2;
 
 /// Inputs of a row, and records of a listing.
 const COUNT: usize = 2048;
-const RECORDS: usize = 200_000;
+const RECORDS: usize = 40_000;
 
 /// A function of the source folder in both of its builds, with the kind's byte turned into theirs.
 macro_rules! rust_solve {
@@ -126,6 +126,20 @@ impl Bench {
             |x| reference::lets_be_rational::black::normalised_black_call(x[0], x[1]),
             |x| published::lets_be_rational::black::normalised_black_call(x[0], x[1]),
         );
+        if region == REGIONS[2] {
+            use {published::lets_be_rational::black as std_side, reference::lets_be_rational::black as rules_side};
+            // The same work with a float for an answer: the difference is what the answer that may refuse costs.
+            self.row(
+                "normalised_black_call, the rest, as a plain float",
+                &inputs::region(region, COUNT),
+                |x| {
+                    let [x, s] = x.map(f64::to_bits);
+                    bits::normalised_black_call_with_optimal_use_of_codys_functions(x, s)
+                },
+                |x| rules_side::normalised_black_call_with_optimal_use_of_codys_functions(x[0], x[1]),
+                |x| std_side::normalised_black_call_with_optimal_use_of_codys_functions(x[0], x[1]),
+            );
+        }
     }
 
     fn elementary(&self) {
@@ -153,7 +167,7 @@ impl Bench {
             let published = std_side::normal_distribution::inverse_normal_cdf;
             one(name, bits::inverse_normal_cdf, inverse_normal_cdf, published);
         }
-        // The call border alone: abs is one operation.
+        // One operation: what is left is the call border.
         one("abs", bits::abs, rules::abs, f64::abs);
     }
 
@@ -193,11 +207,11 @@ fn usage(problem: &str) -> ! {
 }
 
 fn wanted() -> Bench {
-    let mut bench = Bench { effort: clock::FULL, records: RECORDS, turns: 5, only: None };
+    let mut bench = Bench { effort: clock::FULL, records: RECORDS, turns: 20, only: None };
     let mut words = env::args().skip(1);
     while let Some(word) = words.next() {
         match word.as_str() {
-            "--quick" => bench = Bench { effort: clock::QUICK, records: RECORDS / 10, turns: 3, ..bench },
+            "--quick" => bench = Bench { effort: clock::QUICK, records: RECORDS / 4, turns: 4, ..bench },
             "--only" => bench.only = Some(words.next().unwrap_or_else(|| usage("a part of a name is missing"))),
             // For `listings`, which runs this program again as the Rust's side.
             "--list" => {
