@@ -1,4 +1,5 @@
-//! Reads the Rust of the source folder and writes it, over document 01's elementary functions, to OUT_DIR/source.rs.
+//! Reads the Rust of the source folder and writes it, over document 01's elementary functions, to OUT_DIR/source.rs. The
+//! crate `published` has the same script, and leaves the source its own functions of std.
 //!
 //! Nothing of the source stands in this repository. GINTUBALOS_RUST_SOURCE is the folder that has `src/lets_be_rational`;
 //! its default is `../shared/docs/src`, seen from the repository's root. Where it isn't there, the crate is built
@@ -173,21 +174,27 @@ fn read(root: &Path, file: &File) -> String {
     }
 }
 
+/// Whether the source is built as it was published, and not over document 01's rules.
+fn is_published() -> bool {
+    env::var("CARGO_PKG_NAME").as_deref() == Ok("published")
+}
+
 fn transformed(root: &Path, file: &File) -> String {
     // A line feed in front, so that a first line is found as any other is.
     let mut text = format!("\n{}", read(root, file));
-    if file.path == HOOKED {
+    if file.path == HOOKED && env::var_os("CARGO_FEATURE_STEPS").is_some() {
         for (piece, before, after, count) in HOOKS {
             text = replace(&text, file.path, piece, &format!("{before}{piece}{after}"), count);
         }
     }
     for (&(from, to), &count) in METHODS.iter().zip(&file.methods) {
-        text = replace(&text, file.path, from, to, count);
+        // The counts are held to in either case.
+        text = replace(&text, file.path, from, if is_published() { from } else { to }, count);
     }
     for (&(from, to), &count) in NAMES.iter().zip(&file.names) {
         text = replace(&text, file.path, from, to, count);
     }
-    if file.path != INPUTS.path {
+    if file.path != INPUTS.path && !is_published() {
         check_methods(&text, file.path);
     }
     text
@@ -195,10 +202,8 @@ fn transformed(root: &Path, file: &File) -> String {
 
 fn module(file: &File, text: &str) -> String {
     let allow = "#[allow(dead_code, unused_imports, unused_assignments, clippy::all)]";
-    format!(
-        "{allow}\npub mod {} {{\n    use crate::{{elementary::Rules, refusals::Expected}};\n{text}\n}}\n",
-        file.module
-    )
+    let rules = if is_published() { "" } else { "use crate::{elementary::Rules, refusals::Expected};" };
+    format!("{allow}\npub mod {} {{\n    {rules}\n{text}\n}}\n", file.module)
 }
 
 fn source(root: &Path) -> String {
@@ -227,7 +232,8 @@ fn fingerprint(root: &Path) -> u64 {
 }
 
 fn main() {
-    println!("cargo:rerun-if-changed=build.rs");
+    // Seen from either crate.
+    println!("cargo:rerun-if-changed=../reference/build.rs");
     println!("cargo:rerun-if-env-changed={VARIABLE}");
     let here = PathBuf::from(env::var("CARGO_MANIFEST_DIR").expect("cargo sets it"));
     let root = env::var_os(VARIABLE).map_or_else(|| here.join(DEFAULT), PathBuf::from);

@@ -60,6 +60,10 @@ module _ (kind : ℕ) (price forward strike expiry : Float) (limit : ℤ) (old :
     files-none a b e t = rw (ne-eqb kind 1 a, ne-eqb kind 2 b) (e, t)
 
 -- handed on as plain numbers
+pub handed-answer : (w answer : Solution) (value outcome : ℕ) → answer ≡ w → (value ≡ toBits binary64 (volatilityIn answer)) × (outcome ≡ outcomeOf answer)
+    → (value ≡ toBits binary64 (volatilityIn w)) × (outcome ≡ outcomeOf w)
+handed-answer w answer value outcome e h = rw (← e) h
+
 pub handed-solution : (w : Solving) (old trail : List ℕ) (answer : Solution) (value outcome : ℕ) → Solves w old answer trail
     → (value ≡ toBits binary64 (volatilityIn answer)) × (outcome ≡ outcomeOf answer)
     → (value ≡ toBits binary64 (volatilityIn (w .answer))) × ((outcome ≡ outcomeOf (w .answer)) × (trail ≡ trailAfter (w .records) old))

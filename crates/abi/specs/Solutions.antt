@@ -42,11 +42,11 @@ solvingAt kind price forward strike expiry limit bytes =
     let put = solveWithTrail rule-set-0 price forward strike expiry Put (stepsOf limit) bytes in
     cond (eqb kind 1) call (cond (eqb kind 2) put (record { records = []; answer = Refused 24 0 }))
 
--- the wrapper's, with limit 2
-unfoldable pub wrappedAt : ℕ → Float → Float → Float → Float → Solution
-wrappedAt kind price forward strike expiry =
-    let call = solveOf rule-set-0 price forward strike expiry Call 2 .answer in
-    let put = solveOf rule-set-0 price forward strike expiry Put 2 .answer in
+-- solve without a trail, for so many steps
+unfoldable pub untrailedAt : ℕ → Float → Float → Float → Float → ℕ → Solution
+untrailedAt kind price forward strike expiry n =
+    let call = solveOf rule-set-0 price forward strike expiry Call n .answer in
+    let put = solveOf rule-set-0 price forward strike expiry Put n .answer in
     cond (eqb kind 1) call (cond (eqb kind 2) put (Refused 24 0))
 
 unfoldable pub filingAt : ℕ → Float → Float → Float → Float → ℤ → List ℕ → ℕ → FiledBook

@@ -4,13 +4,16 @@ ghost use mathlib.Core.Path.{_≡_};
 ghost use lib.Ieee.{binary64, toBits, ofBits};
 ghost use lib.ListN.{length};
 ghost use Rattle.solver.specs.Answers.{volatilityIn};
+ghost use Rattle.solver.specs.Solve.{stepsOf};
 ghost use Rattle.solver.specs.Trail.{trailAfter};
-ghost use Rattle.abi.specs.Solutions.{outcomeFrom, outcomeOf, solvingAt, wrappedAt};
+ghost use Rattle.abi.specs.Solutions.{outcomeFrom, outcomeOf, solvingAt, untrailedAt};
 use elementary::methods::bits_of;
 use elementary::methods::float_of;
 use prices::inputs::OptionType;
 use solver::solve::implied_volatility_from_a_transformed_rational_guess;
 use solver::solve::implied_volatility_from_a_transformed_rational_guess_with_limited_iterations;
+use solver::solve::solve_without_trail;
+use solver::solve::steps_of;
 use solver::state::Solution;
 
 // Number, branch, ending and steps in one word.
@@ -102,7 +105,7 @@ pub extern "C" fn gintubalos_implied_volatility_from_a_transformed_rational_gues
 }
 
 fn wrapped(price: f64, forward: f64, strike: f64, expiry: f64, kind: u8) -> Solution
-    ensures { λ r. ⌜ r ≡ wrappedAt kind price forward strike expiry ⌝ }
+    ensures { λ r. ⌜ r ≡ untrailedAt kind price forward strike expiry 2 ⌝ }
 {
     match kind {
         1 => implied_volatility_from_a_transformed_rational_guess(
@@ -132,8 +135,8 @@ pub extern "C" fn gintubalos_implied_volatility_from_a_transformed_rational_gues
     kind: u8,
     outcome: &mut u64,
 ) -> u64
-    ensures { λ r. ⌜ r ≡ toBits binary64 (volatilityIn (wrappedAt kind (ofBits binary64 price) (ofBits binary64 forward) (ofBits binary64 strike) (ofBits binary64 expiry))) ⌝ }
-    ensures { λ _. ⌜ now (outcome .exit) ≡ outcomeOf (wrappedAt kind (ofBits binary64 price) (ofBits binary64 forward) (ofBits binary64 strike) (ofBits binary64 expiry)) ⌝ }
+    ensures { λ r. ⌜ r ≡ toBits binary64 (volatilityIn (untrailedAt kind (ofBits binary64 price) (ofBits binary64 forward) (ofBits binary64 strike) (ofBits binary64 expiry) 2)) ⌝ }
+    ensures { λ _. ⌜ now (outcome .exit) ≡ outcomeOf (untrailedAt kind (ofBits binary64 price) (ofBits binary64 forward) (ofBits binary64 strike) (ofBits binary64 expiry) 2) ⌝ }
 {
     handed(
         wrapped(
@@ -142,6 +145,42 @@ pub extern "C" fn gintubalos_implied_volatility_from_a_transformed_rational_gues
             float_of(strike),
             float_of(expiry),
             kind,
+        ),
+        outcome,
+    )
+}
+
+fn untrailed(price: f64, forward: f64, strike: f64, expiry: f64, kind: u8, steps: u32) -> Solution
+    ensures { λ r. ⌜ r ≡ untrailedAt kind price forward strike expiry steps ⌝ }
+{
+    match kind {
+        1 => solve_without_trail(price, forward, strike, expiry, OptionType::Call, steps),
+        2 => solve_without_trail(price, forward, strike, expiry, OptionType::Put, steps),
+        _ => Solution::Refused(24, 0),
+    }
+}
+
+#[no_mangle]
+pub extern "C" fn gintubalos_solve_without_trail(
+    price: u64,
+    forward: u64,
+    strike: u64,
+    expiry: u64,
+    kind: u8,
+    limit: i32,
+    outcome: &mut u64,
+) -> u64
+    ensures { λ r. ⌜ r ≡ toBits binary64 (volatilityIn (untrailedAt kind (ofBits binary64 price) (ofBits binary64 forward) (ofBits binary64 strike) (ofBits binary64 expiry) (stepsOf limit))) ⌝ }
+    ensures { λ _. ⌜ now (outcome .exit) ≡ outcomeOf (untrailedAt kind (ofBits binary64 price) (ofBits binary64 forward) (ofBits binary64 strike) (ofBits binary64 expiry) (stepsOf limit)) ⌝ }
+{
+    handed(
+        untrailed(
+            float_of(price),
+            float_of(forward),
+            float_of(strike),
+            float_of(expiry),
+            kind,
+            steps_of(limit),
         ),
         outcome,
     )

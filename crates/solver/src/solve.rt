@@ -187,7 +187,7 @@ fn solve(
 }
 
 // max(limit, 0)
-pub(crate) fn steps_of(limit: i32) -> u32
+pub fn steps_of(limit: i32) -> u32
     ensures { λ r. ⌜ r ≡ stepsOf limit ⌝ }
 {
     if limit <= 0 { 0 } else { limit as u32 }

@@ -63,6 +63,10 @@ pub fn mul_add(a: f64, b: f64, c: f64) -> f64 {
 pub fn scaled(p: f64, k: i64) -> f64 {
     // p = significand × 2^exponent, exactly.
     let field = (p.to_bits() >> 52) as i64;
+    // Where the result is normal too, the exponent alone changes. For measuring speed: the comparison rounds every time.
+    if !crate::LAID_OPEN && field > 0 && (1..2047).contains(&(field + k)) {
+        return f64::from_bits(p.to_bits().wrapping_add((k as u64) << 52));
+    }
     let fraction = p.to_bits() & ((1 << 52) - 1);
     let (significand, exponent) = if field == 0 { (fraction, -1074) } else { (fraction | 1 << 52, field - 1075) };
     rounded(significand.into(), exponent + k)
@@ -113,7 +117,8 @@ pub fn exp(y: f64) -> f64 {
     let k = (y * 1.4426950408889634 + 0.5).floor();
     let r = (y - k * H) - k * L;
     let mut p = 1.0;
-    for i in (1..=13).rev() {
+    // The compiler unrolls this form of the range, and not 1..=13.
+    for i in (1..14).rev() {
         p = 1.0 + (r * p) / f64::from(i);
     }
     scaled(p, k as i64)
@@ -142,7 +147,7 @@ pub fn ln(y: f64) -> f64 {
     let u = f / (2.0 + f);
     let z = u * u;
     let mut q = 1.0 / 23.0;
-    for i in (0..=10).rev() {
+    for i in (0..11).rev() {
         q = 1.0 / f64::from(2 * i + 1) + z * q;
     }
     e * H + ((2.0 * u) * q + e * L)
