@@ -28,7 +28,7 @@ pub struct Part {
 
 pub const SOLVE: &str = "implied_volatility_from_a_transformed_rational_guess_with_limited_iterations";
 
-pub const PARTS: [Part; 6] = [
+pub const PARTS: [Part; 7] = [
     Part { name: SOLVE, inputs: 2_000_000, quick: 100_000, edges: solve_edges, random: solve_random },
     Part {
         name: "implied_volatility_from_a_transformed_rational_guess",
@@ -36,6 +36,13 @@ pub const PARTS: [Part; 6] = [
         quick: 20_000,
         edges: wrapper_edges,
         random: |words, tally| wrapper(tally, market(words)),
+    },
+    Part {
+        name: "solve_without_trail",
+        inputs: 200_000,
+        quick: 20_000,
+        edges: untrailed_edges,
+        random: |words, tally| untrailed(tally, market(words), limit(words).min(200)),
     },
     Part { name: "file", inputs: 200_000, quick: 20_000, edges: books::file_edges, random: books::file_random },
     Part {
@@ -185,6 +192,20 @@ fn wrapper(tally: &mut Tally, asked: Asked) {
     });
 }
 
+fn untrailed(tally: &mut Tally, asked: Asked, limit: i32) {
+    let [price, forward, strike, expiry] = asked.floats;
+    let found = ours::solve_without_trail(price, forward, strike, expiry, asked.kind, limit);
+    let expected = match asked.market() {
+        Ok(market) => answer(&solver::solve(market, limit, None)),
+        Err(number) => (NAN_BITS, word(number, 0, 0, 0)),
+    };
+    tally.take(found == expected, || {
+        let (found, expected) = (shown(found), shown(expected));
+        let name = PARTS[2].name;
+        format!("{name}({}, {limit}): {found}, the Rust has {expected}", asked.shown())
+    });
+}
+
 // ---- inputs
 
 pub const LIMITS: [i32; 10] = [-1, 0, 1, 2, 3, 5, 20, 200, i32::MIN, i32::MAX];
@@ -268,6 +289,14 @@ fn solve_edges(tally: &mut Tally) {
 fn wrapper_edges(tally: &mut Tally) {
     combinations(|asked| wrapper(tally, asked));
     fixed().into_iter().for_each(|asked| wrapper(tally, asked));
+}
+
+/// Limits up to 200: some runs never meet the step test.
+fn untrailed_edges(tally: &mut Tally) {
+    combinations(|asked| untrailed(tally, asked, 2));
+    for asked in fixed() {
+        LIMITS.into_iter().filter(|limit| *limit <= 200).for_each(|limit| untrailed(tally, asked, limit));
+    }
 }
 
 // ---- the run

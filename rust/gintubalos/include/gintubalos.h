@@ -54,6 +54,10 @@ uint64_t gintubalos_black(uint64_t forward, uint64_t strike, uint64_t sigma, uin
 uint64_t gintubalos_implied_volatility_from_a_transformed_rational_guess(
     uint64_t price, uint64_t forward, uint64_t strike, uint64_t expiry, uint8_t kind, uint64_t *outcome);
 
+/* The same with any limit. */
+uint64_t gintubalos_solve_without_trail(uint64_t price, uint64_t forward, uint64_t strike, uint64_t expiry, uint8_t kind,
+                                        int32_t limit, uint64_t *outcome);
+
 /* The same with any limit and a trail: 1 to 4, 21, then 6 or 7. Record i is at byte 48 x i: s, computed price b, vega, left
  * end and right end after the move, s after; six floats, little-endian. Bytes after the last record stay. */
 uint64_t gintubalos_implied_volatility_from_a_transformed_rational_guess_with_limited_iterations(

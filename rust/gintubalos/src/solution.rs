@@ -1,6 +1,6 @@
 //! solve: the wrapper with limit 2, with any limit, and with its steps laid open.
 
-use crate::{bits, book, Branch, Ending, OptionType, Refusal};
+use crate::{bits, Branch, Ending, OptionType, Refusal};
 
 /// The bytes of a step's record in a trail.
 pub const STEP_BYTES: usize = 48;
@@ -117,16 +117,9 @@ pub fn implied_volatility_from_a_transformed_rational_guess_with_limited_iterati
     option_type: OptionType,
     max_iteration: i32,
 ) -> Result<Solution, Refusal> {
-    // The archive's solve wants a trail of 48 bytes a step; file solves without one, and a slot of its own has the answer.
-    let mut slot = [0; book::RECORD_BYTES];
-    book::file(market_price, forward_price, strike_price, time_to_maturity, option_type, max_iteration, &mut slot, 0)?;
-    let record = book::Record::from(&slot);
-    Ok(Solution {
-        volatility: record.volatility(),
-        branch: record.branch().expect("proved: filed within the layout"),
-        ending: record.ending().expect("proved: filed within the layout"),
-        steps: record.steps(),
-    })
+    let [price, forward, strike, expiry] =
+        [market_price, forward_price, strike_price, time_to_maturity].map(f64::to_bits);
+    answered(bits::solve_without_trail(price, forward, strike, expiry, option_type as u8, max_iteration))
 }
 
 /// The same, with its steps written to the lent trail: step i's record is at byte 48 × i, and bytes after the last record

@@ -22,6 +22,15 @@ mod archive {
             option_type: u8,
             outcome: &mut u64,
         ) -> u64;
+        pub fn gintubalos_solve_without_trail(
+            price: u64,
+            forward: u64,
+            strike: u64,
+            expiry: u64,
+            option_type: u8,
+            max_iteration: i32,
+            outcome: &mut u64,
+        ) -> u64;
         pub fn gintubalos_file(
             price: u64,
             forward: u64,
@@ -114,6 +123,30 @@ pub fn implied_volatility_from_a_transformed_rational_guess(
             strike,
             expiry,
             option_type,
+            &mut outcome,
+        )
+    };
+    (volatility, outcome)
+}
+
+/// The same with any limit and without a trail.
+pub fn solve_without_trail(
+    price: u64,
+    forward: u64,
+    strike: u64,
+    expiry: u64,
+    option_type: u8,
+    max_iteration: i32,
+) -> (u64, u64) {
+    let mut outcome = 0;
+    let volatility = unsafe {
+        archive::gintubalos_solve_without_trail(
+            price,
+            forward,
+            strike,
+            expiry,
+            option_type,
+            max_iteration,
             &mut outcome,
         )
     };

@@ -110,6 +110,7 @@ fn expected() -> Vec<String> {
         said("black", refused, 24),
     ]);
     let more = "wrapper 3FC7D1E857E3FCEB 0 2 2 2
+untrailed 3FC7D1E857E3FCEB 0 2 2 2
 solve 3FC7D1E857E3FCEC 0 2 2 3
 trail 3FC7D1E857E3FCEC 0
 short 7FF8000000000000 21 0 0 0

@@ -63,6 +63,8 @@ static void solves(void) {
     value = gintubalos_implied_volatility_from_a_transformed_rational_guess(price, forward, strike, expiry,
                                                                            GINTUBALOS_CALL, &outcome);
     say_outcome("wrapper", value, outcome);
+    value = gintubalos_solve_without_trail(price, forward, strike, expiry, GINTUBALOS_CALL, 2, &outcome);
+    say_outcome("untrailed", value, outcome);
     value = gintubalos_implied_volatility_from_a_transformed_rational_guess_with_limited_iterations(
         price, forward, strike, expiry, GINTUBALOS_CALL, 3, trail, sizeof trail, &outcome);
     say_outcome("solve", value, outcome);
