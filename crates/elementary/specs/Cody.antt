@@ -102,7 +102,7 @@ dIntOf x = cond (lt +0 x) (floorOf binary64 x) (neg (floorOf binary64 (neg x)))
 unfoldable pub tildeOf : Float → Float
 tildeOf y = dIntOf (y ⊗ sixteen) ⊘ sixteen
 
--- what the two exponentials of a negative square are of
+-- what the two exponentials of a negative square are of: −y_tilde × y_tilde, and −(y − y_tilde) × (y + y_tilde)
 abbrev pub negativeSquare : Float → Float
 negativeSquare t = neg t ⊗ t
 
@@ -110,7 +110,7 @@ abbrev pub negativeRest : Float → Float
 negativeRest y = neg (y ⊖ tildeOf y) ⊗ (y ⊕ tildeOf y)
 
 unfoldable pub smoothenedExponentialOfNegativeSquare : Float → Float
-smoothenedExponentialOfNegativeSquare y = expOf (neg (tildeOf y) ⊗ tildeOf y) ⊗ expOf (neg (y ⊖ tildeOf y) ⊗ (y ⊕ tildeOf y))
+smoothenedExponentialOfNegativeSquare y = expOf (negativeSquare (tildeOf y)) ⊗ expOf (negativeRest y)
 
 unfoldable pub smoothenedExponentialOfPositiveSquare : Float → Float
 smoothenedExponentialOfPositiveSquare x = expOf (tildeOf x ⊗ tildeOf x) ⊗ expOf ((x ⊖ tildeOf x) ⊗ (x ⊕ tildeOf x))

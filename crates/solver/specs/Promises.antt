@@ -30,7 +30,7 @@ use Rattle.solver.specs.declared.state.Ends.{Ends}
 use Rattle.solver.specs.Step.{lowerDs, upperDs, generalDs, halved, plain, stepBy, lowerStep, upperStep, generalStep, nextBy}
 use Rattle.solver.specs.Guess.{Begun, answered, stopped, looping}
 use Rattle.solver.specs.Answers.{stepsIn, endedByLimit}
-use Rattle.solver.specs.Solve.{begunOf, Solving, answerOf, ran, solvingOf, solveWithTrail, stepsOf}
+use Rattle.solver.specs.Solve.{begunOf, Solving, answerOf, ran, solvingOf, solvingWith, solveWithTrail, stepsOf}
 use Rattle.solver.specs.Trail.{recordBytes, allBytes, trailAfter}
 use Rattle.solver.specs.Runs.{begins, same, steps, trace, every}
 use Rattle.solver.specs.Bracket.{Moved, completed, NotBelow, NotAbove, EndFrom, left-never-falls, right-never-grows, left-from, right-from}
@@ -208,7 +208,7 @@ in-order (negsuc n) (negsuc m) h = zero-le
 
 module _ (rules : RuleSet) (price forward strike expiry : Float) (kind : OptionType) where
   pub demand-3 : Demand-3 rules price forward strike expiry kind
-  unfolding solveWithTrail
+  unfolding solveWithTrail solvingWith
   demand-3 = record {
     longer-run = λ n m bytes bytes′ l a b.
         rw (le-ltb bytes (48 * stepsOf n) a, le-ltb bytes′ (48 * stepsOf m) b) (longer (begunOf rules false price forward strike expiry kind) expiry (stepsOf n) (stepsOf m) (in-order n m l));

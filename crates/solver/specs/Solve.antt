@@ -1,5 +1,5 @@
 -- solve: `implied_volatility_from_a_transformed_rational_guess_with_limited_iterations` with document 01's refusals. Definitions only.
-use mathlib.Core.Bool.{Bool, false, cond, _&&_}
+use mathlib.Core.Bool.{Bool, true, false, cond, _&&_}
 use mathlib.Core.List.{List, []}
 use Prim.Native.Nat.{ℕ, _*_}
 use lib.ListN.{length}
@@ -83,11 +83,11 @@ solvingWith rules keep bytes price forward strike expiry kind n =
 
 -- solve with no trail
 unfoldable pub solveOf : RuleSet → Float → Float → Float → Float → OptionType → ℕ → Solving
-solveOf rules price forward strike expiry kind n = solvingOf (begunOf rules false price forward strike expiry kind) expiry n
+solveOf rules price forward strike expiry kind n = solvingWith rules false 0 price forward strike expiry kind n
 
 -- solve with a trail of so many bytes
 unfoldable pub solveWithTrail : RuleSet → Float → Float → Float → Float → OptionType → ℕ → ℕ → Solving
-solveWithTrail rules price forward strike expiry kind n bytes = solvingOf (begunOf rules (ltb bytes (48 * n)) price forward strike expiry kind) expiry n
+solveWithTrail rules price forward strike expiry kind n bytes = solvingWith rules true bytes price forward strike expiry kind n
 
 -- max(limit, 0)
 abbrev pub stepsOf : ℤ → ℕ

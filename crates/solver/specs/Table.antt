@@ -25,7 +25,7 @@ use Rattle.solver.specs.RuleSets.{rule-set-0}
 use Rattle.solver.specs.Guess.{normalisedBegun, mappedBegun}
 use Rattle.solver.specs.Book.{filedBytes, resolved}
 use Rattle.solver.specs.Listing.{decimalBy, hexBy, answerAt, lineOf}
-use Rattle.solver.specs.Solve.{acceptedBegun, inputNumber, begunOf, solvingOf, solveOf, solveWithTrail}
+use Rattle.solver.specs.Solve.{acceptedBegun, inputNumber, begunOf, solvingOf, solvingWith, solveOf, solveWithTrail}
 
 abbrev f0 : ℕ
 f0 = 0
@@ -100,7 +100,7 @@ pub record Rows : Type 0 where
   pub part-line : lineOf rule-set-0 3 (replicate 63 0) ≡ 51 ∷ 32 ∷ 82 ∷ 69 ∷ 70 ∷ 32 ∷ 50 ∷ 51 ∷ 10 ∷ []
 
 pub rows : Rows
-unfolding lineOf answerAt resolved filedBytes decimalBy hexBy toBits solveOf solveWithTrail solvingOf begunOf inputNumber acceptedBegun normalisedBegun mappedBegun erfcOf erfcxOf interpolationOf asymptoticOf sqrtOf roundRoot isqrt rootBy inUnits lnOf lnInner lnAt lnSum placeOf significandOf expOf expInner expSum scaled floorOf maxOf absOf add sub mul div neg ofBits ofInt toSigned round units size lt le eq ne
+unfolding lineOf answerAt resolved filedBytes decimalBy hexBy toBits solveOf solveWithTrail solvingWith solvingOf begunOf inputNumber acceptedBegun normalisedBegun mappedBegun erfcOf erfcxOf interpolationOf asymptoticOf sqrtOf roundRoot isqrt rootBy inUnits lnOf lnInner lnAt lnSum placeOf significandOf expOf expInner expSum scaled floorOf maxOf absOf add sub mul div neg ofBits ofInt toSigned round units size lt le eq ne
 rows = record {
   P1 = refl;
   P2 = refl;

@@ -2,7 +2,7 @@
 use borrow.Author.Needs.{needs}
 use mir.Syntax.{w32}
 use mir.ValLaws.{toZ-ofZ}
-use Rattle.solver.specs.Solve.{solvingWith, solveWithTrail}
+use Rattle.solver.specs.Solve.{solveWithTrail}
 use Rattle.solver.proofs.solve.implied_volatility_from_a_transformed_rational_guess_with_limited_iterations.Statement.{
   statement,
 }
@@ -18,7 +18,7 @@ same-length : tie.Need-same-length
 same-length c = search needs
 
 returns : tie.Need-returns
-unfolding solvingWith solveWithTrail
+unfolding solveWithTrail
 returns c =
     let steps = c .before .before .before .before in
     let a = steps .before .before in
