@@ -7,10 +7,12 @@ use native.Mathlib.Nat.{mul-one, zero-add, pow-suc, mul-div-cancel, mul-right-co
 use native.Mathlib.Omega.{arith}
 use lib.Dec.{T, leb, eqb, eqb→eq, le→leb, not-T}
 use lib.Arith.{lt→nleb}
-use lib.Ieee.{Float, nan, inf, fin, binary64, up, down, size, odd, fits, ofFields, ofBits, toBits}
+use lib.Ieee.{Float, nan, inf, fin, binary64, up, down, size, odd, fits, ofFields, ofBits, toBits, ofInt}
 use lib.Ieee.Fits.{down-pos}
+use lib.Ieee.Back.{round-whole}
 use lib.Ieee.Exact.{HasValue, odd-sign}
 use lib.Ieee.Bits.{is-true, is-false, cond-no, ofBits-toBits}
+use Rattle.elementary.specs.Ops.{whole}
 
 -- the same value said otherwise
 pub recast : (x : Float) (c : ℕ) {s t : Bool} {a b : ℕ} → s ≡ t → a ≡ b → HasValue x s a c → HasValue x t b c
@@ -28,6 +30,10 @@ revalue (fin t m k) s a c b d p e h = (
       ∙ ap (λ (z : ℕ). z * down k) e
       ∙ mul-right-comm b c (down k)),
 )
+
+pub whole-value : (n : ℕ) → n ≤ 2 ^ 53 → HasValue (whole n) false n 1
+unfolding ofInt
+whole-value n h = round-whole binary64 false n h
 
 -- ---- reading a pattern: its sign, its exponent's field, its digits
 fields : (b x t : ℕ) → b % 2 ^ 63 / 2 ^ 52 ≡ x → b % 2 ^ 52 ≡ t → ofBits binary64 b ≡ ofFields binary64 (leb (2 ^ 63) b) x t

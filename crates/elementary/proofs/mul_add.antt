@@ -4,3 +4,10 @@ mod Sums
 mod Exactly
 mod Alike
 mod Machine
+mod Whole
+mod Nearest
+mod Pairs
+mod TwoSum
+mod TwoProduct
+mod Between
+mod ByErrors

@@ -107,26 +107,32 @@ pub fn smoothened_exponential_of_positive_square(x: f64) -> f64
 pub fn ab(z: f64) -> f64
     ensures { λ r. ⌜ r ≡ abOf z ⌝ }
 {
-    ((((A[4] * z + A[0]) * z + A[1]) * z + A[2]) * z + A[3])
-        / ((((z + B[0]) * z + B[1]) * z + B[2]) * z + B[3])
+    let a = A;
+    let b = B;
+    ((((a[4] * z + a[0]) * z + a[1]) * z + a[2]) * z + a[3])
+        / ((((z + b[0]) * z + b[1]) * z + b[2]) * z + b[3])
 }
 
 pub fn cd(y: f64) -> f64
     ensures { λ r. ⌜ r ≡ cdOf y ⌝ }
 {
-    ((((((((C[8] * y + C[0]) * y + C[1]) * y + C[2]) * y + C[3]) * y + C[4]) * y + C[5]) * y + C[6])
+    let c = C;
+    let d = D;
+    ((((((((c[8] * y + c[0]) * y + c[1]) * y + c[2]) * y + c[3]) * y + c[4]) * y + c[5]) * y + c[6])
         * y
-        + C[7])
-        / ((((((((y + D[0]) * y + D[1]) * y + D[2]) * y + D[3]) * y + D[4]) * y + D[5]) * y + D[6])
+        + c[7])
+        / ((((((((y + d[0]) * y + d[1]) * y + d[2]) * y + d[3]) * y + d[4]) * y + d[5]) * y + d[6])
             * y
-            + D[7])
+            + d[7])
 }
 
 pub fn pq(z: f64) -> f64
     ensures { λ r. ⌜ r ≡ pqOf z ⌝ }
 {
-    z * (((((P[5] * z + P[0]) * z + P[1]) * z + P[2]) * z + P[3]) * z + P[4])
-        / (((((z + Q[0]) * z + Q[1]) * z + Q[2]) * z + Q[3]) * z + Q[4])
+    let p = P;
+    let q = Q;
+    z * (((((p[5] * z + p[0]) * z + p[1]) * z + p[2]) * z + p[3]) * z + p[4])
+        / (((((z + q[0]) * z + q[1]) * z + q[2]) * z + q[3]) * z + q[4])
 }
 
 pub fn erfcx_above_threshold(y: f64) -> f64

@@ -85,8 +85,8 @@ fn aim(p: f64, at: Ends, guess: f64) -> f64 {
     }
 }
 
-// The next eight middles, if the result is near the guess.
-fn middles(a: f64, b: f64, guess: f64) -> [f64; 8] {
+// The next eight middles, if the result is near the guess: turn by turn.
+fn middles_in_turn(a: f64, b: f64, guess: f64) -> [f64; 8] {
     let mut x = [0.0; 8];
     let mut lo = a;
     let mut hi = b;
@@ -105,60 +105,40 @@ fn middles(a: f64, b: f64, guess: f64) -> [f64; 8] {
     x
 }
 
-// ---- turns
-
-// The turns after the first whose middles were guessed.
-fn walk(p: f64, from: Ends, x: [f64; 8], f: [f64; 8]) -> Ends
-    requires { ⌜ After p (from .lo) (from .hi) (from .i) ⌝ ∗ ⌜ Each (cdfOf rules-0) x f ⌝ }
-    ensures { λ r. ⌜ After p (r .lo) (r .hi) (r .i) ⌝ ∗ ⌜ from .i ≤ r .i ⌝ }
-{
-    let mut lo = from.lo;
-    let mut hi = from.hi;
-    let mut flo = from.flo;
-    let mut fhi = from.fhi;
-    let mut i = from.i;
-    let mut j: usize = 1;
-    while j < 8 {
-        let mid = 0.5 * (lo + hi);
-        let at = x[j];
-        if 64 <= i {
-            return Ends {
-                lo,
-                hi,
-                flo,
-                fhi,
-                i,
-            };
-        }
-        if same(mid, at) {
-            let v = f[j];
-            if v < p {
-                lo = mid;
-                flo = v;
-            } else {
-                hi = mid;
-                fhi = v;
-            }
-        } else {
-            return Ends {
-                lo,
-                hi,
-                flo,
-                fhi,
-                i,
-            };
-        }
-        i += 1;
-        j += 1;
-    }
-    Ends {
-        lo,
-        hi,
-        flo,
-        fhi,
-        i,
-    }
+// The middle of the part that holds u, of n alike parts of the width w from a on; a share is 1 / n.
+// Adding and taking off 2^52 + 2^51 rounds to a whole number.
+fn middle_of(a: f64, w: f64, u: f64, n: f64, share: f64) -> f64 {
+    a + (u * n - 0.5 + 6755399441055744.0 - 6755399441055744.0 + 0.5) * (w * share)
 }
+
+// The same as `middles_in_turn` for a guess at u of the width w: no middle waits for another.
+fn middles_at_once(a: f64, w: f64, u: f64) -> [f64; 8] {
+    [
+        middle_of(a, w, u, 1.0, 1.0),
+        middle_of(a, w, u, 2.0, 0.5),
+        middle_of(a, w, u, 4.0, 0.25),
+        middle_of(a, w, u, 8.0, 0.125),
+        middle_of(a, w, u, 16.0, 0.0625),
+        middle_of(a, w, u, 32.0, 0.03125),
+        middle_of(a, w, u, 64.0, 0.015625),
+        middle_of(a, w, u, 128.0, 0.0078125),
+    ]
+}
+
+// At once while the middles are exact and the guess lies inside.
+fn middles(a: f64, b: f64, guess: f64) -> [f64; 8] {
+    let w = b - a;
+    if w > 1e-11 {
+        if a < guess {
+            if guess < b {
+                return middles_at_once(a, w, (guess - a) / w);
+            }
+        }
+    }
+    middles_in_turn(a, b, guess)
+}
+
+// ---- turns
 
 // The cdf at mid, which is f if mid is x.
 fn known(mid: f64, x: f64, f: f64) -> f64
@@ -194,6 +174,28 @@ fn turned(p: f64, from: Ends, mid: f64, v: f64) -> Ends
             i: from.i + 1,
         }
     }
+}
+
+// The turns after the first whose middles were guessed.
+fn walk(p: f64, from: Ends, x: [f64; 8], f: [f64; 8]) -> Ends
+    requires { ⌜ After p (from .lo) (from .hi) (from .i) ⌝ ∗ ⌜ Each (cdfOf rules-0) x f ⌝ }
+    ensures { λ r. ⌜ After p (r .lo) (r .hi) (r .i) ⌝ ∗ ⌜ from .i ≤ r .i ⌝ }
+{
+    let mut at = from;
+    let mut j: usize = 1;
+    while j < 8 {
+        if 64 <= at.i {
+            return at;
+        }
+        let mid = 0.5 * (at.lo + at.hi);
+        if same(mid, x[j]) {
+            at = turned(p, at, mid, f[j]);
+        } else {
+            return at;
+        }
+        j += 1;
+    }
+    at
 }
 
 // One turn and up to seven more.

@@ -1,5 +1,7 @@
-// IEEE 754's fusedMultiplyAdd, a × b + c rounded once, in two ways: `quick` finds two floats whose
-// exact sum rounds alike and lets the machine add them, `general` works in numbers of two words.
+// IEEE 754's fusedMultiplyAdd, a × b + c rounded once, in three ways: `by_errors` is all in floats,
+// `quick` finds two floats whose exact sum rounds alike and lets the machine add them, `general`
+// works in numbers of two words. For a whole b and a whole −c `mul_add_whole` has a fourth, with no
+// branch on digits.
 use crate::round::Parts;
 use crate::round::Wide;
 use crate::round::any;
@@ -17,12 +19,13 @@ ghost use mathlib.Core.Bool.{true, not, cond, _&&_};
 ghost use Prim.Native.Nat.{_+_, _-_, _*_, _/_, _%_, _^_, _<_, _≤_};
 ghost use lib.Dec.{T, leb};
 ghost use lib.Ieee as Ieee;
-ghost use lib.Ieee.{binary64, round, sum};
+ghost use lib.Ieee.{binary64, neg as negated, round, sum};
 ghost use lib.Ieee.Exact.{HasValue};
 ghost use lib.Ieee.Scale as Scale;
+ghost use Rattle.elementary.specs.Ops.{whole};
 ghost use Rattle.elementary.specs.Round.{wide, Same, Digits};
 ghost use Rattle.elementary.specs.MulAdd.{fma};
-ghost use Rattle.elementary.specs.MulAdd.Steps.{Near, Far, Ordered, Both, Marked, Clear, Joined, Opened, Apart, Turned};
+ghost use Rattle.elementary.specs.MulAdd.Steps.{Near, Far, Ordered, Both, Marked, Clear, Joined, Opened, Apart, Turned, Splits, Pinned, Usual};
 
 // The product of two numbers of at most 53 digits.
 fn product(a: u64, b: u64) -> Wide
@@ -420,15 +423,132 @@ fn quick(a: f64, b: f64, c: f64) -> Tried
     }
 }
 
+// Whether two factors are middling and an addend is not huge, by their bits.
+fn usual(x: u64, y: u64, z: u64) -> bool
+    ensures { λ r. ⌜ (r ≡ true → Usual x y z) ⌝ }
+{
+    if middling(x % 0x8000_0000_0000_0000 / 0x10_0000_0000_0000) {
+        if middling(y % 0x8000_0000_0000_0000 / 0x10_0000_0000_0000) {
+            return z % 0x8000_0000_0000_0000 < 0x7e00_0000_0000_0000;
+        }
+    }
+    false
+}
+
+// s + w rounded, where every number that rounds to w gives the same sum with s: what lies between
+// the two floats beside w does.
+fn pinned(s: f64, w: f64) -> Tried
+    requires { ⌜ T (not (Ieee.isNan w)) ⌝ }
+    ensures { λ r. ⌜ (r .done ≡ true → Pinned s w (r .value)) ⌝ }
+{
+    let d = f64::from_bits(f64::to_bits(w) % 0x8000_0000_0000_0000) * 2.220446049250313e-16;
+    let lo = w - d;
+    let hi = w + d;
+    let r = s + lo;
+    if r == s + hi {
+        if lo < w {
+            if w < hi {
+                let m = f64::to_bits(r) % 0x8000_0000_0000_0000;
+                if 0 < m {
+                    return Tried {
+                        done: m < 0x7ff0_0000_0000_0000,
+                        value: r,
+                    };
+                }
+            }
+        }
+    }
+    Tried {
+        done: false,
+        value: 0.0,
+    }
+}
+
+// `mul_add` in floats: the product and the sum with what rounding took off each, which are floats
+// (Dekker, Knuth), and one rounding of all. The five products are exact; a's 27 lower digits are cut
+// once more, since with b's 27 they would make 54.
+fn by_errors(a: f64, b: f64, c: f64) -> Tried
+    requires { ⌜ T (not (Ieee.isNan a)) ⌝ ∗ ⌜ T (not (Ieee.isNan b)) ⌝ ∗ ⌜ T (not (Ieee.isNan c)) ⌝ }
+    ensures { λ r. ⌜ (r .done ≡ true → r .value ≡ fma binary64 a b c) ⌝ }
+{
+    let x = f64::to_bits(a);
+    let y = f64::to_bits(b);
+    let z = f64::to_bits(c);
+    if usual(x, y, z) {
+        let ah = f64::from_bits(x - x % 0x800_0000);
+        let am = f64::from_bits(x - x % 0x4000);
+        let bh = f64::from_bits(y - y % 0x800_0000);
+        let bl = b - bh;
+        let p = a * b;
+        let e = ah * bh - p + ah * bl + (a - ah) * bh + (am - ah) * bl + (a - am) * bl;
+        let s = p + c;
+        let v = s - p;
+        let t = (p - (s - v)) + (c - v);
+        return pinned(s, t + e);
+    }
+    Tried {
+        done: false,
+        value: 0.0,
+    }
+}
+
 // a * b + c, rounded once: IEEE 754's fusedMultiplyAdd.
 pub fn mul_add(a: f64, b: f64, c: f64) -> f64
     ensures { λ r. ⌜ r ≡ fma binary64 a b c ⌝ }
 {
     let t = a * b + c;
     if t == t {
+        let f = by_errors(a, b, c);
+        if f.done {
+            return f.value;
+        }
         let q = quick(a, b, c);
         if q.done { q.value } else { general(a, b, c) }
     } else {
         general(a, b, c)
+    }
+}
+
+// Whether `split` serves: a is from 2^-12 to 2, and p and q have at most 19 digits.
+fn splits(a: f64, p: u32, q: u32) -> bool
+    ensures { λ r. ⌜ (r ≡ true → Splits a p q) ⌝ }
+{
+    if p >= 0x8_0000 {
+        return false;
+    }
+    if q >= 0x8_0000 {
+        return false;
+    }
+    if a != a {
+        return false;
+    }
+    let b = f64::to_bits(a);
+    if b < 0x3f30_0000_0000_0000 {
+        false
+    } else {
+        b < 0x4000_0000_0000_0000
+    }
+}
+
+// a * p - q for an a of two parts: without its 31 lowest digits, and these. Both products and the
+// difference are exact, so that only the last sum rounds.
+fn split(a: f64, p: u32, q: u32) -> f64
+    requires { ⌜ Splits a p q ⌝ }
+    ensures { λ r. ⌜ r ≡ fma binary64 a (whole p) (negated (whole q)) ⌝ }
+{
+    let b = f64::to_bits(a);
+    let high = f64::from_bits(b - b % 0x8000_0000);
+    let f = p as f64;
+    high * f - q as f64 + (a - high) * f
+}
+
+// a * p - q, rounded once: `mul_add` for whole numbers.
+pub fn mul_add_whole(a: f64, p: u32, q: u32) -> f64
+    ensures { λ r. ⌜ r ≡ fma binary64 a (whole p) (negated (whole q)) ⌝ }
+{
+    if splits(a, p, q) {
+        split(a, p, q)
+    } else {
+        mul_add(a, p as f64, -(q as f64))
     }
 }

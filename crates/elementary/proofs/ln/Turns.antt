@@ -7,10 +7,9 @@ use native.Mathlib.Omega.{arith}
 use lib.Dec.{T, leb, ltb, le→leb, leb→le, nleb→lt, ltb→lt, nltb→le}
 use lib.IntN.{pos, negsuc}
 use lib.Ieee.{Float, binary64, inFloat, minus, round, ofInt, ofBits, sum}
-use lib.Ieee.Back.{round-whole}
-use lib.Ieee.Exact.{HasValue}
 use Rattle.elementary.specs.Ops.{_⊕_, _⊖_, _⊗_, _⊘_, one, whole}
 use Rattle.elementary.specs.Ln.{lnSum}
+use Rattle.elementary.proofs.Values.{whole-value}
 use Rattle.elementary.proofs.Adding.{sub-at}
 
 pub counted : (n : ℕ) → n ≤ 2 ^ 53 → T (inFloat binary64 (pos n))
@@ -37,10 +36,6 @@ done zero z q l h = sym h
 done (suc i) z q l h = absurd (omega arith)
 
 -- ---- the difference of two whole numbers
-whole-value : (n : ℕ) → n ≤ 2 ^ 53 → HasValue (whole n) false n 1
-unfolding ofInt
-whole-value n h = round-whole binary64 false n h
-
 apart : (a b : ℕ) → sum binary64 false a true b 1 ≡ ofInt binary64 (minus a b)
 unfolding sum ofInt
 apart a b = go (ltb a b) (leb b a) (ltb→lt a b) (nltb→le a b) (leb→le b a) (nleb→lt b a)

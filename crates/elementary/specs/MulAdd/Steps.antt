@@ -1,9 +1,10 @@
 -- What the contracts inside mul_add say of numbers. Assumes nothing.
 use mathlib.Core.Path.{_≡_}
 use mathlib.Core.Logic.{_⊎_}
-use mathlib.Core.Bool.{Bool, true, false}
+use mathlib.Core.Bool.{Bool, true, false, not}
 use Prim.Native.Nat.{ℕ, _+_, _/_, _%_, _^_, _<_, _≤_}
-use lib.Ieee.{Float}
+use lib.Dec.{T}
+use lib.Ieee.{Float, binary64, toBits, isNan, fits, add, lt, eq}
 use Rattle.elementary.specs.Round.{wide, Decoded}
 
 -- It has 105 or 106 digits.
@@ -84,3 +85,36 @@ pub record Opened (x : Float) (s : Bool) (m e : ℕ) : Type 0 where
   pub top : m < 2 ^ 53
   pub field : e < 2 ^ 11
   pub value : 0 < e → e < 2047 → Decoded x s m (e + 63)
+
+-- ---- a whole factor and a whole addend
+
+-- x is from 2 ^ -12 to 2, and the whole numbers have at most 19 digits
+pub record Splits (x : Float) (p q : ℕ) : Type 0 where
+  pub number : T (not (isNan x))
+  pub low : 0x3f30_0000_0000_0000 ≤ toBits binary64 x
+  pub high : toBits binary64 x < 0x4000_0000_0000_0000
+  pub factor : p < 2 ^ 19
+  pub addend : q < 2 ^ 19
+
+-- ---- a rounded sum of three
+
+-- r is the float nearest to s + x for every x that rounds to w: w lies between two floats, whose sums with s are r, and not 0
+pub record Pinned (s w r : Float) : Type 0 where
+  pub lo : Float
+  pub hi : Float
+  pub lo-fits : T (fits binary64 lo)
+  pub hi-fits : T (fits binary64 hi)
+  pub above : lt lo w ≡ true
+  pub under : lt w hi ≡ true
+  pub low : r ≡ add binary64 s lo
+  pub high : eq r (add binary64 s hi) ≡ true
+  pub some : 0 < toBits binary64 r % 2 ^ 63
+  pub finite : toBits binary64 r % 2 ^ 63 < 0x7ff0_0000_0000_0000
+
+-- the bits of two middling factors, and of an addend that is not huge
+pub record Usual (x y z : ℕ) : Type 0 where
+  pub first-low : 768 ≤ x % 2 ^ 63 / 2 ^ 52
+  pub first-high : x % 2 ^ 63 / 2 ^ 52 < 1280
+  pub second-low : 768 ≤ y % 2 ^ 63 / 2 ^ 52
+  pub second-high : y % 2 ^ 63 / 2 ^ 52 < 1280
+  pub addend : z % 2 ^ 63 < 0x7e00_0000_0000_0000

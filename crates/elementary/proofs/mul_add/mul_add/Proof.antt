@@ -1,11 +1,17 @@
--- `mul_add::mul_add` meets its contract: the first way where it is done, else the second; where the plain result is no NaN, no operand is one. Assumes nothing.
+-- `mul_add::mul_add` meets its contract: the first way that is done, else the last; where the plain result is no NaN, no operand is one. Assumes nothing.
 use Rattle.elementary.proofs.mul_add.Machine as machine
 use borrow.Author.Needs.{needs}
 use Rattle.elementary.proofs.mul_add.mul_add.Statement.{statement}
 use Rattle.elementary.proofs.mul_add.mul_add.Tie as tie
 
+by-errors-requires : tie.Need-by-errors-requires
+by-errors-requires c κs = machine.operands (c .before .args .a) (c .before .args .b) (c .before .args .c) (c .if1 .taken)
+
+returns : tie.Need-returns
+returns c = c .before .by-errors .ensures (c .if2 .taken)
+
 quick-requires : tie.Need-quick-requires
-quick-requires c κs = machine.operands (c .before .args .a) (c .before .args .b) (c .before .args .c) (c .if1 .taken)
+quick-requires c κs = let d = c .before .before .before in machine.operands (d .args .a) (d .args .b) (d .args .c) (c .before .before .if1 .taken)
 
 general-requires : tie.Need-general-requires
 general-requires c κs = search needs
@@ -13,16 +19,24 @@ general-requires c κs = search needs
 general-requires-2 : tie.Need-general-requires-2
 general-requires-2 c κs = search needs
 
-returns : tie.Need-returns
-returns c = c .before .quick .ensures (c .if2 .taken)
-
 returns-2 : tie.Need-returns-2
-returns-2 c = search needs
+returns-2 c = c .before .quick .ensures (c .if3 .taken)
 
 returns-3 : tie.Need-returns-3
 returns-3 c = search needs
 
+returns-4 : tie.Need-returns-4
+returns-4 c = search needs
+
 pub mul-add-spec : {M : Type 1} → statement M
 mul-add-spec =
     tie.close
-    (tie.spec quick-requires general-requires general-requires-2 returns returns-2 returns-3)
+    (tie.spec
+    by-errors-requires
+    returns
+    quick-requires
+    general-requires
+    general-requires-2
+    returns-2
+    returns-3
+    returns-4)

@@ -1,0 +1,375 @@
+-- A product's rounding error as a float: five exact products and their exact sums. Assumes nothing.
+use mathlib.Core.Path.{_≡_, refl, sym, ap, _∙_, subst}
+use mathlib.Core.Logic.{_⊎_, inl, inr}
+use mathlib.Core.Bool.{Bool, true, false, cond, true≢false}
+use Prim.Native.Nat.{ℕ, zero, _+_, _-_, _*_, _/_, _^_, _≤_, _<_}
+use native.Mathlib.Nat.{le-trans, le-of-eq, le-of-lt, lt-of-lt-of-le, lt-of-le-of-lt, lt-of-not-le, le-of-mul-le-mul-right, mul-le-mul, mul-le-mul-right, mul-assoc, mul-comm, mul-left-comm, mul-right-comm, mul-pos, add-mul, zero-mul, mul-zero, add-assoc, one-mul, mul-one, mul-add, mul-mul-mul-comm, not-le-of-lt}
+use native.Mathlib.Omega.{arith}
+use lib.Pow.{pow-add, pow-pos, pow-mono}
+use lib.Ieee.{Float, nan, inf, fin, binary64, unlike, up, down, round, mul, add, sub}
+use lib.Ieee.Fits.{down-pos}
+use lib.Ieee.Exact.{HasValue}
+use lib.Ieee.Scale.{round-same}
+use Rattle.elementary.proofs.Values.{recast}
+use Rattle.elementary.proofs.Leaf.{zero-of-mul}
+use Rattle.elementary.proofs.Adding.{sub-mul}
+use Rattle.elementary.proofs.mul_add.Nearest.{ex, ex-lt, dist, Mult, mult-down, Short, short-top, near, near-mult, near-exact, near-best}
+use Rattle.elementary.proofs.mul_add.Pairs.{bound, near-in, near-zero, Is, add-exact, sub-exact, relabel, round-value, value-range}
+use Rattle.elementary.proofs.mul_add.TwoSum.{dist-comm, same-dist}
+use Rattle.elementary.proofs.mul_add.Carry.{mul-lt}
+
+-- ---- products by the values of the factors
+pub mul-value : (x y : Float) (s t : Bool) (a b c d : ℕ) → 0 < c → 0 < d → HasValue x s a c → HasValue y t b d → mul binary64 x y ≡ round binary64 (unlike s t) (a * b) (c * d)
+unfolding mul
+mul-value nan y s t a b c d C D p q = absurd p
+mul-value (inf _) y s t a b c d C D p q = absurd p
+mul-value (fin _ m e) nan s t a b c d C D p q = absurd q
+mul-value (fin _ m e) (inf _) s t a b c d C D p q = absurd q
+mul-value (fin _ m e) (fin _ n g) s t a b c d C D p q =
+    let l : m * up e * (n * up g) * (c * d) ≡ m * up e * c * (n * up g * d) = simp (mul-assoc, mul-comm, mul-left-comm) in
+    let r : a * b * (down e * down g) ≡ a * down e * (b * down g) = simp (mul-assoc, mul-comm, mul-left-comm) in
+    rw (p .0, q .0) (round-same binary64 (unlike s t) (m * up e * (n * up g)) (down e * down g) (a * b) (c * d) (mul-pos (down-pos e) (down-pos g)) (mul-pos C D) (l ∙ rw (p .1, q .1) (sym r)))
+
+pub mul-units : (x y : Float) (s t : Bool) (a b i j g : ℕ) → i + j ≡ g + 1074 → HasValue x s (a * 2 ^ i) (2 ^ 1074) → HasValue y t (b * 2 ^ j) (2 ^ 1074) → mul binary64 x y ≡ round binary64 (unlike s t) (a * b * 2 ^ g) (2 ^ 1074)
+mul-units x y s t a b i j g e p q =
+    mul-value x y s t (a * 2 ^ i) (b * 2 ^ j) (2 ^ 1074) (2 ^ 1074) (pow-pos 1074) (pow-pos 1074) p q
+    ∙ round-same binary64 (unlike s t) (a * 2 ^ i * (b * 2 ^ j)) (2 ^ 1074 * 2 ^ 1074) (a * b * 2 ^ g) (2 ^ 1074) (mul-pos (pow-pos 1074) (pow-pos 1074)) (pow-pos 1074)
+    (turn a b (2 ^ i) (2 ^ j) (2 ^ 1074) ∙ ap (λ (z : ℕ). a * b * (z * 2 ^ 1074)) (sym (pow-add 2 i j) ∙ ap (λ (z : ℕ). 2 ^ z) e ∙ pow-add 2 g 1074) ∙ turn' (a * b) (2 ^ g) (2 ^ 1074))
+  where
+    turn : (a b x y u : ℕ) → a * x * (b * y) * u ≡ a * b * (x * y * u)
+    turn a b x y u = simp (mul-assoc, mul-comm, mul-left-comm)
+
+    turn' : (p x u : ℕ) → p * (x * u * u) ≡ p * x * (u * u)
+    turn' p x u = simp (mul-assoc, mul-comm, mul-left-comm)
+
+-- ---- differences with a sign: x is a - b, or b - a where n holds
+pub record Rel (n : Bool) (x : Float) (a b k : ℕ) : Type 0 where
+  pub is : Is x (cond n b a) (cond n a b) k
+
+pub rel-add : (n : Bool) {x y : Float} {a b c d i j : ℕ} → Rel n x a b i → Rel n y c d j → Short (dist (a + c) (b + d)) → i + j ≤ 2 ^ 16 → Rel n (add binary64 x y) (a + c) (b + d) (i + j)
+rel-add false X Y S h = record { is = add-exact (X .is) (Y .is) S h }
+rel-add true {a = a} {b = b} {c = c} {d = d} X Y S h = record { is = add-exact (X .is) (Y .is) (subst Short (dist-comm (a + c) (b + d)) S) h }
+
+pub rel-sub : (n : Bool) {x y : Float} {a b c d i j : ℕ} → Rel n x a b i → Rel n y c d j → Short (dist (a + d) (b + c)) → i + j ≤ 2 ^ 16 → Rel n (sub binary64 x y) (a + d) (b + c) (i + j)
+rel-sub false X Y S h = record { is = sub-exact (X .is) (Y .is) S h }
+rel-sub true {a = a} {b = b} {c = c} {d = d} X Y S h = record { is = sub-exact (X .is) (Y .is) (subst Short (dist-comm (a + d) (b + c)) S) h }
+
+pub rel-as : (n : Bool) {x : Float} {a b k : ℕ} (c d : ℕ) → a + d ≡ c + b → Rel n x a b k → Rel n x c d k
+rel-as false c d e X = record { is = relabel c d e (X .is) }
+rel-as true {a = a} {b = b} c d e X = record { is = relabel d c (turn e) (X .is) }
+  where
+    turn : a + d ≡ c + b → b + c ≡ d + a
+    turn e = omega arith
+
+-- a value of known size, whose sign is n or which is zero
+sized : (n : Bool) (x : Float) (v k : ℕ) → v ≤ k * bound → (s : Bool) → (s ≡ n) ⊎ (v ≡ 0) → HasValue x s v (2 ^ 1074) → Rel n x v 0 k
+sized n x v k h s c p = record { is = record { sign = s; size = v; value = p; pair = go n s c; small = le-trans (le-of-eq (only n)) h } }
+  where
+    go : (n s : Bool) → (s ≡ n) ⊎ (v ≡ 0) → cond n 0 v + cond s v 0 ≡ cond n v 0 + cond s 0 v
+    go true true c = omega arith
+    go true false (inl e) = absurd (true≢false (sym e))
+    go true false (inr e) = omega arith
+    go false true (inl e) = absurd (true≢false e)
+    go false true (inr e) = omega arith
+    go false false c = omega arith
+
+    only : (n : Bool) → dist (cond n 0 v) (cond n v 0) ≡ v
+    only true = omega arith
+    only false = omega arith
+
+pub plain : (n : Bool) (x : Float) (v k : ℕ) → v ≤ k * bound → HasValue x n v (2 ^ 1074) → Rel n x v 0 k
+plain n x v k h p = sized n x v k h n (inl refl) p
+
+-- and back
+sign-or : (n s : Bool) (v z : ℕ) → cond n 0 v + cond s z 0 ≡ cond n v 0 + cond s 0 z → (z ≡ v) × ((s ≡ n) ⊎ (v ≡ 0))
+sign-or true true v z e = (omega arith, inl refl)
+sign-or true false v z e = (omega arith, inr (omega arith))
+sign-or false true v z e = (omega arith, inr (omega arith))
+sign-or false false v z e = (omega arith, inl refl)
+
+-- ---- a product that is exact
+module _ (n t : Bool) {x y : Float} (a b i j g k l : ℕ) (E : i + j ≡ g + 1074) (X : Rel n x (a * 2 ^ i) 0 k) (Y : Rel t y (b * 2 ^ j) 0 l) where
+  own-x : (X .is .size ≡ a * 2 ^ i) × ((X .is .sign ≡ n) ⊎ (a * 2 ^ i ≡ 0))
+  own-x = sign-or n (X .is .sign) (a * 2 ^ i) (X .is .size) (X .is .pair)
+
+  own-y : (Y .is .size ≡ b * 2 ^ j) × ((Y .is .sign ≡ t) ⊎ (b * 2 ^ j ≡ 0))
+  own-y = sign-or t (Y .is .sign) (b * 2 ^ j) (Y .is .size) (Y .is .pair)
+
+  product-is : mul binary64 x y ≡ round binary64 (unlike (X .is .sign) (Y .is .sign)) (a * b * 2 ^ g) (2 ^ 1074)
+  product-is = mul-units x y (X .is .sign) (Y .is .sign) a b i j g E (recast x (2 ^ 1074) refl (own-x .0) (X .is .value)) (recast y (2 ^ 1074) refl (own-y .0) (Y .is .value))
+
+  product-sign : (unlike (X .is .sign) (Y .is .sign) ≡ unlike n t) ⊎ (a * b * 2 ^ g ≡ 0)
+  product-sign = go (own-x .1) (own-y .1)
+    where
+      go : (X .is .sign ≡ n) ⊎ (a * 2 ^ i ≡ 0) → (Y .is .sign ≡ t) ⊎ (b * 2 ^ j ≡ 0) → (unlike (X .is .sign) (Y .is .sign) ≡ unlike n t) ⊎ (a * b * 2 ^ g ≡ 0)
+      go (inl e) (inl f) = inl (rw (e, f) refl)
+      go (inr z) w = inr (ap (λ (u : ℕ). u * b * 2 ^ g) (zero-of-mul a (2 ^ i) (pow-pos i) z) ∙ ap (λ (u : ℕ). u * 2 ^ g) (zero-mul b) ∙ zero-mul (2 ^ g))
+      go (inl e) (inr z) = inr (ap (λ (u : ℕ). a * u * 2 ^ g) (zero-of-mul b (2 ^ j) (pow-pos j) z) ∙ ap (λ (u : ℕ). u * 2 ^ g) (mul-zero a) ∙ zero-mul (2 ^ g))
+
+  pub product-exact : a * b ≤ 2 ^ 53 → a * b * 2 ^ g ≤ bound → Rel (unlike n t) (mul binary64 x y) (a * b * 2 ^ g) 0 1
+  product-exact h m =
+      let r = round binary64 (unlike (X .is .sign) (Y .is .sign)) (a * b * 2 ^ g) (2 ^ 1074) in
+      let e = near-exact (a * b * 2 ^ g) (short-top (a * b * 2 ^ g) g (a * b, refl) (le-trans (mul-le-mul-right (2 ^ g) h) (le-of-eq (sym (pow-add 2 53 g))))) in
+      sized (unlike n t) (mul binary64 x y) (a * b * 2 ^ g) 1 (le-trans m (le-of-eq (sym (one-mul bound)))) (unlike (X .is .sign) (Y .is .sign)) product-sign
+      (subst (λ (z : Float). HasValue z (unlike (X .is .sign) (Y .is .sign)) (a * b * 2 ^ g) (2 ^ 1074)) (sym product-is)
+      (recast r (2 ^ 1074) refl e (round-value (unlike (X .is .sign) (Y .is .sign)) (a * b * 2 ^ g) (subst (λ (z : ℕ). z < 2 ^ 2098) (sym e) (value-range (a * b * 2 ^ g) m)))))
+
+  pub product-near : a * b * 2 ^ g ≤ bound → Rel (unlike n t) (mul binary64 x y) (near (a * b * 2 ^ g)) 0 1
+  product-near m =
+      let top : near (a * b * 2 ^ g) ≤ 2 ^ 0 * bound = near-in (a * b * 2 ^ g) 0 (le-trans m (le-of-eq (sym (one-mul bound)))) in
+      sized (unlike n t) (mul binary64 x y) (near (a * b * 2 ^ g)) 1 top (unlike (X .is .sign) (Y .is .sign)) (near-sign product-sign)
+      (subst (λ (z : Float). HasValue z (unlike (X .is .sign) (Y .is .sign)) (near (a * b * 2 ^ g)) (2 ^ 1074)) (sym product-is)
+      (round-value (unlike (X .is .sign) (Y .is .sign)) (a * b * 2 ^ g) (value-range (near (a * b * 2 ^ g)) (le-trans top (le-of-eq (one-mul bound))))))
+    where
+      near-sign : (unlike (X .is .sign) (Y .is .sign) ≡ unlike n t) ⊎ (a * b * 2 ^ g ≡ 0) → (unlike (X .is .sign) (Y .is .sign) ≡ unlike n t) ⊎ (near (a * b * 2 ^ g) ≡ 0)
+      near-sign (inl e) = inl e
+      near-sign (inr e) = inr (ap near e ∙ near-zero)
+
+-- ---- sums by a unit
+rel-eq : {n : Bool} {x : Float} {v w k : ℕ} → v ≡ w → Rel n x v 0 k → Rel n x w 0 k
+rel-eq {n} {x} {k = k} e X = subst (λ (z : ℕ). Rel n x z 0 k) e X
+
+short-unit : (d v k g : ℕ) → v * 2 ^ k ≡ d → v ≤ 2 ^ 53 → Short (d * 2 ^ g)
+short-unit d v k g e h =
+    let f : d * 2 ^ g ≡ v * 2 ^ (k + g) = ap (λ (z : ℕ). z * 2 ^ g) (sym e) ∙ mul-assoc v (2 ^ k) (2 ^ g) ∙ ap (λ (z : ℕ). v * z) (sym (pow-add 2 k g)) in
+    short-top (d * 2 ^ g) (k + g) (v, f) (le-trans (le-of-eq f) (le-trans (mul-le-mul-right (2 ^ (k + g)) h) (le-of-eq (sym (pow-add 2 53 (k + g))))))
+
+dist-mul : (a b u : ℕ) → dist a b * u ≡ dist (a * u) (b * u)
+dist-mul a b u = add-mul (a - b) (b - a) u ∙ ap (λ (z : ℕ). z + (b - a) * u) (sub-mul a b u) ∙ ap (λ (z : ℕ). a * u - b * u + z) (sub-mul b a u)
+
+module _ (n : Bool) {x y : Float} (g a b c v k : ℕ) where
+  minus-step : Rel n x (a * 2 ^ g) 0 1 → Rel n y (b * 2 ^ g) 0 1 → v * 2 ^ k ≡ dist a b → v ≤ 2 ^ 53 → Rel n (sub binary64 x y) (a * 2 ^ g) (b * 2 ^ g) 2
+  minus-step X Y e h =
+      rel-as n (a * 2 ^ g) (b * 2 ^ g) (omega arith)
+      (rel-sub n X Y (subst Short (dist-mul a b (2 ^ g) ∙ same-dist (a * 2 ^ g) (b * 2 ^ g) (a * 2 ^ g + 0) (0 + b * 2 ^ g) (omega arith)) (short-unit (dist a b) v k g e h)) (omega arith))
+
+  plus-step : (i : ℕ) → i < 100 → Rel n x (a * 2 ^ g) (b * 2 ^ g) i → Rel n y (c * 2 ^ g) 0 1 → v * 2 ^ k ≡ dist (a + c) b → v ≤ 2 ^ 53 → Rel n (add binary64 x y) ((a + c) * 2 ^ g) (b * 2 ^ g) (i + 1)
+  plus-step i l X Y e h =
+      let f : (a + c) * 2 ^ g ≡ a * 2 ^ g + c * 2 ^ g = add-mul a c (2 ^ g) in
+      rel-as n ((a + c) * 2 ^ g) (b * 2 ^ g) (omega arith)
+      (rel-add n X Y (subst Short (dist-mul (a + c) b (2 ^ g) ∙ same-dist ((a + c) * 2 ^ g) (b * 2 ^ g) (a * 2 ^ g + c * 2 ^ g) (b * 2 ^ g + 0) (omega arith)) (short-unit (dist (a + c) b) v k g e h)) (omega arith))
+
+-- ---- a part of a float
+part : (n : Bool) {x y : Float} (u v w i : ℕ) → u ≡ v + w → w ≤ 2 ^ 53 → Rel n x (u * 2 ^ i) 0 1 → Rel n y (v * 2 ^ i) 0 1 → Rel n (sub binary64 x y) (w * 2 ^ i) 0 2
+part n u v w i e h X Y =
+    let f : u * 2 ^ i ≡ v * 2 ^ i + w * 2 ^ i = ap (λ (z : ℕ). z * 2 ^ i) e ∙ add-mul v w (2 ^ i) in
+    rel-as n (w * 2 ^ i) 0 (omega arith)
+    (rel-sub n X Y (subst Short (level (u * 2 ^ i) (v * 2 ^ i) (w * 2 ^ i) f) (short-top (w * 2 ^ i) i (w, refl) (le-trans (mul-le-mul-right (2 ^ i) h) (le-of-eq (sym (pow-add 2 53 i)))))) (omega arith))
+  where
+    level : (x y z : ℕ) → x ≡ y + z → z ≡ dist (x + 0) (0 + y)
+    level x y z e = omega arith
+
+-- ---- the five numbers and the rounded product q * 2 ^ 52
+pub record Parts (hs hk ls mk rk q : ℕ) : Type 0 where
+  pub hk-top : hk < 2 ^ 53
+  pub ls-top : ls ≤ (2 ^ 27 - 1) * (2 ^ 26 - 1)
+  pub lk-top : mk * 2 ^ 14 + rk < 2 ^ 54
+  pub over : q * 2 ^ 52 ≤ hs * 2 ^ 54 + hk * 2 ^ 27 + ls * 2 ^ 27 + mk * 2 ^ 14 + rk + 2 ^ 53
+  pub under : hs * 2 ^ 54 + hk * 2 ^ 27 + ls * 2 ^ 27 + mk * 2 ^ 14 + rk ≤ q * 2 ^ 52 + 2 ^ 53
+
+module _ (n : Bool) {a b c d e p : Float} (g hs hk ls mk rk q : ℕ) (P : Parts hs hk ls mk rk q)
+    (A : Rel n a (hs * 2 ^ 54 * 2 ^ g) 0 1) (B : Rel n b (hk * 2 ^ 27 * 2 ^ g) 0 1) (C : Rel n c (ls * 2 ^ 27 * 2 ^ g) 0 1) (D : Rel n d (mk * 2 ^ 14 * 2 ^ g) 0 1) (E : Rel n e (rk * 2 ^ g) 0 1)
+    (R : Rel n p (q * 2 ^ 52 * 2 ^ g) 0 1) where
+  pub error-of-parts : Rel n (add binary64 (add binary64 (add binary64 (add binary64 (sub binary64 a p) b) c) d) e) ((hs * 2 ^ 54 + hk * 2 ^ 27 + ls * 2 ^ 27 + mk * 2 ^ 14 + rk) * 2 ^ g) (q * 2 ^ 52 * 2 ^ g) 6
+  error-of-parts =
+      let x1 = hs * 2 ^ 54 in
+      let x2 = x1 + hk * 2 ^ 27 in
+      let x3 = x2 + ls * 2 ^ 27 in
+      let x4 = x3 + mk * 2 ^ 14 in
+      let y = q * 2 ^ 52 in
+      let s1 = minus-step n g x1 y 0 (dist (hs * 4) q) 52 A R (one hs q) (one-top hs hk ls mk rk q (P .hk-top) (P .ls-top) (P .lk-top) (P .over) (P .under)) in
+      let s2 = plus-step n g x1 y (hk * 2 ^ 27) (dist (hs * 2 ^ 27 + hk) (q * 2 ^ 25)) 27 2 (omega arith) s1 B (two hs hk q) (two-top hs hk ls mk rk q (P .ls-top) (P .lk-top) (P .over) (P .under)) in
+      let s3 = plus-step n g x2 y (ls * 2 ^ 27) (dist (hs * 2 ^ 27 + hk + ls) (q * 2 ^ 25)) 27 3 (omega arith) s2 C (three hs hk ls q) (three-top hs hk ls mk rk q (P .lk-top) (P .over) (P .under)) in
+      let s4 = plus-step n g x3 y (mk * 2 ^ 14) (dist (hs * 2 ^ 40 + hk * 2 ^ 13 + ls * 2 ^ 13 + mk) (q * 2 ^ 38)) 14 4 (omega arith) s3 D (four hs hk ls mk q) (four-top hs hk ls mk rk q (P .lk-top) (P .over) (P .under)) in
+      plus-step n g x4 y rk (dist (x4 + rk) y) 0 5 (omega arith) s4 E (mul-one (dist (x4 + rk) y)) (five x4 rk y (P .over) (P .under))
+    where
+      one : (hs q : ℕ) → dist (hs * 4) q * 2 ^ 52 ≡ dist (hs * 2 ^ 54) (q * 2 ^ 52)
+      one hs q = dist-mul (hs * 4) q (2 ^ 52) ∙ ap (λ (z : ℕ). dist z (q * 2 ^ 52)) (omega arith)
+
+      two : (hs hk q : ℕ) → dist (hs * 2 ^ 27 + hk) (q * 2 ^ 25) * 2 ^ 27 ≡ dist (hs * 2 ^ 54 + hk * 2 ^ 27) (q * 2 ^ 52)
+      two hs hk q = dist-mul (hs * 2 ^ 27 + hk) (q * 2 ^ 25) (2 ^ 27) ∙ ap (λ (z : ℕ). dist z (q * 2 ^ 25 * 2 ^ 27)) (omega arith) ∙ ap (λ (z : ℕ). dist (hs * 2 ^ 54 + hk * 2 ^ 27) z) (omega arith)
+
+      three : (hs hk ls q : ℕ) → dist (hs * 2 ^ 27 + hk + ls) (q * 2 ^ 25) * 2 ^ 27 ≡ dist (hs * 2 ^ 54 + hk * 2 ^ 27 + ls * 2 ^ 27) (q * 2 ^ 52)
+      three hs hk ls q = dist-mul (hs * 2 ^ 27 + hk + ls) (q * 2 ^ 25) (2 ^ 27) ∙ ap (λ (z : ℕ). dist z (q * 2 ^ 25 * 2 ^ 27)) (omega arith) ∙ ap (λ (z : ℕ). dist (hs * 2 ^ 54 + hk * 2 ^ 27 + ls * 2 ^ 27) z) (omega arith)
+
+      four : (hs hk ls mk q : ℕ) → dist (hs * 2 ^ 40 + hk * 2 ^ 13 + ls * 2 ^ 13 + mk) (q * 2 ^ 38) * 2 ^ 14 ≡ dist (hs * 2 ^ 54 + hk * 2 ^ 27 + ls * 2 ^ 27 + mk * 2 ^ 14) (q * 2 ^ 52)
+      four hs hk ls mk q = dist-mul (hs * 2 ^ 40 + hk * 2 ^ 13 + ls * 2 ^ 13 + mk) (q * 2 ^ 38) (2 ^ 14) ∙ ap (λ (z : ℕ). dist z (q * 2 ^ 38 * 2 ^ 14)) (omega arith) ∙ ap (λ (z : ℕ). dist (hs * 2 ^ 54 + hk * 2 ^ 27 + ls * 2 ^ 27 + mk * 2 ^ 14) z) (omega arith)
+
+      one-top : (hs hk ls mk rk q : ℕ) → hk < 2 ^ 53 → ls ≤ (2 ^ 27 - 1) * (2 ^ 26 - 1) → mk * 2 ^ 14 + rk < 2 ^ 54 → q * 2 ^ 52 ≤ hs * 2 ^ 54 + hk * 2 ^ 27 + ls * 2 ^ 27 + mk * 2 ^ 14 + rk + 2 ^ 53 → hs * 2 ^ 54 + hk * 2 ^ 27 + ls * 2 ^ 27 + mk * 2 ^ 14 + rk ≤ q * 2 ^ 52 + 2 ^ 53 → dist (hs * 4) q ≤ 2 ^ 53
+      one-top hs hk ls mk rk q a b c d e = omega arith
+
+      two-top : (hs hk ls mk rk q : ℕ) → ls ≤ (2 ^ 27 - 1) * (2 ^ 26 - 1) → mk * 2 ^ 14 + rk < 2 ^ 54 → q * 2 ^ 52 ≤ hs * 2 ^ 54 + hk * 2 ^ 27 + ls * 2 ^ 27 + mk * 2 ^ 14 + rk + 2 ^ 53 → hs * 2 ^ 54 + hk * 2 ^ 27 + ls * 2 ^ 27 + mk * 2 ^ 14 + rk ≤ q * 2 ^ 52 + 2 ^ 53 → dist (hs * 2 ^ 27 + hk) (q * 2 ^ 25) ≤ 2 ^ 53
+      two-top hs hk ls mk rk q b c d e = omega arith
+
+      three-top : (hs hk ls mk rk q : ℕ) → mk * 2 ^ 14 + rk < 2 ^ 54 → q * 2 ^ 52 ≤ hs * 2 ^ 54 + hk * 2 ^ 27 + ls * 2 ^ 27 + mk * 2 ^ 14 + rk + 2 ^ 53 → hs * 2 ^ 54 + hk * 2 ^ 27 + ls * 2 ^ 27 + mk * 2 ^ 14 + rk ≤ q * 2 ^ 52 + 2 ^ 53 → dist (hs * 2 ^ 27 + hk + ls) (q * 2 ^ 25) ≤ 2 ^ 53
+      three-top hs hk ls mk rk q c d e = omega arith
+
+      four-top : (hs hk ls mk rk q : ℕ) → mk * 2 ^ 14 + rk < 2 ^ 54 → q * 2 ^ 52 ≤ hs * 2 ^ 54 + hk * 2 ^ 27 + ls * 2 ^ 27 + mk * 2 ^ 14 + rk + 2 ^ 53 → hs * 2 ^ 54 + hk * 2 ^ 27 + ls * 2 ^ 27 + mk * 2 ^ 14 + rk ≤ q * 2 ^ 52 + 2 ^ 53 → dist (hs * 2 ^ 40 + hk * 2 ^ 13 + ls * 2 ^ 13 + mk) (q * 2 ^ 38) ≤ 2 ^ 53
+      four-top hs hk ls mk rk q c d e = omega arith
+
+      five : (x r y : ℕ) → y ≤ x + r + 2 ^ 53 → x + r ≤ y + 2 ^ 53 → dist (x + r) y ≤ 2 ^ 53
+      five x r y a b = omega arith
+
+in-bound : (x k g : ℕ) → x ≤ 2 ^ k → k + g ≤ 2080 → x * 2 ^ g ≤ bound
+unfolding bound
+in-bound x k g h l = le-trans (mul-le-mul-right (2 ^ g) h) (le-trans (le-of-eq (sym (pow-add 2 k g))) (pow-mono {i = k + g} {j = 2080} l))
+
+ex-ge : (n j : ℕ) → 2 ^ (53 + j) ≤ n → j < ex n
+ex-ge n j h = lt-of-not-le (λ (l : ex n ≤ j). not-le-of-lt (lt-of-lt-of-le (ex-lt n) (pow-mono {i = 53 + ex n} {j = 53 + j} (omega arith))) h)
+
+-- ---- a rounded product of 105 or 106 digits
+module _ (x g : ℕ) (lo : 2 ^ 104 ≤ x) (hi : x < 2 ^ 106) where
+  rounded : Mult (near (x * 2 ^ g)) (52 + g)
+  rounded = mult-down (near (x * 2 ^ g)) (52 + g) (ex (x * 2 ^ g)) (omega (arith, ex-ge (x * 2 ^ g) (51 + g) (le-trans (le-of-eq (ap (λ (z : ℕ). 2 ^ z) (omega arith) ∙ pow-add 2 104 g)) (mul-le-mul-right (2 ^ g) lo)))) (near-mult (x * 2 ^ g))
+
+  abbrev q : ℕ
+  q = rounded .0
+
+  rounded-is : near (x * 2 ^ g) ≡ q * 2 ^ 52 * 2 ^ g
+  rounded-is = rounded .1 ∙ ap (λ (z : ℕ). q * z) (pow-add 2 52 g) ∙ sym (mul-assoc q (2 ^ 52) (2 ^ g))
+
+  close : dist (q * 2 ^ 52) x ≤ dist (x / 2 ^ 53 * 2 ^ 53) x
+  close =
+      let f = x / 2 ^ 53 * 2 ^ 53 in
+      le-of-mul-le-mul-right {k = 2 ^ g}
+      (le-trans (le-of-eq (dist-mul (q * 2 ^ 52) x (2 ^ g) ∙ ap (λ (z : ℕ). dist z (x * 2 ^ g)) (sym rounded-is)))
+      (le-trans (near-best (x * 2 ^ g) (f * 2 ^ g) (short-unit f (x / 2 ^ 53) 53 g refl (omega arith))) (le-of-eq (sym (dist-mul f x (2 ^ g))))))
+      (pow-pos g)
+
+  near-over : q * 2 ^ 52 ≤ x + 2 ^ 53
+  near-over = go (q * 2 ^ 52) close
+    where
+      go : (y : ℕ) → dist y x ≤ dist (x / 2 ^ 53 * 2 ^ 53) x → y ≤ x + 2 ^ 53
+      go y h = omega arith
+
+  near-under : x ≤ q * 2 ^ 52 + 2 ^ 53
+  near-under = go (q * 2 ^ 52) close
+    where
+      go : (y : ℕ) → dist y x ≤ dist (x / 2 ^ 53 * 2 ^ 53) x → x ≤ y + 2 ^ 53
+      go y h = omega arith
+
+-- ---- the two factors, cut
+pub record Cuts (h l m s k : ℕ) : Type 0 where
+  pub h-low : 2 ^ 25 ≤ h
+  pub h-top : h < 2 ^ 26
+  pub l-top : l < 2 ^ 13
+  pub m-top : m < 2 ^ 14
+  pub s-low : 2 ^ 25 ≤ s
+  pub s-top : s < 2 ^ 26
+  pub k-top : k < 2 ^ 27
+
+expand : (h l s k : ℕ) → (h * 2 ^ 27 + l) * (s * 2 ^ 27 + k) ≡ h * s * 2 ^ 54 + h * k * 2 ^ 27 + l * s * 2 ^ 27 + l * k
+expand h l s k =
+    add-mul (h * 2 ^ 27) l (s * 2 ^ 27 + k)
+    ∙ ap (λ (z : ℕ). z + l * (s * 2 ^ 27 + k)) (mul-add (h * 2 ^ 27) (s * 2 ^ 27) k)
+    ∙ ap (λ (z : ℕ). h * 2 ^ 27 * (s * 2 ^ 27) + h * 2 ^ 27 * k + z) (mul-add l (s * 2 ^ 27) k)
+    ∙ ap (λ (z : ℕ). z + h * 2 ^ 27 * k + (l * (s * 2 ^ 27) + l * k)) (mul-mul-mul-comm h (2 ^ 27) s (2 ^ 27))
+    ∙ ap (λ (z : ℕ). h * s * 2 ^ 54 + z + (l * (s * 2 ^ 27) + l * k)) (mul-right-comm h (2 ^ 27) k)
+    ∙ ap (λ (z : ℕ). h * s * 2 ^ 54 + h * k * 2 ^ 27 + (z + l * k)) (sym (mul-assoc l s (2 ^ 27)))
+    ∙ sym (add-assoc (h * s * 2 ^ 54 + h * k * 2 ^ 27) (l * s * 2 ^ 27) (l * k))
+
+last-part : (l m k : ℕ) → (l * 2 ^ 14 + m) * k ≡ l * k * 2 ^ 14 + m * k
+last-part l m k = add-mul (l * 2 ^ 14) m k ∙ ap (λ (z : ℕ). z + m * k) (mul-right-comm l (2 ^ 14) k)
+
+module _ (h l m s k : ℕ) (C : Cuts h l m s k) where
+  abbrev u : ℕ
+  u = l * 2 ^ 14 + m
+
+  abbrev x : ℕ
+  x = (h * 2 ^ 27 + u) * (s * 2 ^ 27 + k)
+
+  x-low : 2 ^ 104 ≤ x
+  x-low =
+      let v : 2 ^ 52 ≤ h * 2 ^ 27 + u = omega (arith, C .h-low) in
+      let w : 2 ^ 52 ≤ s * 2 ^ 27 + k = omega (arith, C .s-low) in
+      mul-le-mul v w
+
+  x-top : x < 2 ^ 106
+  x-top = mul-lt 53 53 (h * 2 ^ 27 + u) (s * 2 ^ 27 + k) (omega (arith, C .h-top, C .l-top, C .m-top)) (omega (arith, C .s-top, C .k-top))
+
+  u-top : u < 2 ^ 27
+  u-top = omega (arith, C .l-top, C .m-top)
+
+  x-is : x ≡ h * s * 2 ^ 54 + h * k * 2 ^ 27 + u * s * 2 ^ 27 + l * k * 2 ^ 14 + m * k
+  x-is = expand h u s k ∙ ap (λ (z : ℕ). h * s * 2 ^ 54 + h * k * 2 ^ 27 + u * s * 2 ^ 27 + z) (last-part l m k) ∙ sym (add-assoc (h * s * 2 ^ 54 + h * k * 2 ^ 27 + u * s * 2 ^ 27) (l * k * 2 ^ 14) (m * k))
+
+  parts : (g : ℕ) → Parts (h * s) (h * k) (u * s) (l * k) (m * k) (q x g x-low x-top)
+  parts g = record {
+    hk-top = mul-lt 26 27 h k (C .h-top) (C .k-top);
+    ls-top = let v : u ≤ 2 ^ 27 - 1 = omega (arith, u-top) in let w : s ≤ 2 ^ 26 - 1 = omega (arith, C .s-top) in mul-le-mul v w;
+    lk-top = lt-of-le-of-lt (le-of-eq (sym (last-part l m k))) (mul-lt 27 27 u k u-top (C .k-top));
+    over = subst (λ (z : ℕ). q x g x-low x-top * 2 ^ 52 ≤ z + 2 ^ 53) x-is (near-over x g x-low x-top);
+    under = subst (λ (z : ℕ). z ≤ q x g x-low x-top * 2 ^ 52 + 2 ^ 53) x-is (near-under x g x-low x-top);
+  }
+
+  -- ---- the floats
+  module _ (n t : Bool) {a ah am b bh : Float} (i j g : ℕ) (E : i + j ≡ g + 1074) (G : g ≤ 1900)
+      (A : Rel n a ((h * 2 ^ 27 + u) * 2 ^ i) 0 1) (A' : Rel n ah (h * 2 ^ 27 * 2 ^ i) 0 1) (A'' : Rel n am ((h * 2 ^ 27 + l * 2 ^ 14) * 2 ^ i) 0 1)
+      (B : Rel t b ((s * 2 ^ 27 + k) * 2 ^ j) 0 1) (B' : Rel t bh (s * 2 ^ 27 * 2 ^ j) 0 1) where
+    abbrev p : Float
+    p = mul binary64 a b
+
+    abbrev bl : Float
+    bl = sub binary64 b bh
+
+    pub product-rounded : Rel (unlike n t) p (near (x * 2 ^ g)) 0 1
+    product-rounded = product-near n t (h * 2 ^ 27 + u) (s * 2 ^ 27 + k) i j g 1 1 E A B (in-bound x 106 g (le-of-lt x-top) (omega arith))
+
+    up-by : (v c e : ℕ) → v * 2 ^ c * 2 ^ e ≡ v * 2 ^ (c + e)
+    up-by v c e = mul-assoc v (2 ^ c) (2 ^ e) ∙ ap (λ (z : ℕ). v * z) (sym (pow-add 2 c e))
+
+    al-is : Rel n (sub binary64 a ah) (u * 2 ^ i) 0 2
+    al-is = part n (h * 2 ^ 27 + u) (h * 2 ^ 27) u i refl (omega (arith, u-top)) A A'
+
+    a1-is : Rel n (sub binary64 am ah) (l * 2 ^ (14 + i)) 0 2
+    a1-is = rel-eq (up-by l 14 i) (part n (h * 2 ^ 27 + l * 2 ^ 14) (h * 2 ^ 27) (l * 2 ^ 14) i refl (omega (arith, C .l-top)) A'' A')
+
+    a2-is : Rel n (sub binary64 a am) (m * 2 ^ i) 0 2
+    a2-is = part n (h * 2 ^ 27 + u) (h * 2 ^ 27 + l * 2 ^ 14) m i (omega arith) (omega (arith, C .m-top)) A A''
+
+    bl-is : Rel t bl (k * 2 ^ j) 0 2
+    bl-is = part t (s * 2 ^ 27 + k) (s * 2 ^ 27) k j refl (omega (arith, C .k-top)) B B'
+
+    ah-is : Rel n ah (h * 2 ^ (27 + i)) 0 1
+    ah-is = rel-eq (up-by h 27 i) A'
+
+    bh-is : Rel t bh (s * 2 ^ (27 + j)) 0 1
+    bh-is = rel-eq (up-by s 27 j) B'
+
+    down-by : (v c : ℕ) → v * 2 ^ (c + g) ≡ v * 2 ^ c * 2 ^ g
+    down-by v c = sym (up-by v c g)
+
+    fits-in : (v c : ℕ) → v ≤ 2 ^ 53 → c ≤ 54 → v * 2 ^ (c + g) ≤ bound
+    fits-in v c H K = in-bound v 53 (c + g) H (omega arith)
+
+    hs-le : h * s ≤ 2 ^ 53
+    hs-le = le-of-lt (lt-of-lt-of-le (mul-lt 26 26 h s (C .h-top) (C .s-top)) (pow-mono {i = 52} {j = 53} (omega arith)))
+
+    hk-le : h * k ≤ 2 ^ 53
+    hk-le = le-of-lt (mul-lt 26 27 h k (C .h-top) (C .k-top))
+
+    us-le : u * s ≤ 2 ^ 53
+    us-le = le-of-lt (mul-lt 27 26 u s u-top (C .s-top))
+
+    lk-le : l * k ≤ 2 ^ 53
+    lk-le = le-of-lt (lt-of-lt-of-le (mul-lt 13 27 l k (C .l-top) (C .k-top)) (pow-mono {i = 40} {j = 53} (omega arith)))
+
+    mk-le : m * k ≤ 2 ^ 53
+    mk-le = le-of-lt (lt-of-lt-of-le (mul-lt 14 27 m k (C .m-top) (C .k-top)) (pow-mono {i = 41} {j = 53} (omega arith)))
+
+    abbrev error : Float
+    error = add binary64 (add binary64 (add binary64 (add binary64 (sub binary64 (mul binary64 ah bh) p) (mul binary64 ah bl)) (mul binary64 (sub binary64 a ah) bh)) (mul binary64 (sub binary64 am ah) bl)) (mul binary64 (sub binary64 a am) bl)
+
+    pub error-is : Rel (unlike n t) error (x * 2 ^ g) (near (x * 2 ^ g)) 6
+    error-is =
+        let r = q x g x-low x-top in
+        let e = rounded-is x g x-low x-top in
+        subst (λ (z : ℕ). Rel (unlike n t) error (x * 2 ^ g) z 6) (sym e)
+        (subst (λ (z : ℕ). Rel (unlike n t) error (z * 2 ^ g) (r * 2 ^ 52 * 2 ^ g) 6) (sym x-is)
+        (error-of-parts (unlike n t) g (h * s) (h * k) (u * s) (l * k) (m * k) r (parts g)
+        (rel-eq (down-by (h * s) 54) (product-exact n t h s (27 + i) (27 + j) (54 + g) 1 1 (omega arith) ah-is bh-is hs-le (fits-in (h * s) 54 hs-le (omega arith))))
+        (rel-eq (down-by (h * k) 27) (product-exact n t h k (27 + i) j (27 + g) 1 2 (omega arith) ah-is bl-is hk-le (fits-in (h * k) 27 hk-le (omega arith))))
+        (rel-eq (down-by (u * s) 27) (product-exact n t u s i (27 + j) (27 + g) 2 1 (omega arith) al-is bh-is us-le (fits-in (u * s) 27 us-le (omega arith))))
+        (rel-eq (down-by (l * k) 14) (product-exact n t l k (14 + i) j (14 + g) 2 2 (omega arith) a1-is bl-is lk-le (fits-in (l * k) 14 lk-le (omega arith))))
+        (product-exact n t m k i j g 2 2 E a2-is bl-is mk-le (in-bound (m * k) 53 g mk-le (omega arith)))
+        (rel-eq e product-rounded)))

@@ -1,0 +1,36 @@
+-- `mul_add::split` meets its contract: all but the last sum is exact (Whole). Assumes nothing.
+use mathlib.Core.Path.{sym, subst}
+use lib.Dec.{T}
+use borrow.Author.Needs.{needs}
+use Rattle.elementary.proofs.mul_add.Whole.{high-number, split-is}
+use Rattle.elementary.proofs.mul_add.split.Statement.{statement}
+use Rattle.elementary.proofs.mul_add.split.Tie as tie
+
+float-to-bits-b : tie.Need-float-to-bits-b
+float-to-bits-b c = c .pre .number
+
+sub-high : tie.Need-sub-high
+sub-high c = search needs
+
+float-from-bits-high : tie.Need-float-from-bits-high
+float-from-bits-high c = high-number (c .args .a) (subst T (sym (c .good .0 .1)) tt) (c .args .p) (c .args .q) (c .pre)
+
+int-to-float-f : tie.Need-int-to-float-f
+int-to-float-f c = search needs
+
+int-to-float-result : tie.Need-int-to-float-result
+int-to-float-result c = search needs
+
+returns : tie.Need-returns
+returns c = let s = c .before .before in split-is (s .args .a) (subst T (sym (s .good .0 .1)) tt) (s .args .p) (s .args .q) (s .pre)
+
+pub split-spec : {M : Type 1} → statement M
+split-spec =
+    tie.close
+    (tie.spec
+    float-to-bits-b
+    sub-high
+    float-from-bits-high
+    int-to-float-f
+    int-to-float-result
+    returns)
