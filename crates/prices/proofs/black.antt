@@ -1,2 +1,3 @@
 -- Laws that the proofs of black use.
 mod Depth
+mod Reading

@@ -43,27 +43,33 @@ mulAdd a b c = fma binary64 a b c
 abbrev pub bell : Float → Float → Float
 bell h t = expOf (neg half ⊗ (h ⊗ h ⊕ t ⊗ t))
 
-abbrev pub firstErfc : Rules → Float → Float → Float
-firstErfc rules x q1 = expOf (half ⊗ x) ⊗ erfcOf rules q1
+-- (0.5 × x).exp() and (−0.5 × x).exp()
+abbrev pub upOf : Float → Float
+upOf x = expOf (half ⊗ x)
 
-abbrev pub secondErfc : Rules → Float → Float → Float
-secondErfc rules x q2 = expOf (neg half ⊗ x) ⊗ erfcOf rules q2
+abbrev pub downOf : Float → Float
+downOf x = expOf (neg half ⊗ x)
+
+-- What ends in With is a formula over given exponentials: up stands for (0.5 × x).exp(), down for (−0.5 × x).exp(), exp-term for the bell of h and t.
 
 -- twice the price, with erfcx in place of erfc from Cody's threshold on
-unfoldable pub twoB : Rules → Float → Float → Float → Float → Float → Float
-twoB rules x h t q1 q2 =
-    let both-erfc = firstErfc rules x q1 ⊖ secondErfc rules x q2 in
-    let second-erfcx = firstErfc rules x q1 ⊖ bell h t ⊗ erfcxOf q2 in
-    let first-erfcx = bell h t ⊗ erfcxOf q1 ⊖ secondErfc rules x q2 in
-    let both-erfcx = bell h t ⊗ (erfcxOf q1 ⊖ erfcxOf q2) in
+unfoldable pub twoBWith : Rules → Float → Float → Float → Float → Float → Float
+twoBWith rules up down exp-term q1 q2 =
+    let both-erfc = up ⊗ erfcOf rules q1 ⊖ down ⊗ erfcOf rules q2 in
+    let second-erfcx = up ⊗ erfcOf rules q1 ⊖ exp-term ⊗ erfcxOf q2 in
+    let first-erfcx = exp-term ⊗ erfcxOf q1 ⊖ down ⊗ erfcOf rules q2 in
+    let both-erfcx = exp-term ⊗ (erfcxOf q1 ⊖ erfcxOf q2) in
     cond (lt q1 CODYS-THRESHOLD) (cond (lt q2 CODYS-THRESHOLD) both-erfc second-erfcx) (cond (lt q2 CODYS-THRESHOLD) first-erfcx both-erfcx)
 
 -- optimal use of Cody's functions
-unfoldable pub codysOf : Rules → Float → Float → Float
-codysOf rules x s =
+unfoldable pub codysWith : Rules → Float → Float → Float → Float → Float
+codysWith rules up down x s =
     let h = x ⊘ s in
     let t = half ⊗ s in
-    maxOf (half ⊗ twoB rules x h t (MINUS-FRAC ⊗ (h ⊕ t)) (MINUS-FRAC ⊗ (h ⊖ t))) +0
+    maxOf (half ⊗ twoBWith rules up down (bell h t) (MINUS-FRAC ⊗ (h ⊕ t)) (MINUS-FRAC ⊗ (h ⊖ t))) +0
+
+unfoldable pub codysOf : Rules → Float → Float → Float
+codysOf rules x s = codysWith rules (upOf x) (downOf x) x s
 
 -- The terms of the Taylor sum. Each is a Horner sum in h² whose coefficients are themselves a × p + q, all fused.
 abbrev pub firstBy : Float → Float → Float → Float
@@ -146,10 +152,12 @@ asymptoticInner h t =
     let exp-term = expOf (mulAdd (neg half) (h ⊗ h) (neg half ⊗ t ⊗ t)) in
     absOf (exp-term ⊗ (seriesOf (h ⊕ t) ⊖ seriesOf (h ⊖ t)) ⊘ SQRT-2PI)
 
+-- outside of the expansion's region
+abbrev pub isOutside : Float → Float → Bool
+isOutside h t = lt H-LARGE h || le (absOf h ⊖ absOf H-LARGE ⊕ SMALL-T) t
+
 unfoldable pub asymptoticOf : Float → Float → Answer
-asymptoticOf h t =
-    let inner = asymptoticInner h t in
-    cond (lt H-LARGE h || le (absOf h ⊖ absOf H-LARGE ⊕ SMALL-T) t) (Refused 7) (Value inner)
+asymptoticOf h t = let inner = asymptoticInner h t in cond (isOutside h t) (Refused 7) (Value inner)
 
 unfoldable pub usingErfcxOf : Float → Float → Float
 usingErfcxOf h t = maxOf (half ⊗ bell h t ⊗ (erfcxOf (MINUS-FRAC ⊗ (h ⊕ t)) ⊖ erfcxOf (MINUS-FRAC ⊗ (h ⊖ t)))) +0
@@ -161,19 +169,22 @@ abbrev pub isAsymptotic : Float → Float → Bool
 isAsymptotic x s = lt x (s ⊗ H-LARGE) && lt (half ⊗ s ⊗ s ⊕ x) (s ⊗ (SMALL-T ⊕ H-LARGE))
 
 -- the region of x and s
-unfoldable pub regionOf : Rules → Float → Float → Answer
-regionOf rules x s =
+unfoldable pub regionWith : Rules → Float → Float → Float → Float → Answer
+regionWith rules up down x s =
     let asymptotic = asymptoticOf (x ⊘ s) (half ⊗ s) in
     let small-t = smallTOf (x ⊘ s) (half ⊗ s) in
-    let codys = Value (codysOf rules x s) in
+    let codys = Value (codysWith rules up down x s) in
     cond (isAsymptotic x s) asymptotic (cond (lt (half ⊗ s) SMALL-T) small-t codys)
 
 -- out of the money. DENORMALISATION_CUTOFF is 0, and stands where the Rust has it
-unfoldable pub outOfTheMoney : Rules → Float → Float → Answer
-outOfTheMoney rules x s =
-    let region = regionOf rules x s in
+unfoldable pub outOfTheMoneyWith : Rules → Float → Float → Float → Float → Answer
+outOfTheMoneyWith rules up down x s =
+    let region = regionWith rules up down x s in
     let intrinsic = Value (intrinsicOf x Call) in
     cond (le s (absOf x ⊗ +0)) intrinsic region
+
+unfoldable pub outOfTheMoney : Rules → Float → Float → Answer
+outOfTheMoney rules x s = outOfTheMoneyWith rules (upOf x) (downOf x) x s
 
 -- a value with an amount added; a refusal passes up
 abbrev pub added : Float → Answer → Answer
@@ -190,6 +201,13 @@ callAt (suc depth) rules x s =
 
 abbrev pub callOf : Rules → Float → Float → Answer
 callOf = callAt 1
+
+-- the same where the exponentials of x are given; in the money they are not asked for
+abbrev pub callWith : Rules → Float → Float → Float → Float → Answer
+callWith rules up down x s =
+    let mapped = callOf rules x s in
+    let direct = outOfTheMoneyWith rules up down x s in
+    cond (lt +0 x) mapped direct
 
 unfoldable pub normalisedBlackOf : Rules → Float → Float → OptionType → Answer
 normalisedBlackOf rules x s kind = callOf rules (times kind x) s

@@ -4,6 +4,8 @@ pub mod Answers
 pub mod Intrinsic
 pub mod Vega
 pub mod Black
+pub mod Point
 pub mod RationalCubic
 -- Theorems about the definitions.
 pub mod Refusals
+pub mod Exponentials

@@ -1,11 +1,11 @@
 -- Which numbers come out of the Black price: of `normalised_black_call` none but 7, of `black` 2, 3, 4, 5 and 7. So small t's 8 never passes up: where the
 -- price asks for that expansion, the test before it is the one that the expansion makes. Assumes nothing.
 use mathlib.Core.Path.{_≡_, refl}
-use mathlib.Core.Bool.{Bool, true, false, cond, _||_}
+use mathlib.Core.Bool.{Bool, true, false, cond}
 use Prim.Native.Nat.{ℕ, zero, suc}
 use native.Mathlib.Omega.{arith}
 use lib.Ieee.{Float, neg, lt, le}
-use Rattle.elementary.specs.Ops.{_⊖_, _⊗_, _⊕_, _⊘_, +0, half}
+use Rattle.elementary.specs.Ops.{_⊖_, _⊗_, _⊘_, +0, half}
 use Rattle.elementary.specs.Rules.{Rules}
 use Rattle.elementary.specs.Methods.{absOf}
 use Rattle.elementary.specs.Compare.{not-le-of-lt}
@@ -16,7 +16,7 @@ use Rattle.prices.specs.declared.answer.Answer.the-variants.{Value, Refu
 use Rattle.prices.specs.Inputs.{negated, times}
 use Rattle.prices.specs.Answers.{numberOf}
 use Rattle.prices.specs.Intrinsic.{intrinsicOf}
-use Rattle.prices.specs.Black.{SMALL-T, smallTOf, asymptoticOf, codysOf, H-LARGE, isAsymptotic, regionOf, outOfTheMoney, added, callAt, callOf, normalisedBlackOf, isPositiveNormal, isFinite, scaledUp, priceOf, blackAt, blackOf}
+use Rattle.prices.specs.Black.{SMALL-T, smallTOf, asymptoticOf, codysWith, isOutside, isAsymptotic, regionWith, outOfTheMoneyWith, outOfTheMoney, added, callAt, callOf, normalisedBlackOf, isPositiveNormal, isFinite, scaledUp, priceOf, blackAt, blackOf}
 
 -- the answers of normalised_black_call
 pub data CallAnswer : Answer → Type 0 where
@@ -31,38 +31,38 @@ pub data BlackAnswer : Answer → Type 0 where
   sigma : BlackAnswer (Refused 5)
   called : {a : Answer} → CallAnswer a → BlackAnswer a
 
-either : (b : Bool) {x y : Answer} → CallAnswer x → CallAnswer y → CallAnswer (cond b x y)
+pub either : (b : Bool) {x y : Answer} → CallAnswer x → CallAnswer y → CallAnswer (cond b x y)
 either true h k = h
 either false h k = k
 
 asymptotic-answer : (h t : Float) → CallAnswer (asymptoticOf h t)
 unfolding asymptoticOf
-asymptotic-answer h t = either (lt H-LARGE h || le (absOf h ⊖ absOf H-LARGE ⊕ SMALL-T) t) outside-the-region price
+asymptotic-answer h t = either (isOutside h t) outside-the-region price
 
 small-t-answer : (h t : Float) → lt t SMALL-T ≡ true → CallAnswer (smallTOf h t)
 unfolding smallTOf
 small-t-answer h t l = rw (not-le-of-lt t SMALL-T l) price
 
-region-answer : (rules : Rules) (x s : Float) → CallAnswer (regionOf rules x s)
-unfolding regionOf
-region-answer rules x s = either (isAsymptotic x s) (asymptotic-answer (x ⊘ s) (half ⊗ s)) (go (lt (half ⊗ s) SMALL-T) refl)
+region-answer : (rules : Rules) (up down x s : Float) → CallAnswer (regionWith rules up down x s)
+unfolding regionWith
+region-answer rules up down x s = either (isAsymptotic x s) (asymptotic-answer (x ⊘ s) (half ⊗ s)) (go (lt (half ⊗ s) SMALL-T) refl)
   where
-    go : (b : Bool) → lt (half ⊗ s) SMALL-T ≡ b → CallAnswer (cond b (smallTOf (x ⊘ s) (half ⊗ s)) (Value (codysOf rules x s)))
+    go : (b : Bool) → lt (half ⊗ s) SMALL-T ≡ b → CallAnswer (cond b (smallTOf (x ⊘ s) (half ⊗ s)) (Value (codysWith rules up down x s)))
     go true l = small-t-answer (x ⊘ s) (half ⊗ s) l
     go false l = price
 
-out-answer : (rules : Rules) (x s : Float) → CallAnswer (outOfTheMoney rules x s)
-unfolding outOfTheMoney
-out-answer rules x s = either (le s (absOf x ⊗ +0)) price (region-answer rules x s)
+pub out-answer : (rules : Rules) (up down x s : Float) → CallAnswer (outOfTheMoneyWith rules up down x s)
+unfolding outOfTheMoneyWith
+out-answer rules up down x s = either (le s (absOf x ⊗ +0)) price (region-answer rules up down x s)
 
 added-answer : (v : Float) (a : Answer) → CallAnswer a → CallAnswer (added v a)
 added-answer v (Value b) h = price
 added-answer v (Refused n) h = h
 
 pub call-answer : (depth : ℕ) (rules : Rules) (x s : Float) → CallAnswer (callAt depth rules x s)
-unfolding callAt
-call-answer zero rules x s = out-answer rules x s
-call-answer (suc d) rules x s = either (lt +0 x) (added-answer (intrinsicOf x Call) (callAt d rules (neg x) s) (call-answer d rules (neg x) s)) (out-answer rules x s)
+unfolding callAt outOfTheMoney
+call-answer zero rules x s = out-answer rules _ _ x s
+call-answer (suc d) rules x s = either (lt +0 x) (added-answer (intrinsicOf x Call) (callAt d rules (neg x) s) (call-answer d rules (neg x) s)) (out-answer rules _ _ x s)
 
 scaled-answer : (v f : Float) (a : Answer) → CallAnswer a → CallAnswer (scaledUp v f a)
 scaled-answer v f (Value b) h = price

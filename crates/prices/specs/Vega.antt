@@ -1,5 +1,5 @@
 -- `normalised_vega` of so_rational.rs, operation by operation. Definitions only.
-use mathlib.Core.Bool.{cond, _||_}
+use mathlib.Core.Bool.{Bool, cond, _||_}
 use lib.Ieee.{Float, neg, le}
 use Rattle.elementary.specs.Ops.{_⊕_, _⊗_, _⊘_, bits, +0, half}
 use Rattle.elementary.specs.Methods.{absOf, squareOf}
@@ -20,9 +20,16 @@ SQRT-DBL-MIN = bits 0x2000_0000_0000_0000
 abbrev pub eighth : Float
 eighth = bits 0x3fc0_0000_0000_0000
 
+abbrev pub atTheMoney : Float → Float
+atTheMoney s = ONE-OVER-SQRT-TWO-PI ⊗ expOf (neg eighth ⊗ s ⊗ s)
+
+-- s is 0 or below, or too small beside |x|: vega is 0
+abbrev pub vegaVanishes : Float → Float → Bool
+vegaVanishes ax s = le s +0 || le s (ax ⊗ SQRT-DBL-MIN)
+
 unfoldable pub vegaOf : Float → Float → Float
 vegaOf x s =
     let ax = absOf x in
-    let at-the-money = ONE-OVER-SQRT-TWO-PI ⊗ expOf (neg eighth ⊗ s ⊗ s) in
+    let at-the-money = atTheMoney s in
     let elsewhere = ONE-OVER-SQRT-TWO-PI ⊗ expOf (neg half ⊗ (squareOf (x ⊘ s) ⊕ squareOf (half ⊗ s))) in
-    cond (le ax +0) at-the-money (cond (le s +0 || le s (ax ⊗ SQRT-DBL-MIN)) +0 elsewhere)
+    cond (le ax +0) at-the-money (cond (vegaVanishes ax s) +0 elsewhere)

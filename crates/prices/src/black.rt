@@ -9,29 +9,33 @@ use elementary::ln::ln;
 use elementary::methods::abs;
 use elementary::methods::max;
 use elementary::mul_add::mul_add;
+use elementary::mul_add::mul_add_whole;
 use elementary::sqrt::sqrt;
 ghost use mathlib.Core.Path.{_≡_};
+ghost use mathlib.Core.Bool.{not, cond, _&&_};
 ghost use Prim.Native.Nat.{ℕ, _≤_};
 ghost use lib.Ieee.{neg};
 ghost use Rattle.elementary.specs.Rules.{rules-0};
-ghost use Rattle.elementary.specs.Ops.{one};
-ghost use Rattle.prices.specs.Black.{bell as bellOf, turnBy, firstBy, term1 as term1Of, term2 as term2Of, term3 as term3Of, term4 as term4Of, term5 as term5Of, term6 as term6Of, taylorOf, smallTInner, smallTOf, seriesTurns, seriesOf, asymptoticInner, asymptoticOf, usingErfcxOf, firstErfc, secondErfc, twoB, codysOf, isAsymptotic, regionOf, outOfTheMoney, added, callAt, callOf, normalisedBlackOf, isPositiveNormal, isFinite, scaledUp, priceOf, blackAt, blackOf};
+ghost use Rattle.elementary.specs.Ops.{_⊗_, +0, half, one};
+ghost use Rattle.elementary.specs.Methods.{maxOf};
+ghost use Rattle.elementary.specs.Exp.{expOf};
+ghost use Rattle.prices.specs.Black.{bell as bellOf, turn as turnOf, firstBy, term1 as term1Of, term2 as term2Of, term3 as term3Of, term4 as term4Of, term5 as term5Of, term6 as term6Of, taylorOf, smallTInner, smallTOf, seriesTurns, seriesOf, asymptoticInner, asymptoticOf, usingErfcxOf, upOf, downOf, twoBWith, codysOf, isOutside, isAsymptotic, regionWith, outOfTheMoney, added, callAt, callOf, normalisedBlackOf, isPositiveNormal, isFinite, scaledUp, priceOf, blackAt, blackOf};
 
 // The threshold of the asymptotic expansion, and H_LARGE.
 const H_LARGE: f64 = -10.0;
 
 const CODYS_THRESHOLD: f64 = 0.46875;
 // Twice the sixteenth root of f64::EPSILON.
-const SMALL_T: f64 = 0.21132486540518713;
+pub(crate) const SMALL_T: f64 = 0.21132486540518713;
 
-const MINUS_FRAC_1_SQRT_2: f64 = -0.7071067811865476;
+pub(crate) const MINUS_FRAC_1_SQRT_2: f64 = -0.7071067811865476;
 
 const SQRT_2PI: f64 = 2.5066282746310002;
 
 const ONE_OVER_SQRT_TWO_PI: f64 = 0.3989422804014327;
 
 // exp(−(h² + t²) / 2).
-fn bell(h: f64, t: f64) -> f64
+pub(crate) fn bell(h: f64, t: f64) -> f64
     ensures { λ r. ⌜ r ≡ bellOf h t ⌝ }
 {
     exp(-0.5 * (h * h + t * t))
@@ -39,33 +43,44 @@ fn bell(h: f64, t: f64) -> f64
 
 // ---- optimal use of Cody's functions
 
-fn first_erfc(x: f64, q1: f64) -> f64
-    ensures { λ r. ⌜ r ≡ firstErfc rules-0 x q1 ⌝ }
-{
-    exp(0.5 * x) * erfc(q1)
-}
-
-fn second_erfc(x: f64, q2: f64) -> f64
-    ensures { λ r. ⌜ r ≡ secondErfc rules-0 x q2 ⌝ }
-{
-    exp(-0.5 * x) * erfc(q2)
-}
-
-fn two_b(x: f64, h: f64, t: f64, q1: f64, q2: f64) -> f64
-    ensures { λ r. ⌜ r ≡ twoB rules-0 x h t q1 q2 ⌝ }
+// Twice the price, from the exponentials of x / 2, −x / 2 and −(h² + t²) / 2.
+fn two_b(up: f64, down: f64, exp_term: f64, q1: f64, q2: f64) -> f64
+    ensures { λ r. ⌜ r ≡ twoBWith rules-0 up down «exp_term» q1 q2 ⌝ }
 {
     if q1 < CODYS_THRESHOLD {
         if q2 < CODYS_THRESHOLD {
-            return first_erfc(x, q1) - second_erfc(x, q2);
+            return up * erfc(q1) - down * erfc(q2);
         }
-        return first_erfc(x, q1) - bell(h, t) * erfcx(q2);
+        return up * erfc(q1) - exp_term * erfcx(q2);
     }
     if q2 < CODYS_THRESHOLD {
-        return bell(h, t) * erfcx(q1) - second_erfc(x, q2);
+        return exp_term * erfcx(q1) - down * erfc(q2);
     }
-    bell(h, t) * (erfcx(q1) - erfcx(q2))
+    exp_term * (erfcx(q1) - erfcx(q2))
 }
 
+// Cody's price, from the same exponentials.
+pub(crate) fn codys(up: f64, down: f64, exp_term: f64, q1: f64, q2: f64) -> f64
+    ensures { λ r. ⌜ r ≡ maxOf (half ⊗ twoBWith rules-0 up down «exp_term» q1 q2) +0 ⌝ }
+{
+    max(0.5 * two_b(up, down, exp_term, q1, q2), 0.0)
+}
+
+// exp(y) where it is asked for.
+fn exp_where(asked: bool, y: f64) -> f64
+    ensures { λ r. ⌜ r ≡ cond asked (expOf y) +0 ⌝ }
+{
+    if asked { exp(y) } else { 0.0 }
+}
+
+// exp(−(h² + t²) / 2) is read where not both terms have erfc.
+fn not_both(a: bool, b: bool) -> bool
+    ensures { λ r. ⌜ r ≡ not (a && b) ⌝ }
+{
+    if a { !b } else { true }
+}
+
+// Each exponential is computed only where it is read.
 pub fn normalised_black_call_with_optimal_use_of_codys_functions(x: f64, s: f64) -> f64
     ensures { λ r. ⌜ r ≡ codysOf rules-0 x s ⌝ }
 {
@@ -73,7 +88,12 @@ pub fn normalised_black_call_with_optimal_use_of_codys_functions(x: f64, s: f64)
     let t = 0.5 * s;
     let q1 = MINUS_FRAC_1_SQRT_2 * (h + t);
     let q2 = MINUS_FRAC_1_SQRT_2 * (h - t);
-    max(0.5 * two_b(x, h, t, q1, q2), 0.0)
+    let first_erfc = q1 < CODYS_THRESHOLD;
+    let second_erfc = q2 < CODYS_THRESHOLD;
+    let up = exp_where(first_erfc, 0.5 * x);
+    let down = exp_where(second_erfc, -0.5 * x);
+    let exp_term = exp_where(not_both(first_erfc, second_erfc), -0.5 * (h * h + t * t));
+    codys(up, down, exp_term, q1, q2)
 }
 
 // ---- the Taylor sum for a small t
@@ -84,10 +104,10 @@ fn first(a: f64, h2: f64, c: f64) -> f64
     mul_add(a, h2 + c, -1.0)
 }
 
-fn turn(a: f64, h2: f64, sum: f64, p: f64, q: f64) -> f64
-    ensures { λ r. ⌜ r ≡ turnBy a h2 sum p q ⌝ }
+fn turn(a: f64, h2: f64, sum: f64, p: u32, q: u32) -> f64
+    ensures { λ r. ⌜ r ≡ turnOf a h2 sum p q ⌝ }
 {
-    mul_add(h2, sum, mul_add(a, p, q))
+    mul_add(h2, sum, mul_add_whole(a, p, q))
 }
 
 fn term1(a: f64, h2: f64) -> f64
@@ -99,41 +119,41 @@ fn term1(a: f64, h2: f64) -> f64
 fn term2(a: f64, h2: f64) -> f64
     ensures { λ r. ⌜ r ≡ term2Of a h2 ⌝ }
 {
-    turn(a, h2, first(a, h2, 10.0), 15.0, -7.0) / 120.0
+    turn(a, h2, first(a, h2, 10.0), 15, 7) / 120.0
 }
 
 fn term3(a: f64, h2: f64) -> f64
     ensures { λ r. ⌜ r ≡ term3Of a h2 ⌝ }
 {
-    let sum = turn(a, h2, first(a, h2, 21.0), 105.0, -18.0);
-    turn(a, h2, sum, 105.0, -57.0) / 5040.0
+    let sum = turn(a, h2, first(a, h2, 21.0), 105, 18);
+    turn(a, h2, sum, 105, 57) / 5040.0
 }
 
 fn term4(a: f64, h2: f64) -> f64
     ensures { λ r. ⌜ r ≡ term4Of a h2 ⌝ }
 {
-    let sum = turn(a, h2, first(a, h2, 36.0), 378.0, -33.0);
-    let sum = turn(a, h2, sum, 1260.0, -285.0);
-    turn(a, h2, sum, 945.0, -561.0) / 362880.0
+    let sum = turn(a, h2, first(a, h2, 36.0), 378, 33);
+    let sum = turn(a, h2, sum, 1260, 285);
+    turn(a, h2, sum, 945, 561) / 362880.0
 }
 
 fn term5(a: f64, h2: f64) -> f64
     ensures { λ r. ⌜ r ≡ term5Of a h2 ⌝ }
 {
-    let sum = turn(a, h2, first(a, h2, 55.0), 990.0, -52.0);
-    let sum = turn(a, h2, sum, 6930.0, -840.0);
-    let sum = turn(a, h2, sum, 17325.0, -4680.0);
-    turn(a, h2, sum, 10395.0, -6555.0) / 39916800.0
+    let sum = turn(a, h2, first(a, h2, 55.0), 990, 52);
+    let sum = turn(a, h2, sum, 6930, 840);
+    let sum = turn(a, h2, sum, 17325, 4680);
+    turn(a, h2, sum, 10395, 6555) / 39916800.0
 }
 
 fn term6(a: f64, h2: f64) -> f64
     ensures { λ r. ⌜ r ≡ term6Of a h2 ⌝ }
 {
-    let sum = turn(a, h2, first(a, h2, 78.0), 2145.0, -75.0);
-    let sum = turn(a, h2, sum, 25740.0, -1926.0);
-    let sum = turn(a, h2, sum, 135135.0, -20370.0);
-    let sum = turn(a, h2, sum, 270270.0, -82845.0);
-    turn(a, h2, sum, 135135.0, -89055.0) / 6227020800.0
+    let sum = turn(a, h2, first(a, h2, 78.0), 2145, 75);
+    let sum = turn(a, h2, sum, 25740, 1926);
+    let sum = turn(a, h2, sum, 135135, 20370);
+    let sum = turn(a, h2, sum, 270270, 82845);
+    turn(a, h2, sum, 135135, 89055) / 6227020800.0
 }
 
 // The terms by the powers of t², from the smallest.
@@ -150,17 +170,18 @@ fn taylor(a: f64, h2: f64, t2: f64) -> f64
     let sum = mul_add(term3(a, h2), t6, sum);
     let sum = mul_add(term2(a, h2), t4, sum);
     let sum = mul_add(term1(a, h2), t2, sum);
-    mul_add(a, 1.0, sum)
+    // a.mul_add(1.0, sum) of the Rust is the plain sum.
+    a + sum
 }
 
-fn small_t(h: f64, t: f64) -> f64
+pub(crate) fn small_t(h: f64, t: f64, exp_term: f64) -> f64
+    requires { ⌜ «exp_term» ≡ bellOf h t ⌝ }
     ensures { λ r. ⌜ r ≡ smallTInner h t ⌝ }
 {
     let t2 = t * t;
     let h2 = h * h;
     let a = 1.0 + h * (0.5 * SQRT_2PI) * erfcx(MINUS_FRAC_1_SQRT_2 * h);
     let y_diff = 2.0 * t * taylor(a, h2, t2);
-    let exp_term = exp(-0.5 * (h2 + t2));
     max(ONE_OVER_SQRT_TWO_PI * exp_term * y_diff, 0.0)
 }
 
@@ -170,7 +191,7 @@ pub fn small_t_expansion_of_normalised_black_call(h: f64, t: f64) -> Answer
     if t >= SMALL_T {
         return Answer::Refused(8);
     }
-    Answer::Value(small_t(h, t))
+    Answer::Value(small_t(h, t, bell(h, t)))
 }
 
 // ---- the asymptotic sum
@@ -202,7 +223,7 @@ fn series(z: f64) -> f64
     series_turns(z2, y, 1.0 / (15.0 * z2 * z2 * z))
 }
 
-fn asymptotic(h: f64, t: f64) -> f64
+pub(crate) fn asymptotic(h: f64, t: f64) -> f64
     ensures { λ r. ⌜ r ≡ asymptoticInner h t ⌝ }
 {
     let diff_y = series(h + t) - series(h - t);
@@ -210,13 +231,21 @@ fn asymptotic(h: f64, t: f64) -> f64
     abs(exp_term * diff_y / SQRT_2PI)
 }
 
+// Whether document 01's 7 is met.
+pub(crate) fn is_outside(h: f64, t: f64) -> bool
+    ensures { λ r. ⌜ r ≡ isOutside h t ⌝ }
+{
+    if h > H_LARGE {
+        true
+    } else {
+        t >= abs(h) - abs(H_LARGE) + SMALL_T
+    }
+}
+
 pub fn asymptotic_expansion_of_normalised_black_call(h: f64, t: f64) -> Answer
     ensures { λ r. ⌜ r ≡ asymptoticOf h t ⌝ }
 {
-    if h > H_LARGE {
-        return Answer::Refused(7);
-    }
-    if t >= abs(h) - abs(H_LARGE) + SMALL_T {
+    if is_outside(h, t) {
         return Answer::Refused(7);
     }
     Answer::Value(asymptotic(h, t))
@@ -232,7 +261,7 @@ pub fn normalised_black_call_using_erfcx(h: f64, t: f64) -> f64
 // ---- the price
 
 // Whether the asymptotic expansion serves: h below −10 and t small, told without a division by s.
-fn is_asymptotic(x: f64, s: f64) -> bool
+pub(crate) fn is_asymptotic(x: f64, s: f64) -> bool
     ensures { λ r. ⌜ r ≡ isAsymptotic x s ⌝ }
 {
     if x < s * H_LARGE {
@@ -243,7 +272,7 @@ fn is_asymptotic(x: f64, s: f64) -> bool
 }
 
 fn region(x: f64, s: f64) -> Answer
-    ensures { λ r. ⌜ r ≡ regionOf rules-0 x s ⌝ }
+    ensures { λ r. ⌜ r ≡ regionWith rules-0 (upOf x) (downOf x) x s ⌝ }
 {
     if is_asymptotic(x, s) {
         return asymptotic_expansion_of_normalised_black_call(x / s, 0.5 * s);

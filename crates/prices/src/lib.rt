@@ -5,4 +5,5 @@ pub mod answer; // what may be refused
 pub mod intrinsic; // intrinsic.rs
 pub mod vega; // `normalised_vega` of so_rational.rs
 pub mod black; // black.rs, and `black` of mod.rs
+pub mod point; // price and vega of one s
 pub mod rational_cubic; // rational_cubic.rs

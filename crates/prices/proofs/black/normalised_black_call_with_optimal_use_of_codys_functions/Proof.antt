@@ -1,22 +1,45 @@
--- `black::normalised_black_call_with_optimal_use_of_codys_functions` meets its contract. Assumes nothing.
+-- `black::normalised_black_call_with_optimal_use_of_codys_functions` meets its contract: what is not computed is not read. Assumes nothing.
 use mathlib.Core.Path.{_∙_}
-use Rattle.prices.specs.Black.{codysOf}
+use Rattle.prices.specs.Black.{codysWith, codysOf}
+use Rattle.prices.proofs.black.Reading.{as-read}
 use borrow.Author.Needs.{needs}
 use Rattle.prices.proofs.black.normalised_black_call_with_optimal_use_of_codys_functions.Statement.{
   statement,
 }
 use Rattle.prices.proofs.black.normalised_black_call_with_optimal_use_of_codys_functions.Tie as tie
 
-two-b-requires : tie.Need-two-b-requires
-two-b-requires c κs = search needs
+exp-where-requires : tie.Need-exp-where-requires
+exp-where-requires c κs = search needs
 
-max-requires : tie.Need-max-requires
-max-requires c κs = search needs
+exp-where-requires-2 : tie.Need-exp-where-requires-2
+exp-where-requires-2 c κs = search needs
+
+not-both-requires : tie.Need-not-both-requires
+not-both-requires c κs = search needs
+
+exp-where-requires-3 : tie.Need-exp-where-requires-3
+exp-where-requires-3 c κs = search needs
+
+codys-requires : tie.Need-codys-requires
+codys-requires c κs = search needs
 
 returns : tie.Need-returns
-unfolding codysOf
-returns c = c .max .ensures ∙ rw (c .before .two-b .ensures)
+unfolding codysOf codysWith
+returns c =
+    let exp-term = c .before in
+    let asked = exp-term .before in
+    let down = asked .before in
+    let up = down .before in
+    c .codys .ensures
+    ∙ rw (exp-term .exp-where3 .ensures, asked .not-both .ensures, down .exp-where2 .ensures, up .exp-where .ensures, as-read)
 
 pub normalised-black-call-with-optimal-use-of-codys-functions-spec : {M : Type 1} → statement M
 normalised-black-call-with-optimal-use-of-codys-functions-spec =
-    tie.close (tie.spec two-b-requires max-requires returns)
+    tie.close
+    (tie.spec
+    exp-where-requires
+    exp-where-requires-2
+    not-both-requires
+    exp-where-requires-3
+    codys-requires
+    returns)

@@ -11,16 +11,13 @@ erfcx-requires c κs = search needs
 taylor-requires : tie.Need-taylor-requires
 taylor-requires c κs = search needs
 
-exp-requires : tie.Need-exp-requires
-exp-requires c κs = search needs
-
 max-requires : tie.Need-max-requires
 max-requires c κs = search needs
 
 returns : tie.Need-returns
 unfolding smallTInner
-returns c = c .max .ensures ∙ rw (c .before .exp .ensures, c .before .before .taylor .ensures, c .before .before .before .erfcx .ensures)
+returns c = c .max .ensures ∙ rw (c .before .taylor .ensures, c .before .before .erfcx .ensures, c .before .before .before .pre)
 
 pub small-t-spec : {M : Type 1} → statement M
 small-t-spec =
-    tie.close (tie.spec erfcx-requires taylor-requires exp-requires max-requires returns)
+    tie.close (tie.spec erfcx-requires taylor-requires max-requires returns)

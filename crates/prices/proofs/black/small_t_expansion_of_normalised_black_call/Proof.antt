@@ -10,13 +10,16 @@ returns : tie.Need-returns
 unfolding smallTOf
 returns c = rw (c .if1 .taken)
 
+bell-requires : tie.Need-bell-requires
+bell-requires c κs = search needs
+
 small-t-requires : tie.Need-small-t-requires
-small-t-requires c κs = search needs
+small-t-requires c κs = c .bell .ensures
 
 returns-2 : tie.Need-returns-2
 unfolding smallTOf
-returns-2 c = rw (c .small-t .ensures, c .before .if1 .left)
+returns-2 c = rw (c .small-t .ensures, c .before .before .if1 .left)
 
 pub small-t-expansion-of-normalised-black-call-spec : {M : Type 1} → statement M
 small-t-expansion-of-normalised-black-call-spec =
-    tie.close (tie.spec returns small-t-requires returns-2)
+    tie.close (tie.spec returns bell-requires small-t-requires returns-2)

@@ -1,5 +1,6 @@
--- `black::taylor` meets its contract: each call is its definition. Assumes nothing.
-use mathlib.Core.Path.{_∙_}
+-- `black::taylor` meets its contract: each call is its definition, and `fma` by 1 is the last sum. Assumes nothing.
+use mathlib.Core.Path.{sym, _∙_}
+use Rattle.elementary.specs.MulAdd.One.{fma-one}
 use Rattle.prices.specs.Black.{taylorOf}
 use borrow.Author.Needs.{needs}
 use Rattle.prices.proofs.black.taylor.Statement.{statement}
@@ -38,12 +39,9 @@ term1-requires c κs = search needs
 mul-add-requires-5 : tie.Need-mul-add-requires-5
 mul-add-requires-5 c κs = search needs
 
-mul-add-requires-6 : tie.Need-mul-add-requires-6
-mul-add-requires-6 c κs = search needs
-
 returns : tie.Need-returns
 unfolding taylorOf
-returns c = c .mul-add6 .ensures ∙ rw (c .before .mul-add5 .ensures, c .before .before .term1 .ensures, c .before .before .before .mul-add4 .ensures, c .before .before .before .before .term2 .ensures, c .before .before .before .before .before .mul-add3 .ensures, c .before .before .before .before .before .before .term3 .ensures, c .before .before .before .before .before .before .before .mul-add2 .ensures, c .before .before .before .before .before .before .before .before .term4 .ensures, c .before .before .before .before .before .before .before .before .before .mul-add .ensures, c .before .before .before .before .before .before .before .before .before .before .term6 .ensures, c .before .before .before .before .before .before .before .before .before .before .before .term5 .ensures)
+returns c = sym (fma-one _ _) ∙ rw (c .mul-add5 .ensures, c .before .term1 .ensures, c .before .before .mul-add4 .ensures, c .before .before .before .term2 .ensures, c .before .before .before .before .mul-add3 .ensures, c .before .before .before .before .before .term3 .ensures, c .before .before .before .before .before .before .mul-add2 .ensures, c .before .before .before .before .before .before .before .term4 .ensures, c .before .before .before .before .before .before .before .before .mul-add .ensures, c .before .before .before .before .before .before .before .before .before .term6 .ensures, c .before .before .before .before .before .before .before .before .before .before .term5 .ensures)
 
 pub taylor-spec : {M : Type 1} → statement M
 taylor-spec =
@@ -60,5 +58,4 @@ taylor-spec =
     mul-add-requires-4
     term1-requires
     mul-add-requires-5
-    mul-add-requires-6
     returns)

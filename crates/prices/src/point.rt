@@ -1,0 +1,106 @@
+// The price and the vega of one s, which the solver asks for together: exp(−(h² + t²) / 2) is computed
+// once for both, and nothing is an enum on the way, since copies of one cost more than the tests.
+use crate::answer::Answer;
+use crate::black::MINUS_FRAC_1_SQRT_2;
+use crate::black::SMALL_T;
+use crate::black::asymptotic;
+use crate::black::bell;
+use crate::black::codys;
+use crate::black::is_asymptotic;
+use crate::black::is_outside;
+use crate::black::normalised_black_call;
+use crate::black::small_t;
+use crate::inputs::OptionType;
+use crate::intrinsic::normalised_intrinsic;
+use crate::vega::normalised_vega;
+use crate::vega::vega_with;
+use elementary::methods::abs;
+ghost use mathlib.Core.Path.{_≡_};
+ghost use Rattle.elementary.specs.Rules.{rules-0};
+ghost use Rattle.elementary.specs.Ops.{_⊗_, _⊘_, half};
+ghost use Rattle.prices.specs.declared.answer.Answer.the-variants.{Value};
+ghost use Rattle.prices.specs.Vega.{vegaOf};
+ghost use Rattle.prices.specs.Black.{bell as bellOf, asymptoticOf, regionWith, outOfTheMoneyWith, callOf, callWith};
+ghost use Rattle.prices.specs.Point.{told as toldOf};
+
+// Document 01's number, 0 where there is a price.
+pub struct PriceAndVega {
+    pub number: u8,
+    pub price: f64,
+    pub vega: f64,
+}
+
+fn priced(price: f64, vega: f64) -> PriceAndVega
+    ensures { λ r. ⌜ r ≡ toldOf (Value price) vega ⌝ }
+{
+    PriceAndVega {
+        number: 0,
+        price,
+        vega,
+    }
+}
+
+fn told(answer: Answer, vega: f64) -> PriceAndVega
+    ensures { λ r. ⌜ r ≡ toldOf answer vega ⌝ }
+{
+    match answer {
+        Answer::Value(b) => priced(b, vega),
+        Answer::Refused(n) => PriceAndVega {
+            number: n,
+            price: 0.0,
+            vega,
+        },
+    }
+}
+
+fn in_asymptotic_region(h: f64, t: f64, vega: f64) -> PriceAndVega
+    ensures { λ r. ⌜ r ≡ toldOf (asymptoticOf h t) vega ⌝ }
+{
+    if is_outside(h, t) {
+        return PriceAndVega {
+            number: 7,
+            price: 0.0,
+            vega,
+        };
+    }
+    priced(asymptotic(h, t), vega)
+}
+
+fn in_region(x: f64, s: f64, up: f64, down: f64, exp_term: f64, vega: f64) -> PriceAndVega
+    requires { ⌜ «exp_term» ≡ bellOf (x ⊘ s) (half ⊗ s) ⌝ }
+    ensures { λ r. ⌜ r ≡ toldOf (regionWith rules-0 up down x s) vega ⌝ }
+{
+    let h = x / s;
+    let t = 0.5 * s;
+    if is_asymptotic(x, s) {
+        return in_asymptotic_region(h, t, vega);
+    }
+    if t < SMALL_T {
+        return priced(small_t(h, t, exp_term), vega);
+    }
+    let q1 = MINUS_FRAC_1_SQRT_2 * (h + t);
+    let q2 = MINUS_FRAC_1_SQRT_2 * (h - t);
+    priced(codys(up, down, exp_term, q1, q2), vega)
+}
+
+fn out_of_the_money(x: f64, s: f64, up: f64, down: f64, exp_term: f64, vega: f64) -> PriceAndVega
+    requires { ⌜ «exp_term» ≡ bellOf (x ⊘ s) (half ⊗ s) ⌝ }
+    ensures { λ r. ⌜ r ≡ toldOf (outOfTheMoneyWith rules-0 up down x s) vega ⌝ }
+{
+    if s <= abs(x) * 0.0 {
+        return priced(normalised_intrinsic(x, OptionType::Call), vega);
+    }
+    in_region(x, s, up, down, exp_term, vega)
+}
+
+// `up` is exp(x / 2) and `down` exp(−x / 2), which the caller has for every s.
+pub fn price_and_vega(x: f64, s: f64, up: f64, down: f64) -> PriceAndVega
+    ensures { λ r. ⌜ r ≡ toldOf (callWith rules-0 up down x s) (vegaOf x s) ⌝ }
+{
+    if x > 0.0 {
+        return told(normalised_black_call(x, s), normalised_vega(x, s));
+    }
+    let exp_term = bell(x / s, 0.5 * s);
+    let vega = vega_with(x, s, exp_term);
+    out_of_the_money(x, s, up, down, exp_term, vega)
+}
