@@ -1,22 +1,21 @@
--- Which kind a byte says, for solve and file, and what is then handed on. Assumes nothing.
+-- Which kind a byte says, for solve and file. Assumes nothing.
 use mathlib.Core.Path.{_≡_}
 use mathlib.Core.List.{List}
 use Prim.Native.Nat.{ℕ}
 use borrow.Author.Tests.{ne-eqb}
 use lib.IntN.{ℤ}
 use lib.ListN.{length}
-use lib.Ieee.{Float, binary64, toBits}
+use lib.Ieee.{Float}
 use Rattle.prices.specs.declared.inputs.OptionType.the-variants.{Call, Put}
 use Rattle.solver.specs.declared.state.Solution.{Solution}
 use Rattle.solver.specs.declared.state.Solution.the-variants.{Refused}
 use Rattle.solver.specs.declared.state.Filing.{Filing}
 use Rattle.solver.specs.declared.state.Filing.the-variants.{Refused as NotFiled}
 use Rattle.solver.specs.RuleSets.{rule-set-0}
-use Rattle.solver.specs.Answers.{volatilityIn, filingUsed}
 use Rattle.solver.specs.Solve.{Solving, solveWithTrail, stepsOf}
 use Rattle.solver.specs.Trail.{trailAfter}
 use Rattle.solver.specs.Book.{FiledBook, fileOf}
-use Rattle.abi.specs.Solutions.{outcomeOf, filingOutcome, solvingAt, filingAt}
+use Rattle.abi.specs.Solutions.{solvingAt, filingAt}
 
 -- solve's answer and the trail that it left
 abbrev pub Solves : Solving → List ℕ → Solution → List ℕ → Type 0
@@ -58,18 +57,3 @@ module _ (kind : ℕ) (price forward strike expiry : Float) (limit : ℤ) (old :
     pub files-none : (kind ≡ 1 → ⊥) → (kind ≡ 2 → ⊥) → answer ≡ NotFiled 24 0 → book ≡ old → Files f answer book
     unfolding filingAt
     files-none a b e t = rw (ne-eqb kind 1 a, ne-eqb kind 2 b) (e, t)
-
--- handed on as plain numbers
-pub handed-answer : (w answer : Solution) (value outcome : ℕ) → answer ≡ w → (value ≡ toBits binary64 (volatilityIn answer)) × (outcome ≡ outcomeOf answer)
-    → (value ≡ toBits binary64 (volatilityIn w)) × (outcome ≡ outcomeOf w)
-handed-answer w answer value outcome e h = rw (← e) h
-
-pub handed-solution : (w : Solving) (old trail : List ℕ) (answer : Solution) (value outcome : ℕ) → Solves w old answer trail
-    → (value ≡ toBits binary64 (volatilityIn answer)) × (outcome ≡ outcomeOf answer)
-    → (value ≡ toBits binary64 (volatilityIn (w .answer))) × ((outcome ≡ outcomeOf (w .answer)) × (trail ≡ trailAfter (w .records) old))
-handed-solution w old trail answer value outcome (a, t) (v, o) = (rw (← a) v, (rw (← a) o, t))
-
-pub handed-filing : (w : FiledBook) (answer : Filing) (book : List ℕ) (used outcome : ℕ) → Files w answer book
-    → (used ≡ filingUsed answer) × (outcome ≡ filingOutcome answer)
-    → (used ≡ filingUsed (w .answer)) × ((outcome ≡ filingOutcome (w .answer)) × (book ≡ w .book))
-handed-filing w answer book used outcome (a, b) (u, o) = (rw (← a) u, (rw (← a) o, b))

@@ -134,7 +134,7 @@ pub data Begun : Type 0 where
 abbrev pub begunFrom : Rules → Start → Begun
 begunFrom rules (Answered v) = answered v
 begunFrom rules (Stopped n) = stopped n
-begunFrom rules (Looping branch b-max x beta st) = looping branch beta (branchStep rules branch b-max x beta) st
+begunFrom rules (Looping branch m st) = looping branch (m .beta) (branchStep rules branch (m .«b_max») (m .x) (m .beta)) st
 
 unfoldable pub withValue : Answer → (Float → Begun) → Begun
 withValue (Value b) f = f b
@@ -173,16 +173,21 @@ upperBegun rules x beta b-max s-c b-c v-c =
     let tail = tailBegun rules x beta b-max b-h s-h in
     cond (le beta b-h) loop-3 tail)
 
+-- from the price at √(2 |x|) on
+abbrev pub guessedBegun : Rules → Float → Float → Float → Begun
+guessedBegun rules x beta b-max =
+    let s-c = sqrtOf binary64 (two ⊗ absOf x) in
+    let v-c = vegaOf x s-c in
+    withValue (callOf rules x s-c) (λ b-c.
+    let lower = lowerBegun rules x beta s-c b-c v-c in
+    let upper = upperBegun rules x beta b-max s-c b-c v-c in
+    cond (lt beta b-c) lower upper)
+
 -- the target and x after all mapping
 unfoldable pub mappedBegun : Rules → Float → Float → Begun
 mappedBegun rules x beta =
     let b-max = expOf (half ⊗ x) in
-    let s-c = sqrtOf binary64 (two ⊗ absOf x) in
-    let v-c = vegaOf x s-c in
-    let guessed = withValue (callOf rules x s-c) (λ b-c.
-    let lower = lowerBegun rules x beta s-c b-c v-c in
-    let upper = upperBegun rules x beta b-max s-c b-c v-c in
-    cond (lt beta b-c) lower upper) in
+    let guessed = guessedBegun rules x beta b-max in
     cond (le beta +0) (answered +0) (cond (lt beta +0) (answered +0) (cond (le b-max beta) (answered MAX) guessed))
 
 -- unchecked_normalised_implied_volatility_.., up to its loops

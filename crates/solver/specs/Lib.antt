@@ -3,6 +3,7 @@ pub mod RuleSets
 pub mod Loop
 pub mod Step
 pub mod Guess
+pub mod Market
 pub mod Solve
 pub mod Answers
 pub mod Trail

@@ -13,11 +13,12 @@ use elementary::methods::bits_of;
 use prices::inputs::OptionType;
 ghost use mathlib.Core.Path.{_≡_};
 ghost use mathlib.Core.List.{_++_};
-ghost use Prim.Native.Nat.{_+_, _≤_};
+ghost use Prim.Native.Nat.{_+_, _*_, _≤_};
 ghost use lib.ListN.{length, drop};
 ghost use Rattle.solver.specs.RuleSets.{rule-set-0};
+ghost use Rattle.solver.specs.Solve.{solveOf, stepsOf};
 ghost use Rattle.solver.specs.Trail.{part};
-ghost use Rattle.solver.specs.Book.{kindByte, limitBits, filedBytes, stepsFrom, kindFrom, allZero, inLayout, isHeld, resolved as resolvedOf, agrees as agreesOf, checked as checkedOf, readOf, recheckOf, fileOf};
+ghost use Rattle.solver.specs.Book.{kindByte, limitBits, filedBytes, stepsFrom, kindFrom, allZero, inLayout, isHeld, resolved as resolvedOf, agrees as agreesOf, checked as checkedOf, readOf, recheckOf, filed, fileOf};
 
 // ---- a record's bytes
 
@@ -160,6 +161,43 @@ fn agrees(r: &[u8], volatility: f64, branch: u8, ending: u8, steps: u32) -> bool
 
 // ---- the book
 
+// Solves, files the solution in slot `used` and answers used + 1. A refusal leaves the book as it was.
+fn file_in_slot(
+    price: f64,
+    forward: f64,
+    strike: f64,
+    expiry: f64,
+    option_type: OptionType,
+    limit: i32,
+    book: &mut [u8],
+    used: u64,
+) -> Filing
+    requires { ⌜ used * 64 + 64 ≤ length (now book) ⌝ }
+    ensures { λ r. ⌜ r ≡ filed price forward strike expiry «option_type» limit (now (book .entry)) used (solveOf rule-set-0 price forward strike expiry «option_type» (stepsOf limit) .answer) .answer ⌝ }
+    ensures { λ _. ⌜ now (book .exit) ≡ filed price forward strike expiry «option_type» limit (now (book .entry)) used (solveOf rule-set-0 price forward strike expiry «option_type» (stepsOf limit) .answer) .book ⌝ }
+{
+    match solve_without_trail(price, forward, strike, expiry, option_type, steps_of(limit)) {
+        Solution::Solved(volatility, branch, ending, steps) => {
+            let at = used as usize * 64;
+            put_filed(
+                &mut book[at..],
+                price,
+                forward,
+                strike,
+                expiry,
+                option_type,
+                limit,
+                volatility,
+                branch,
+                ending,
+                steps,
+            );
+            Filing::Filed(used + 1)
+        }
+        Solution::Refused(n, steps) => Filing::Refused(n, steps),
+    }
+}
+
 // Files the solution in slot `used` and answers used + 1, or a number: 1 to 4, 23, 22, then solve's.
 // A refusal leaves the book as it was.
 pub fn file(
@@ -186,26 +224,16 @@ pub fn file(
     if used == slots {
         return Filing::Refused(22, 0);
     }
-    match solve_without_trail(price, forward, strike, expiry, option_type, steps_of(limit)) {
-        Solution::Solved(volatility, branch, ending, steps) => {
-            let at = used as usize * 64;
-            put_filed(
-                &mut book[at..],
-                price,
-                forward,
-                strike,
-                expiry,
-                option_type,
-                limit,
-                volatility,
-                branch,
-                ending,
-                steps,
-            );
-            Filing::Filed(used + 1)
-        }
-        Solution::Refused(n, steps) => Filing::Refused(n, steps),
-    }
+    file_in_slot(
+        price,
+        forward,
+        strike,
+        expiry,
+        option_type,
+        limit,
+        book,
+        used,
+    )
 }
 
 // No 23: record k is among the used ones, and these are whole slots of the book.

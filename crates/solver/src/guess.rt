@@ -1,5 +1,7 @@
 // The guess of so_rational.rs, line by line: both maps, and for each branch the first s and the
 // starting ends.
+use crate::market::Market;
+use crate::market::priced;
 use crate::state::Mapped;
 use crate::state::Start;
 use crate::state::State;
@@ -13,19 +15,19 @@ use elementary::normal_distribution::inverse_normal_cdf;
 use elementary::normal_distribution::standard_normal_cdf;
 use elementary::sqrt::sqrt;
 use prices::answer::Answer;
-use prices::black::normalised_black_call;
 use prices::inputs::OptionType;
 use prices::intrinsic::normalised_intrinsic;
 use prices::rational_cubic::Side;
 use prices::rational_cubic::convex_rational_cubic_control_parameter;
 use prices::rational_cubic::rational_cubic_interpolation;
-use prices::vega::normalised_vega;
 ghost use mathlib.Core.Path.{_≡_};
-ghost use mathlib.Core.Bool.{true, false};
+ghost use mathlib.Core.Bool.{cond};
+ghost use Rattle.elementary.specs.Ops.{_⊗_, +0};
 ghost use Rattle.elementary.specs.Rules.{rules-0};
 ghost use Rattle.solver.specs.Step.{branchStep};
+ghost use Rattle.solver.specs.Market.{Shared, Begins};
 ghost use Rattle.solver.specs.Guess as Guess;
-ghost use Rattle.solver.specs.Guess.{isBelowHorizon, inverseFLowerMap, upperMap, lowerMap, lowerGuess, middleGuess, upperF, upperGuess, startAt, withValue, tailBegun, upperPlace, begunFrom, lowerBegun, upperBegun, mappedBegun, normalisedBegun};
+ghost use Rattle.solver.specs.Guess.{TWO-PI-OVER-SQRT-TWENTY-SEVEN, isBelowHorizon, inverseFLowerMap, upperMap, lowerMap, lowerGuess, middleGuess, upperF, upperGuess, startAt, withValue, tailBegun, upperPlace, lowerBegun, upperBegun, guessedBegun, mappedBegun, normalisedBegun};
 
 const SQRT_DBL_MAX: f64 = 1.3407807929942596e154;
 
@@ -88,6 +90,17 @@ fn compute_f_upper_map_and_first_two_derivatives(x: f64, s: f64) -> Mapped
     }
 }
 
+// The lower map's f, from the third power of cdf(−z).
+fn lower_map_f(x: f64, ax: f64, phi3: f64) -> f64
+    ensures { λ r. ⌜ r ≡ cond (isBelowHorizon x) +0 (TWO-PI-OVER-SQRT-TWENTY-SEVEN ⊗ ax ⊗ phi3) ⌝ }
+{
+    if is_below_horizon(x) {
+        0.0
+    } else {
+        TWO_PI_OVER_SQRT_TWENTY_SEVEN * ax * phi3
+    }
+}
+
 fn compute_f_lower_map_and_first_two_derivatives(x: f64, s: f64) -> Mapped
     ensures { λ r. ⌜ r ≡ lowerMap rules-0 x s ⌝ }
 {
@@ -110,11 +123,7 @@ fn compute_f_lower_map_and_first_two_derivatives(x: f64, s: f64) -> Mapped
     } else {
         let phi2 = phi_ * phi_;
         let fp = PI * 2.0 * y * phi2 * exp(y + 0.125 * s * s);
-        let f = if is_below_horizon(x) {
-            0.0
-        } else {
-            TWO_PI_OVER_SQRT_TWENTY_SEVEN * ax * (phi2 * phi_)
-        };
+        let f = lower_map_f(x, ax, phi2 * phi_);
         Mapped { f, fp, fpp }
     }
 }
@@ -234,43 +243,45 @@ fn start_at(left: f64, right: f64, s: f64) -> State
 }
 
 // A loop from its guess; a refusal passes up.
-fn looping(branch: u8, b_max: f64, x: f64, beta: f64, left: f64, right: f64, guess: Answer) -> Start
-    ensures { λ r. ⌜ begunFrom rules-0 r ≡ withValue guess (λ s. Guess.looping branch beta (branchStep rules-0 branch «b_max» x beta) (startAt left right s)) ⌝ }
+fn looping(branch: u8, m: Market, left: f64, right: f64, guess: Answer) -> Start
+    requires { ⌜ Shared m ⌝ }
+    ensures { λ r. ⌜ Begins rules-0 r (withValue guess (λ s. Guess.looping branch (m .beta) (branchStep rules-0 branch (m .«b_max») (m .x) (m .beta)) (startAt left right s))) ⌝ }
 {
     match guess {
-        Answer::Value(s) => Start::Looping(branch, b_max, x, beta, start_at(left, right, s)),
+        Answer::Value(s) => Start::Looping(branch, m, start_at(left, right, s)),
         Answer::Refused(n) => Start::Stopped(n),
     }
 }
 
 // Below b_c: branches 1 and 2.
-fn lower_start(x: f64, beta: f64, b_max: f64, s_c: f64, b_c: f64, v_c: f64) -> Start
-    ensures { λ r. ⌜ begunFrom rules-0 r ≡ lowerBegun rules-0 x beta «s_c» «b_c» «v_c» ⌝ }
+fn lower_start(m: Market, s_c: f64, b_c: f64, v_c: f64) -> Start
+    requires { ⌜ Shared m ⌝ }
+    ensures { λ r. ⌜ Begins rules-0 r (lowerBegun rules-0 (m .x) (m .beta) «s_c» «b_c» «v_c») ⌝ }
 {
     let s_l = s_c - b_c / v_c;
-    match normalised_black_call(x, s_l) {
-        Answer::Value(b_l) => {
-            if beta < b_l {
-                let guess = lower_guess(x, beta, b_l, s_l);
-                return looping(1, b_max, x, beta, MIN, s_l, guess);
-            }
-            let v_l = normalised_vega(x, s_l);
-            let guess = middle_guess(beta, b_l, b_c, s_l, s_c, v_l, v_c, Side::Right);
-            looping(2, b_max, x, beta, s_l, s_c, guess)
-        }
-        Answer::Refused(n) => Start::Stopped(n),
+    let p = priced(m, s_l);
+    if p.number != 0 {
+        return Start::Stopped(p.number);
     }
+    let b_l = p.price;
+    if m.beta < b_l {
+        let guess = lower_guess(m.x, m.beta, b_l, s_l);
+        return looping(1, m, MIN, s_l, guess);
+    }
+    let guess = middle_guess(m.beta, b_l, b_c, s_l, s_c, p.vega, v_c, Side::Right);
+    looping(2, m, s_l, s_c, guess)
 }
 
 // Above b_h: branches 4 and 5.
-fn tail_start(x: f64, beta: f64, b_max: f64, b_h: f64, s_h: f64) -> Start
-    ensures { λ r. ⌜ begunFrom rules-0 r ≡ tailBegun rules-0 x beta «b_max» «b_h» «s_h» ⌝ }
+fn tail_start(m: Market, b_h: f64, s_h: f64) -> Start
+    requires { ⌜ Shared m ⌝ }
+    ensures { λ r. ⌜ Begins rules-0 r (tailBegun rules-0 (m .x) (m .beta) (m .«b_max») «b_h» «s_h») ⌝ }
 {
-    let guess = upper_guess(x, beta, b_max, b_h, s_h);
-    if beta > 0.5 * b_max {
-        return looping(4, b_max, x, beta, s_h, MAX, guess);
+    let guess = upper_guess(m.x, m.beta, m.b_max, b_h, s_h);
+    if m.beta > 0.5 * m.b_max {
+        return looping(4, m, s_h, MAX, guess);
     }
-    looping(5, b_max, x, beta, s_h, MAX, guess)
+    looping(5, m, s_h, MAX, guess)
 }
 
 fn upper_place(b_max: f64, s_c: f64, b_c: f64, v_c: f64) -> f64
@@ -284,26 +295,42 @@ fn upper_place(b_max: f64, s_c: f64, b_c: f64, v_c: f64) -> f64
 }
 
 // From b_c on: branches 3, 4 and 5.
-fn upper_start(x: f64, beta: f64, b_max: f64, s_c: f64, b_c: f64, v_c: f64) -> Start
-    ensures { λ r. ⌜ begunFrom rules-0 r ≡ upperBegun rules-0 x beta «b_max» «s_c» «b_c» «v_c» ⌝ }
+fn upper_start(m: Market, s_c: f64, b_c: f64, v_c: f64) -> Start
+    requires { ⌜ Shared m ⌝ }
+    ensures { λ r. ⌜ Begins rules-0 r (upperBegun rules-0 (m .x) (m .beta) (m .«b_max») «s_c» «b_c» «v_c») ⌝ }
 {
-    let s_h = upper_place(b_max, s_c, b_c, v_c);
-    match normalised_black_call(x, s_h) {
-        Answer::Value(b_h) => {
-            if beta <= b_h {
-                let v_h = normalised_vega(x, s_h);
-                let guess = middle_guess(beta, b_c, b_h, s_c, s_h, v_c, v_h, Side::Left);
-                return looping(3, b_max, x, beta, s_c, s_h, guess);
-            }
-            tail_start(x, beta, b_max, b_h, s_h)
-        }
-        Answer::Refused(n) => Start::Stopped(n),
+    let s_h = upper_place(m.b_max, s_c, b_c, v_c);
+    let p = priced(m, s_h);
+    if p.number != 0 {
+        return Start::Stopped(p.number);
     }
+    let b_h = p.price;
+    if m.beta <= b_h {
+        let guess = middle_guess(m.beta, b_c, b_h, s_c, s_h, v_c, p.vega, Side::Left);
+        return looping(3, m, s_c, s_h, guess);
+    }
+    tail_start(m, b_h, s_h)
+}
+
+// From the price at √(2 |x|) on.
+fn guessed_start(m: Market) -> Start
+    requires { ⌜ Shared m ⌝ }
+    ensures { λ r. ⌜ Begins rules-0 r (guessedBegun rules-0 (m .x) (m .beta) (m .«b_max»)) ⌝ }
+{
+    let s_c = sqrt(2.0 * abs(m.x));
+    let p = priced(m, s_c);
+    if p.number != 0 {
+        return Start::Stopped(p.number);
+    }
+    if m.beta < p.price {
+        return lower_start(m, s_c, p.price, p.vega);
+    }
+    upper_start(m, s_c, p.price, p.vega)
 }
 
 // From the target and x after all mapping.
 fn mapped_start(x: f64, beta: f64) -> Start
-    ensures { λ r. ⌜ begunFrom rules-0 r ≡ mappedBegun rules-0 x beta ⌝ }
+    ensures { λ r. ⌜ Begins rules-0 r (mappedBegun rules-0 x beta) ⌝ }
 {
     if beta <= 0.0 {
         return Start::Answered(0.0);
@@ -315,22 +342,18 @@ fn mapped_start(x: f64, beta: f64) -> Start
     if beta >= b_max {
         return Start::Answered(MAX);
     }
-    let s_c = sqrt(2.0 * abs(x));
-    match normalised_black_call(x, s_c) {
-        Answer::Value(b_c) => {
-            let v_c = normalised_vega(x, s_c);
-            if beta < b_c {
-                return lower_start(x, beta, b_max, s_c, b_c, v_c);
-            }
-            upper_start(x, beta, b_max, s_c, b_c, v_c)
-        }
-        Answer::Refused(n) => Start::Stopped(n),
-    }
+    let down = exp(-0.5 * x);
+    guessed_start(Market {
+        x,
+        beta,
+        b_max,
+        down,
+    })
 }
 
 // The Rust's unchecked_normalised_implied_volatility_.., up to its loops.
 pub(crate) fn normalised_start(beta: f64, x: f64, option_type: OptionType) -> Start
-    ensures { λ r. ⌜ begunFrom rules-0 r ≡ normalisedBegun rules-0 beta x «option_type» ⌝ }
+    ensures { λ r. ⌜ Begins rules-0 r (normalisedBegun rules-0 beta x «option_type») ⌝ }
 {
     let mapped_x = option_type.times(x);
     if mapped_x > 0.0 {

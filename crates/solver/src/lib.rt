@@ -1,5 +1,6 @@
 // Layer 3: the guess, the step, the loop, solve, trail, book and listing, each equal to its definition
 // in specs/, of which demand 3 is proved (specs/Promises.antt).
+pub mod market; // what a run looks at
 pub mod state; // a loop's state, and what a step and solve answer
 mod step; // the three Householder steps
 mod guess; // where a run begins, after normalising

@@ -1,6 +1,7 @@
 // solve: `implied_volatility_from_a_transformed_rational_guess_with_limited_iterations` of so_rational.rs
 // with document 01's refusals, its trail, and the wrapper of mod.rs.
 use crate::guess::normalised_start;
+use crate::market::Market;
 use crate::state::Left;
 use crate::state::Solution;
 use crate::state::Start;
@@ -24,6 +25,7 @@ ghost use Rattle.solver.specs.RuleSets.{rule-set-0, rustCap};
 ghost use Rattle.solver.specs.Loop.{run as runOf};
 ghost use Rattle.solver.specs.Step.{nextBy, branchStep};
 ghost use Rattle.solver.specs.Guess.{begunFrom};
+ghost use Rattle.solver.specs.Market.{Shared, SharedIn, Begins};
 ghost use Rattle.solver.specs.Solve.{overExpiry, acceptedBegun, inputNumber, ran, solvingWith, solveOf, solveWithTrail, stepsOf};
 ghost use Rattle.solver.specs.Trail.{trailAfter, keptAfter};
 
@@ -66,12 +68,13 @@ fn max_price(option_type: OptionType, forward: f64, strike: f64) -> f64
 
 // A volatility over one unit of time, as one over the expiry.
 fn over_expiry(expiry: f64, start: Start) -> Start
-    ensures { λ r. ⌜ begunFrom rules-0 r ≡ overExpiry expiry (begunFrom rules-0 start) ⌝ }
+    requires { ⌜ SharedIn start ⌝ }
+    ensures { λ r. ⌜ Begins rules-0 r (overExpiry expiry (begunFrom rules-0 start)) ⌝ }
 {
     match start {
         Start::Answered(v) => Start::Answered(v / sqrt(expiry)),
         Start::Stopped(n) => Start::Stopped(n),
-        Start::Looping(branch, b_max, x, beta, st) => Start::Looping(branch, b_max, x, beta, st),
+        Start::Looping(branch, m, st) => Start::Looping(branch, m, st),
     }
 }
 
@@ -82,7 +85,7 @@ fn accepted_start(
     expiry: f64,
     option_type: OptionType,
 ) -> Start
-    ensures { λ r. ⌜ begunFrom rules-0 r ≡ acceptedBegun rule-set-0 price forward strike expiry «option_type» ⌝ }
+    ensures { λ r. ⌜ Begins rules-0 r (acceptedBegun rule-set-0 price forward strike expiry «option_type») ⌝ }
 {
     let intrinsic = max(option_type.times(forward - strike), 0.0);
     if price < intrinsic {
@@ -108,35 +111,27 @@ fn accepted_start(
 // The branch's loop from its starting state, with the trail's records where `keep` is true.
 fn run(
     branch: u8,
-    b_max: f64,
-    x: f64,
-    beta: f64,
+    m: Market,
     root: f64,
     start: State,
     limit: u32,
     trail: &mut [u8],
     keep: bool,
 ) -> Solution
-    requires { ⌜ (keep ≡ true → 48 * limit ≤ length (now trail)) ⌝ }
-    ensures { λ r. ⌜ r ≡ ran branch root (runOf (nextBy (branchStep rules-0 branch «b_max» x beta)) limit start) .answer ⌝ }
-    ensures { λ _. ⌜ now (trail .exit) ≡ keptAfter keep (runOf (nextBy (branchStep rules-0 branch «b_max» x beta)) limit start .records) (now (trail .entry)) ⌝ }
+    requires { ⌜ Shared m ⌝ ∗ ⌜ (keep ≡ true → 48 * limit ≤ length (now trail)) ⌝ }
+    ensures { λ r. ⌜ r ≡ ran branch root (runOf (nextBy (branchStep rules-0 branch (m .«b_max») (m .x) (m .beta))) limit start) .answer ⌝ }
+    ensures { λ _. ⌜ now (trail .exit) ≡ keptAfter keep (runOf (nextBy (branchStep rules-0 branch (m .«b_max») (m .x) (m .beta))) limit start .records) (now (trail .entry)) ⌝ }
 {
     let mut st = start;
     let mut steps: u32 = 0;
     let left = loop {
         if steps >= limit {
-            break Left {
-                ending: 2,
-                state: st,
-            };
+            break Left { ending: 2, st };
         }
         if is_close(st) {
-            break Left {
-                ending: 1,
-                state: st,
-            };
+            break Left { ending: 1, st };
         }
-        match step(branch, b_max, x, beta, st) {
+        match step(branch, m, st) {
             Stepped::Went(next, r) => {
                 if keep {
                     let at = steps as usize * 48;
@@ -150,8 +145,8 @@ fn run(
             }
         }
     };
-    let state = left.state;
-    Solution::Solved(state.s / root, branch, left.ending, steps)
+    let last = left.st;
+    Solution::Solved(last.s / root, branch, left.ending, steps)
 }
 
 // ---- solve
@@ -180,9 +175,7 @@ fn solve(
     match accepted_start(price, forward, strike, expiry, option_type) {
         Start::Answered(v) => Solution::Solved(v, 0, 0, 0),
         Start::Stopped(n) => Solution::Refused(n, 0),
-        Start::Looping(branch, b_max, x, beta, st) => {
-            run(branch, b_max, x, beta, sqrt(expiry), st, limit, trail, keep)
-        }
+        Start::Looping(branch, m, st) => run(branch, m, sqrt(expiry), st, limit, trail, keep),
     }
 }
 

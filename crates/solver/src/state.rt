@@ -1,4 +1,5 @@
 // What the loops carry and what solve answers.
+use crate::market::Market;
 
 // A loop's state: document 01's five floats.
 pub struct State {
@@ -39,18 +40,18 @@ pub enum Stepped {
     Refused(u8),
 }
 
-// Where a run begins: answered before a guess, refused before a loop, or with a loop's branch, b_max,
-// x, target and the state before its first step.
+// Where a run begins: answered before a guess, refused before a loop, or with a loop's branch, its
+// market and the state before its first step.
 pub enum Start {
     Answered(f64),
     Stopped(u8),
-    Looping(u8, f64, f64, f64, State),
+    Looping(u8, Market, State),
 }
 
 // What a loop yields where it is left: its ending, 1 step test or 2 limit, with the state.
 pub struct Left {
     pub ending: u8,
-    pub state: State,
+    pub st: State,
 }
 
 // What solve answers: volatility, branch, ending and steps, or the number and the completed steps.

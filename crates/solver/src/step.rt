@@ -1,5 +1,7 @@
 // The Householder steps of so_rational.rs: the lower loop's (branch 1), the upper loop's (branch 4)
 // and the general one's (branches 2, 3 and 5).
+use crate::market::Market;
+use crate::market::priced;
 use crate::state::Ends;
 use crate::state::Record;
 use crate::state::State;
@@ -8,11 +10,9 @@ use elementary::ln::ln;
 use elementary::methods::abs;
 use elementary::methods::max;
 use elementary::methods::powi_2;
-use prices::answer::Answer;
-use prices::black::normalised_black_call;
-use prices::vega::normalised_vega;
 ghost use mathlib.Core.Path.{_≡_};
 ghost use Rattle.elementary.specs.Rules.{rules-0};
+ghost use Rattle.solver.specs.Market.{Shared};
 ghost use Rattle.solver.specs.Step.{householderFactor, endsAfter, toMiddle, halleyOf, hh3Of, lowerDs, upperDs, generalDs, branchDs, branchAfter, branchStep, isClose};
 
 const EPSILON: f64 = 2.220446049250313e-16;
@@ -143,38 +143,39 @@ fn branch_after(branch: u8, s: f64, ds: f64) -> f64
 }
 
 // One Householder step of the branch's loop.
-pub(crate) fn step(branch: u8, b_max: f64, x: f64, beta: f64, st: State) -> Stepped
-    ensures { λ r. ⌜ r ≡ branchStep rules-0 branch «b_max» x beta st ⌝ }
+pub(crate) fn step(branch: u8, m: Market, st: State) -> Stepped
+    requires { ⌜ Shared m ⌝ }
+    ensures { λ r. ⌜ r ≡ branchStep rules-0 branch (m .«b_max») (m .x) (m .beta) st ⌝ }
 {
     let s = st.s;
-    match normalised_black_call(x, s) {
-        Answer::Value(b) => {
-            let vega = normalised_vega(x, s);
-            let bracket = ends_after(b, beta, s, st.left, st.right);
-            let ds = branch_ds(branch, b_max, x, beta, s, b, vega, bracket);
-            let after = branch_after(branch, s, ds);
-            let left = bracket.left;
-            let right = bracket.right;
-            Stepped::Went(
-                State {
-                    s: after,
-                    ds,
-                    previous: st.ds,
-                    left,
-                    right,
-                },
-                Record {
-                    s,
-                    b,
-                    vega,
-                    left,
-                    right,
-                    after,
-                },
-            )
-        }
-        Answer::Refused(n) => Stepped::Refused(n),
+    let p = priced(m, s);
+    if p.number != 0 {
+        return Stepped::Refused(p.number);
     }
+    let b = p.price;
+    let vega = p.vega;
+    let bracket = ends_after(b, m.beta, s, st.left, st.right);
+    let ds = branch_ds(branch, m.b_max, m.x, m.beta, s, b, vega, bracket);
+    let after = branch_after(branch, s, ds);
+    let left = bracket.left;
+    let right = bracket.right;
+    Stepped::Went(
+        State {
+            s: after,
+            ds,
+            previous: st.ds,
+            left,
+            right,
+        },
+        Record {
+            s,
+            b,
+            vega,
+            left,
+            right,
+            after,
+        },
+    )
 }
 
 // The step test.

@@ -2,19 +2,14 @@
 use borrow.Author.Needs.{needs}
 use mir.Syntax.{w32}
 use mir.ValLaws.{toZ-ofZ}
-use Rattle.abi.proofs.ByKind.{handed-solution}
 use Rattle.abi.proofs.solve.gintubalos_implied_volatility_from_a_transformed_rational_guess_with_limited_iterations.Statement.{statement}
 use Rattle.abi.proofs.solve.gintubalos_implied_volatility_from_a_transformed_rational_guess_with_limited_iterations.Tie as tie
 
 returns : tie.Need-returns
 returns c =
-    let call = c .before .before .before .before in
-    let f₄ = call .before .before in
-    let f₃ = f₄ .before in
-    let f₂ = f₃ .before in
-    let f₁ = f₂ .before in
-    let p = f₁ .before .before in
-    handed-solution _ _ _ _ _ _ (rw (f₄ .float-of4 .ensures, f₃ .float-of3 .ensures, f₂ .float-of2 .ensures, f₁ .float-of .ensures, toZ-ofZ w32 (p .args .limit) (p .fits .limit)) at (call .solve .ensures)) (c .handed .ensures)
+    let p = c .before .before .before .before .before .before .before .before .before .before .before in
+    let z = toZ-ofZ w32 (p .args .limit) (p .fits .limit) in
+    (cc, (cc, cc))
 
 pub gintubalos-implied-volatility-from-a-transformed-rational-guess-with-limited-iterations-spec : {M : Type 1} → statement M
 gintubalos-implied-volatility-from-a-transformed-rational-guess-with-limited-iterations-spec =

@@ -1,4 +1,5 @@
 -- `guess::looping` meets its contract: the variant met says which case it is. Assumes nothing.
+use mathlib.Core.Path.{refl}
 use Rattle.solver.specs.Guess.{withValue}
 use borrow.Author.Needs.{needs}
 use Rattle.solver.proofs.guess.looping.Statement.{statement}
@@ -15,11 +16,11 @@ enum-known-guess-2 c = search needs
 
 returns : tie.Need-returns
 unfolding withValue
-returns c = rw (c .start-at .ensures, c .before .before .guess .given .1)
+returns c = rw (c .start-at .ensures, c .before .before .guess .given .1) (record { begun = refl; shared = c .before .before .before .before .pre })
 
 returns-2 : tie.Need-returns-2
 unfolding withValue
-returns-2 c = rw (c .before .guess2 .given .1)
+returns-2 c = rw (c .before .guess2 .given .1) (record { begun = refl; shared = tt })
 
 pub looping-spec : {M : Type 1} → statement M
 looping-spec =

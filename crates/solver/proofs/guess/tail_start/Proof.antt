@@ -9,18 +9,18 @@ upper-guess-requires : tie.Need-upper-guess-requires
 upper-guess-requires c κs = search needs
 
 looping-requires : tie.Need-looping-requires
-looping-requires c κs = search needs
+looping-requires c κs = c .before .before .before .before .pre
 
 returns : tie.Need-returns
 unfolding tailBegun upperStep
-returns c = rw (← c .before .before .upper-guess .ensures, c .before .if1 .taken) (c .looping .ensures)
+returns c = rw (← c .before .before .before .before .upper-guess .ensures, c .before .if1 .taken) (c .looping .ensures)
 
 looping-requires-2 : tie.Need-looping-requires-2
-looping-requires-2 c κs = search needs
+looping-requires-2 c κs = c .before .before .before .before .pre
 
 returns-2 : tie.Need-returns-2
 unfolding tailBegun generalStep
-returns-2 c = rw (← c .before .before .upper-guess .ensures, c .before .if1 .left) (c .looping2 .ensures)
+returns-2 c = rw (← c .before .before .before .before .upper-guess .ensures, c .before .if1 .left) (c .looping2 .ensures)
 
 pub tail-start-spec : {M : Type 1} → statement M
 tail-start-spec =

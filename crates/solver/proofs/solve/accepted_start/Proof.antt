@@ -1,5 +1,14 @@
 -- `solve::accepted_start` meets its contract: each way out is the arm that the tests before it leave. Assumes nothing.
-use Rattle.solver.specs.Solve.{acceptedBegun}
+use mathlib.Core.Path.{_≡_, refl}
+use mathlib.Core.Bool.{cond}
+use lib.Ieee.{lt}
+use Rattle.elementary.specs.Ops.{_⊖_, _⊗_, _⊘_, +0}
+use Rattle.elementary.specs.Rules.{rules-0}
+use Rattle.elementary.specs.Methods.{maxOf}
+use Rattle.prices.specs.Inputs.{negated}
+use Rattle.solver.specs.RuleSets.{rule-set-0}
+use Rattle.solver.specs.Guess.{normalisedBegun}
+use Rattle.solver.specs.Solve.{overExpiry, acceptedBegun}
 use borrow.Author.Needs.{needs}
 use Rattle.solver.proofs.solve.accepted_start.Statement.{statement}
 use Rattle.solver.proofs.solve.accepted_start.Tie as tie
@@ -12,14 +21,14 @@ max-requires c κs = search needs
 
 returns : tie.Need-returns
 unfolding acceptedBegun
-returns c = rw (← c .before .before .times .ensures, ← c .before .max .ensures, c .if1 .taken)
+returns c = rw (← c .before .before .times .ensures, ← c .before .max .ensures, c .if1 .taken) (record { begun = refl; shared = tt })
 
 max-price-requires : tie.Need-max-price-requires
 max-price-requires c κs = search needs
 
 returns-2 : tie.Need-returns-2
 unfolding acceptedBegun
-returns-2 c = rw (← c .before .before .before .before .times .ensures, ← c .before .before .before .max .ensures, c .before .before .if1 .left, ← c .before .max-price .ensures, c .if2 .taken)
+returns-2 c = rw (← c .before .before .before .before .times .ensures, ← c .before .before .before .max .ensures, c .before .before .if1 .left, ← c .before .max-price .ensures, c .if2 .taken) (record { begun = refl; shared = tt })
 
 ln-requires : tie.Need-ln-requires
 ln-requires c κs = search needs
@@ -43,47 +52,41 @@ normalised-start-requires : tie.Need-normalised-start-requires
 normalised-start-requires c κs = search needs
 
 over-expiry-requires : tie.Need-over-expiry-requires
-over-expiry-requires c κs = search needs
+over-expiry-requires c κs = c .normalised-start .ensures .shared
+
+-- x and both roots, from where both ways go on
+guessed : (c : tie.After-times2) →
+    let at-ln = c .before .before .before in
+    let at-max = at-ln .before .before .before .before in
+    let a = at-max .before .before .args in
+    let x = at-ln .ln .result in
+    let root = c .before .before .sqrt .result ⊗ c .before .sqrt2 .result in
+    let mapped = maxOf (a .price ⊖ at-max .max .result) +0 ⊘ root in
+    acceptedBegun rule-set-0 (a .price) (a .forward) (a .strike) (a .expiry) (a .option-type)
+    ≡ cond (lt +0 (c .times2 .result)) (overExpiry (a .expiry) (normalisedBegun rules-0 mapped x (negated (a .option-type)))) (overExpiry (a .expiry) (normalisedBegun rules-0 (a .price ⊘ root) x (a .option-type)))
+unfolding acceptedBegun
+guessed c =
+    let at-ln = c .before .before .before in
+    let at-if2 = at-ln .before in
+    let at-if1 = at-if2 .before .before in
+    rw (← at-if1 .before .before .times .ensures, ← at-if1 .before .max .ensures, at-if1 .if1 .left, ← at-if2 .before .max-price .ensures, at-if2 .if2 .left, ← at-ln .ln .ensures, ← c .before .before .sqrt .ensures, ← c .before .sqrt2 .ensures, ← c .times2 .ensures)
 
 returns-3 : tie.Need-returns-3
-unfolding acceptedBegun
 returns-3 c =
-    let at-start = c .before in
-    let at-neg = at-start .before in
-    let at-max2 = at-neg .before in
-    let at-if3 = at-max2 .before in
-    let at-times2 = at-if3 .before in
-    let at-sqrt2 = at-times2 .before in
-    let at-sqrt = at-sqrt2 .before in
-    let at-ln = at-sqrt .before in
-    let at-if2 = at-ln .before in
-    let at-cap = at-if2 .before in
-    let at-if1 = at-cap .before in
-    let at-max = at-if1 .before in
-    let at-times = at-max .before in
-    rw (← at-times .times .ensures, ← at-max .max .ensures, at-if1 .if1 .left, ← at-cap .max-price .ensures, at-if2 .if2 .left, ← at-ln .ln .ensures, ← at-sqrt .sqrt .ensures, ← at-sqrt2 .sqrt2 .ensures, ← at-times2 .times2 .ensures, at-if3 .if3 .taken, ← at-max2 .max2 .ensures, ← at-neg .neg .ensures, ← at-start .normalised-start .ensures) (c .over-expiry .ensures)
+    let at-neg = c .before .before in
+    let at-if3 = at-neg .before .before in
+    rw (guessed (at-if3 .before), at-if3 .if3 .taken, ← at-neg .before .max2 .ensures, ← at-neg .neg .ensures, ← c .before .normalised-start .ensures .begun) (c .over-expiry .ensures)
 
 normalised-start-requires-2 : tie.Need-normalised-start-requires-2
 normalised-start-requires-2 c κs = search needs
 
 over-expiry-requires-2 : tie.Need-over-expiry-requires-2
-over-expiry-requires-2 c κs = search needs
+over-expiry-requires-2 c κs = c .normalised-start2 .ensures .shared
 
 returns-4 : tie.Need-returns-4
-unfolding acceptedBegun
 returns-4 c =
-    let at-start = c .before in
-    let at-if3 = at-start .before in
-    let at-times2 = at-if3 .before in
-    let at-sqrt2 = at-times2 .before in
-    let at-sqrt = at-sqrt2 .before in
-    let at-ln = at-sqrt .before in
-    let at-if2 = at-ln .before in
-    let at-cap = at-if2 .before in
-    let at-if1 = at-cap .before in
-    let at-max = at-if1 .before in
-    let at-times = at-max .before in
-    rw (← at-times .times .ensures, ← at-max .max .ensures, at-if1 .if1 .left, ← at-cap .max-price .ensures, at-if2 .if2 .left, ← at-ln .ln .ensures, ← at-sqrt .sqrt .ensures, ← at-sqrt2 .sqrt2 .ensures, ← at-times2 .times2 .ensures, at-if3 .if3 .left, ← at-start .normalised-start2 .ensures) (c .over-expiry2 .ensures)
+    let at-if3 = c .before .before in
+    rw (guessed (at-if3 .before), at-if3 .if3 .left, ← c .before .normalised-start2 .ensures .begun) (c .over-expiry2 .ensures)
 
 pub accepted-start-spec : {M : Type 1} → statement M
 accepted-start-spec =

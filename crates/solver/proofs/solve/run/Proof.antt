@@ -18,10 +18,10 @@ use Rattle.solver.proofs.solve.run.Statement.{statement}
 use Rattle.solver.proofs.solve.run.Tie as tie
 
 abbrev Inv-loop : tie.InvT-loop
-Inv-loop branch b-max x beta root limit trail₀ keep st₀ steps₀ trail st steps = Reached (nextBy (branchStep rules-0 branch b-max x beta)) limit keep st₀ trail₀ trail st steps
+Inv-loop branch m root limit trail₀ keep st₀ steps₀ trail st steps = Reached (nextBy (branchStep rules-0 branch (m .«b_max») (m .x) (m .beta))) limit keep st₀ trail₀ trail st steps
 
 abbrev μ-loop : tie.MeasureT-loop
-μ-loop branch b-max x beta root limit trail₀ keep st₀ steps₀ trail st steps = limit - steps
+μ-loop branch m root limit trail₀ keep st₀ steps₀ trail st steps = limit - steps
 
 loop-holds : tie.Need-loop-holds Inv-loop μ-loop
 loop-holds c = record { rs = []; count = refl; within = omega arith; rest = let k : c .before .args .limit - 0 ≡ c .before .args .limit = omega arith in rw k; wrote = none-wrote (c .before .args .keep) _; long = refl }
@@ -30,14 +30,14 @@ is-close-requires : tie.Need-is-close-requires Inv-loop μ-loop
 is-close-requires c κs = search needs
 
 step-requires : tie.Need-step-requires Inv-loop μ-loop
-step-requires c κs = search needs
+step-requires c κs = c .before .before .before .before .before .pre .0
 
 enum-known-next : tie.Need-enum-known-next Inv-loop μ-loop
 enum-known-next c = search needs
 
 -- where a trail is kept there is room for one record more
 room : (c : tie.Then3 Inv-loop μ-loop) → c .before .before .before .before .before .before .before .before .loop .steps * 48 + 48 ≤ length (c .before .before .before .before .before .before .before .before .loop .trail)
-room c = omega (arith, c .before .before .before .before .before .before .before .before .before .before .pre (c .if3 .taken))
+room c = omega (arith, c .before .before .before .before .before .before .before .before .before .before .pre .1 (c .if3 .taken))
 
 cast-at : tie.Need-cast-at Inv-loop μ-loop
 cast-at c = search needs
@@ -74,7 +74,7 @@ loop-again c =
     let at = room .before in
     let a = at .before .before .args in
     let inv = at .loop .inv in
-    let step-of : State → Stepped = branchStep rules-0 (a .branch) (a .b-max) (a .x) (a .beta) in
+    let step-of : State → Stepped = branchStep rules-0 (a .branch) (a .m .«b_max») (a .m .x) (a .m .beta) in
     let st′ = next .0 .0 in
     let r = next .0 .1 .0 in
     record {
@@ -103,7 +103,7 @@ returns c =
     let at = room .before in
     let a = at .before .before .args in
     let inv = at .loop .inv in
-    let step-of : State → Stepped = branchStep rules-0 (a .branch) (a .b-max) (a .x) (a .beta) in
+    let step-of : State → Stepped = branchStep rules-0 (a .branch) (a .m .«b_max») (a .m .x) (a .m .beta) in
     let n = c .before .n .given in
     let next = nextBy step-of in
     let w = run next (a .limit) (a .start) in
@@ -118,7 +118,7 @@ returns-2 c =
     let at = c .before .before .before in
     let a = at .before .before .args in
     let inv = at .loop .inv in
-    let step-of : State → Stepped = branchStep rules-0 (a .branch) (a .b-max) (a .x) (a .beta) in
+    let step-of : State → Stepped = branchStep rules-0 (a .branch) (a .m .«b_max») (a .m .x) (a .m .beta) in
     let next = nextBy step-of in
     let all = run next (a .limit) (a .start) in
     let st = at .loop .st in

@@ -47,9 +47,11 @@ sqrt-requires c κs = search needs
 
 run-requires : tie.Need-run-requires
 run-requires c κs =
-    let test = c .before .before .before .before .before .before in
+    let told = c .before .before .before in
+    let start = told .before .before in
+    let test = start .before in
     let a = test .before .before .before .before .args in
-    room (a .keep) (length (now (a .trail))) (a .limit) (came test)
+    (rw (told .branch .given .1) at (start .accepted-start .ensures .shared), room (a .keep) (length (now (a .trail))) (a .limit) (came test))
 
 returns-3 : tie.Need-returns-3
 unfolding solvingOf
@@ -57,7 +59,7 @@ returns-3 c =
     let start = c .before .before .before in
     let test = start .before in
     let a = test .before .before .before .before .args in
-    untouched _ _ (a .keep) (now (a .trail)) (by-start (a .keep) (length (now (a .trail))) (a .price) (a .forward) (a .strike) (a .expiry) (a .option-type) (a .limit) _ (test .before .before .input-number .ensures) (test .before .if1 .left) (long (a .keep) (length (now (a .trail))) (a .limit) (came test)) _ (start .accepted-start .ensures) _ (c .before .v .given .1))
+    untouched _ _ (a .keep) (now (a .trail)) (by-start (a .keep) (length (now (a .trail))) (a .price) (a .forward) (a .strike) (a .expiry) (a .option-type) (a .limit) _ (test .before .before .input-number .ensures) (test .before .if1 .left) (long (a .keep) (length (now (a .trail))) (a .limit) (came test)) _ (start .accepted-start .ensures .begun) _ (c .before .v .given .1))
 
 returns-4 : tie.Need-returns-4
 unfolding solvingOf
@@ -65,7 +67,7 @@ returns-4 c =
     let start = c .before .before .before in
     let test = start .before in
     let a = test .before .before .before .before .args in
-    untouched _ _ (a .keep) (now (a .trail)) (by-start (a .keep) (length (now (a .trail))) (a .price) (a .forward) (a .strike) (a .expiry) (a .option-type) (a .limit) _ (test .before .before .input-number .ensures) (test .before .if1 .left) (long (a .keep) (length (now (a .trail))) (a .limit) (came test)) _ (start .accepted-start .ensures) _ (c .before .n .given .1))
+    untouched _ _ (a .keep) (now (a .trail)) (by-start (a .keep) (length (now (a .trail))) (a .price) (a .forward) (a .strike) (a .expiry) (a .option-type) (a .limit) _ (test .before .before .input-number .ensures) (test .before .if1 .left) (long (a .keep) (length (now (a .trail))) (a .limit) (came test)) _ (start .accepted-start .ensures .begun) _ (c .before .n .given .1))
 
 same-length : tie.Need-same-length
 same-length c = search needs
@@ -80,7 +82,7 @@ returns-5 c =
     let test = start .before in
     let a = test .before .before .before .before .args in
     ran-on (a .keep) _ _ _ _ _
-    (by-start (a .keep) (length (now (a .trail))) (a .price) (a .forward) (a .strike) (a .expiry) (a .option-type) (a .limit) _ (test .before .before .input-number .ensures) (test .before .if1 .left) (long (a .keep) (length (now (a .trail))) (a .limit) (came test)) _ (start .accepted-start .ensures) _ (told .branch .given .1))
+    (by-start (a .keep) (length (now (a .trail))) (a .price) (a .forward) (a .strike) (a .expiry) (a .option-type) (a .limit) _ (test .before .before .input-number .ensures) (test .before .if1 .left) (long (a .keep) (length (now (a .trail))) (a .limit) (came test)) _ (start .accepted-start .ensures .begun) _ (told .branch .given .1))
     (rw (root .sqrt .ensures) at (call .run .ensures))
 
 pub solve-spec : {M : Type 1} → statement M

@@ -1,0 +1,17 @@
+-- `market::priced` meets its contract: the exponentials are those of x. Assumes nothing.
+use Rattle.elementary.specs.Rules.{rules-0}
+use Rattle.prices.specs.Exponentials.{at-own-exponentials}
+use borrow.Author.Needs.{needs}
+use Rattle.solver.proofs.market.priced.Statement.{statement}
+use Rattle.solver.proofs.market.priced.Tie as tie
+
+price-and-vega-requires : tie.Need-price-and-vega-requires
+price-and-vega-requires c κs = search needs
+
+returns : tie.Need-returns
+returns c =
+    let shared = c .before .pre in
+    rw (← at-own-exponentials rules-0 (c .before .args .m .x) (c .before .args .s), ← shared .up-is, ← shared .down-is) (c .price-and-vega .ensures)
+
+pub priced-spec : {M : Type 1} → statement M
+priced-spec = tie.close (tie.spec price-and-vega-requires returns)

@@ -1,0 +1,23 @@
+-- The exponentials that the code hands along with x, and what it yields where a run begins. Definitions only.
+use mathlib.Core.Path.{_≡_}
+use Rattle.elementary.specs.Rules.{Rules}
+use Rattle.prices.specs.Black.{upOf, downOf}
+use Rattle.solver.specs.declared.market.Market.{Market}
+use Rattle.solver.specs.declared.state.Start.{Start}
+use Rattle.solver.specs.declared.state.Start.the-variants.{Answered, Stopped, Looping}
+use Rattle.solver.specs.Guess.{Begun, begunFrom}
+
+-- b_max and down are the exponentials of x / 2 and −x / 2
+pub record Shared (m : Market) : Type 0 where
+  pub up-is : m .«b_max» ≡ upOf (m .x)
+  pub down-is : m .down ≡ downOf (m .x)
+
+abbrev pub SharedIn : Start → Type 0
+SharedIn (Answered v) = Unit
+SharedIn (Stopped n) = Unit
+SharedIn (Looping branch m st) = Shared m
+
+-- the code's start says what b says, and a loop's exponentials are those of its x
+pub record Begins (rules : Rules) (start : Start) (b : Begun) : Type 0 where
+  pub begun : begunFrom rules start ≡ b
+  pub shared : SharedIn start
