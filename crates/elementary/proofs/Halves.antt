@@ -1,29 +1,15 @@
 -- A fraction to the nearest whole number, from its double cut to a whole number. Assumes nothing.
-use mathlib.Core.Path.{_≡_, sym, ap, _∙_, subst}
+use mathlib.Core.Path.{_≡_, sym, ap, _∙_}
 use mathlib.Core.Logic.{inl, inr}
 use mathlib.Core.Bool.{not}
-use Prim.Native.Nat.{ℕ, zero, suc, _+_, _-_, _*_, _/_, _%_, _≤_, _<_, compare, Ordering, Ordering·lt, Ordering·eq, Ordering·gt}
+use Prim.Native.Nat.{ℕ, zero, suc, _+_, _-_, _*_, _/_, _%_, _<_, compare, Ordering, Ordering·lt, Ordering·eq, Ordering·gt}
 use native.Mathlib.Nat.{div-add-mod', add-mul, mul-right-comm, suc-mul, add-assoc, mod-lt, eq-zero-or-pos, add-zero}
 use native.Mathlib.Omega.{arith}
-use lib.Dec.{T, isLe, isEq, eqb, leb→le, nleb→lt, eqb→eq, eqb-refl}
-use lib.Arith.{lt-of-le-ne, digits-div, digits-mod}
+use lib.Arith.{digits-div, digits-mod}
 use lib.Ieee.{nearest}
 use lib.Ieee.Nearest.{closest}
+use Rattle.elementary.specs.Ordering.{Cmp, cmp}
 use Rattle.elementary.specs.Round.{Halved}
-
--- what a comparison says
-abbrev pub Cmp : Ordering → ℕ → ℕ → Type 0
-Cmp Ordering·lt a b = a < b
-Cmp Ordering·eq a b = a ≡ b
-Cmp Ordering·gt a b = b < a
-
-pub cmp : (a b : ℕ) → Cmp (compare a b) a b
-cmp a b = go (compare a b) (leb→le a b) (nleb→lt a b) (eqb→eq a b) (λ (e : a ≡ b). subst (λ (x : ℕ). T (eqb a x)) e (eqb-refl a))
-  where
-    go : (o : Ordering) → (T (isLe o) → a ≤ b) → (T (not (isLe o)) → b < a) → (T (isEq o) → a ≡ b) → (a ≡ b → T (isEq o)) → Cmp o a b
-    go Ordering·lt h k e n = lt-of-le-ne (h tt) n
-    go Ordering·eq h k e n = e tt
-    go Ordering·gt h k e n = k tt
 
 double : (a b : ℕ) → a * 2 ≡ a / b * 2 * b + a % b * 2
 double a b = ap (λ (z : ℕ). z * 2) (sym (div-add-mod' a b)) ∙ add-mul (a / b * b) (a % b) 2 ∙ ap (λ (z : ℕ). z + a % b * 2) (mul-right-comm (a / b) b 2)

@@ -15,6 +15,7 @@ pub mod Each
 pub mod Turns
 -- Theorems about the definitions, and the laws behind them.
 pub mod Powers
+pub mod Ordering
 pub mod Held
 pub mod Order
 pub mod Compare

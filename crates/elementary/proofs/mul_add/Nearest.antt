@@ -10,7 +10,7 @@ use lib.Ieee.{size, nearest, units}
 use lib.Ieee.Digits.{size-lt, size-le, size-reaches}
 use lib.Ieee.Fits.{nearest-le}
 use lib.Ieee.Nearest.{closest}
-use Rattle.elementary.proofs.Halves.{Cmp, cmp}
+use Rattle.elementary.specs.Ordering.{Cmp, cmp}
 use Rattle.elementary.proofs.Adding.{sub-mul}
 
 -- ---- off by a half at most

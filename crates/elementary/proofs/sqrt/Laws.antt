@@ -18,7 +18,8 @@ use lib.Ieee.Fits.{down-pos}
 use lib.Ieee.Exact.{HasValue, units-val}
 use lib.Ieee.Bits.{is-false, ofBits-fits}
 use Rattle.elementary.specs.Sqrt.{isqrt, roundRoot, sqrtOf}
-use Rattle.elementary.specs.Sqrt.Nearest.{Cmp, cmp, units-of, units-fits}
+use Rattle.elementary.specs.Ordering.{Cmp, cmp}
+use Rattle.elementary.specs.Sqrt.Nearest.{units-of, units-fits}
 use Rattle.elementary.specs.Sqrt.Isqrt.{Root, sq-lt, sq-suc, sq-twice, isqrt-root}
 use Rattle.elementary.proofs.Bits.{nan-pattern, no-nan-pattern}
 use Rattle.elementary.proofs.Values.{recast, value-low, value-mid, value-inf, value-packed, value-unique}

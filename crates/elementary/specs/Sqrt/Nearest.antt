@@ -10,8 +10,7 @@ use native.Mathlib.Decide.{decLe}
 use native.Mathlib.Numerals.{add-one}
 use native.Mathlib.Omega.{arith}
 use lib.IntN.{ℤ, pos, negsuc}
-use lib.Dec.{T, ltb, eqb, isLe, isEq, leb→le, nleb→lt, lt→ltb, eqb→eq, eqb-refl}
-use lib.Arith.{lt-of-le-ne}
+use lib.Dec.{T, ltb, lt→ltb}
 use lib.Pow.{pow-add, pow-pos, pow-mono, pow-lt, shl-lt}
 use lib.Ieee.{Float, nan, inf, fin, Format, prec, emax, low, up, down, size, nearest, units, fits, hid, ofBits, toBits}
 use lib.Ieee.Digits.{size-lt, size-le, size-reaches}
@@ -22,6 +21,7 @@ use lib.Ieee.Bits.{is-true, ofBits-toBits}
 use lib.Ieee.Positive.{positive, positive-of-value}
 use Rattle.elementary.specs.Powers.{pow-le-back, pow-split}
 use Rattle.elementary.specs.Held.{holds}
+use Rattle.elementary.specs.Ordering.{Cmp, cmp}
 use Rattle.elementary.specs.Sqrt.{isqrt, roundRoot, inUnits, sqrtOf}
 use Rattle.elementary.specs.Sqrt.Isqrt.{sq-lt, sq-suc, sq-twice, isqrt-root}
 
@@ -60,20 +60,6 @@ module _ (m a b : ℕ) where
       (e ∙ ap (λ (z : ℕ). m * 2 ^ z) c ∙ rw (pow-add 2 (suc (b - suc a)) a) (sym (mul-assoc m (2 ^ suc (b - suc a)) (2 ^ a)))) in
       let j : m * 2 ^ suc (b - suc a) ≡ m * 2 ^ (b - suc a) * 2 = rw (pow-suc 2 (b - suc a)) (sym (mul-assoc m (2 ^ (b - suc a)) 2)) in
       omega (arith, ap (λ (z : ℕ). z * z) (add-one (2 * q)), sq-suc (2 * q), sq-twice q)
-
--- ---- what `compare` says
-abbrev pub Cmp : Ordering → ℕ → ℕ → Type 0
-Cmp Ordering·lt a b = a < b
-Cmp Ordering·eq a b = a ≡ b
-Cmp Ordering·gt a b = b < a
-
-pub cmp : (a b : ℕ) → Cmp (compare a b) a b
-cmp a b = go (compare a b) (leb→le a b) (nleb→lt a b) (eqb→eq a b) (λ (e : a ≡ b). subst (λ (x : ℕ). T (eqb a x)) e (eqb-refl a))
-  where
-    go : (o : Ordering) → (T (isLe o) → a ≤ b) → (T (not (isLe o)) → b < a) → (T (isEq o) → a ≡ b) → (a ≡ b → T (isEq o)) → Cmp o a b
-    go Ordering·lt h k e n = lt-of-le-ne (h tt) n
-    go Ordering·eq h k e n = e tt
-    go Ordering·gt h k e n = k tt
 
 root-pos : (w n : ℕ) → 0 < n → n < suc w * suc w → 0 < w
 root-pos zero n p h = omega arith
