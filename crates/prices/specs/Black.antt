@@ -68,6 +68,7 @@ codysWith rules up down x s =
     let t = half ⊗ s in
     maxOf (half ⊗ twoBWith rules up down (bell h t) (MINUS-FRAC ⊗ (h ⊕ t)) (MINUS-FRAC ⊗ (h ⊖ t))) +0
 
+-- the same at the exponentials of x
 unfoldable pub codysOf : Rules → Float → Float → Float
 codysOf rules x s = codysWith rules (upOf x) (downOf x) x s
 
@@ -183,6 +184,7 @@ outOfTheMoneyWith rules up down x s =
     let intrinsic = Value (intrinsicOf x Call) in
     cond (le s (absOf x ⊗ +0)) intrinsic region
 
+-- the same at the exponentials of x
 unfoldable pub outOfTheMoney : Rules → Float → Float → Answer
 outOfTheMoney rules x s = outOfTheMoneyWith rules (upOf x) (downOf x) x s
 

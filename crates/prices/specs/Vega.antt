@@ -20,6 +20,7 @@ SQRT-DBL-MIN = bits 0x2000_0000_0000_0000
 abbrev pub eighth : Float
 eighth = bits 0x3fc0_0000_0000_0000
 
+-- where x is 0
 abbrev pub atTheMoney : Float → Float
 atTheMoney s = ONE-OVER-SQRT-TWO-PI ⊗ expOf (neg eighth ⊗ s ⊗ s)
 

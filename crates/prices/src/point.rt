@@ -30,6 +30,7 @@ pub struct PriceAndVega {
     pub vega: f64,
 }
 
+// A price, with no number.
 fn priced(price: f64, vega: f64) -> PriceAndVega
     ensures { λ r. ⌜ r ≡ toldOf (Value price) vega ⌝ }
 {
@@ -40,6 +41,7 @@ fn priced(price: f64, vega: f64) -> PriceAndVega
     }
 }
 
+// What an answer says, beside a vega.
 fn told(answer: Answer, vega: f64) -> PriceAndVega
     ensures { λ r. ⌜ r ≡ toldOf answer vega ⌝ }
 {
@@ -53,6 +55,7 @@ fn told(answer: Answer, vega: f64) -> PriceAndVega
     }
 }
 
+// Outside of the expansion's own region 7.
 fn in_asymptotic_region(h: f64, t: f64, vega: f64) -> PriceAndVega
     ensures { λ r. ⌜ r ≡ toldOf (asymptoticOf h t) vega ⌝ }
 {
@@ -66,6 +69,7 @@ fn in_asymptotic_region(h: f64, t: f64, vega: f64) -> PriceAndVega
     priced(asymptotic(h, t), vega)
 }
 
+// The three regions of normalised_black_call.
 fn in_region(x: f64, s: f64, up: f64, down: f64, exp_term: f64, vega: f64) -> PriceAndVega
     requires { ⌜ «exp_term» ≡ bellOf (x ⊘ s) (half ⊗ s) ⌝ }
     ensures { λ r. ⌜ r ≡ toldOf (regionWith rules-0 up down x s) vega ⌝ }
@@ -83,6 +87,7 @@ fn in_region(x: f64, s: f64, up: f64, down: f64, exp_term: f64, vega: f64) -> Pr
     priced(codys(up, down, exp_term, q1, q2), vega)
 }
 
+// Where sigma is 0 or below, the intrinsic value.
 fn out_of_the_money(x: f64, s: f64, up: f64, down: f64, exp_term: f64, vega: f64) -> PriceAndVega
     requires { ⌜ «exp_term» ≡ bellOf (x ⊘ s) (half ⊗ s) ⌝ }
     ensures { λ r. ⌜ r ≡ toldOf (outOfTheMoneyWith rules-0 up down x s) vega ⌝ }

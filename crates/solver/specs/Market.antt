@@ -12,6 +12,7 @@ pub record Shared (m : Market) : Type 0 where
   pub up-is : m .«b_max» ≡ upOf (m .x)
   pub down-is : m .down ≡ downOf (m .x)
 
+-- the same of the market that a start holds, if any
 abbrev pub SharedIn : Start → Type 0
 SharedIn (Answered v) = Unit
 SharedIn (Stopped n) = Unit
