@@ -1,2 +1,1 @@
--- Laws that the proofs of several functions use.
-pub mod ByKind
+pub mod Laws

@@ -4,30 +4,27 @@ use mathlib.Core.List.{List, [], _∷_}
 use Prim.Native.Nat.{ℕ}
 use lib.ListN.{getD}
 use lib.Ieee.{Float, binary64, neg, lt, le}
-use Rattle.elementary.specs.Ops.{_⊕_, _⊖_, _⊗_, _⊘_, bits, +0, one, two, MAX}
+use Rattle.elementary.specs.Ops.{_⊕_, _⊖_, _⊗_, _⊘_, bits, +0, one, two, MAX, four, sixteen}
 use Rattle.elementary.specs.Rules.{Rules}
 use Rattle.elementary.specs.Methods.{absOf}
 use Rattle.elementary.specs.Floor.{floorOf}
 use Rattle.elementary.specs.Exp.{expOf}
 
+-- 1 / √π
 abbrev pub FRAC-1-SQRT-PI : Float
-FRAC-1-SQRT-PI = bits 0x3fe2_0dd7_5042_9b6d
+FRAC-1-SQRT-PI = bits 0x3fe2_0dd7_5042_9b6d  -- 0.5641895835477563
 
--- 0.46875, −26.6287357137514, 26.543
+-- where the three arms meet
 abbrev pub THRESHOLD : Float
-THRESHOLD = bits 0x3fde_0000_0000_0000
+THRESHOLD = bits 0x3fde_0000_0000_0000  -- 0.46875
 
+-- below it erfcx is f64::MAX
 abbrev pub XNEG : Float
-XNEG = bits 0xc03a_a0f4_d2e0_63b5
+XNEG = bits 0xc03a_a0f4_d2e0_63b5  -- −26.6287357137514
 
+-- from it on erfc is its far arm
 abbrev pub XBIG : Float
-XBIG = bits 0x403a_8b02_0c49_ba5e
-
-abbrev pub four : Float
-four = bits 0x4010_0000_0000_0000
-
-abbrev pub sixteen : Float
-sixteen = bits 0x4030_0000_0000_0000
+XBIG = bits 0x403a_8b02_0c49_ba5e  -- 26.543
 
 -- Cody's six tables, by index
 abbrev at : List ℕ → ℕ → Float
@@ -106,25 +103,31 @@ tildeOf y = dIntOf (y ⊗ sixteen) ⊘ sixteen
 abbrev pub negativeSquare : Float → Float
 negativeSquare t = neg t ⊗ t
 
+-- the second of them
 abbrev pub negativeRest : Float → Float
 negativeRest y = neg (y ⊖ tildeOf y) ⊗ (y ⊕ tildeOf y)
 
+-- exp(−y²), in two factors of which the first is exact in its argument
 unfoldable pub smoothenedExponentialOfNegativeSquare : Float → Float
 smoothenedExponentialOfNegativeSquare y = expOf (negativeSquare (tildeOf y)) ⊗ expOf (negativeRest y)
 
+-- exp(x²), the same way
 unfoldable pub smoothenedExponentialOfPositiveSquare : Float → Float
 smoothenedExponentialOfPositiveSquare x = expOf (tildeOf x ⊗ tildeOf x) ⊗ expOf ((x ⊖ tildeOf x) ⊗ (x ⊕ tildeOf x))
 
+-- the rational of the centre, over A and B
 abbrev pub abOf : Float → Float
 abOf z =
     ((((A 4 ⊗ z ⊕ A 0) ⊗ z ⊕ A 1) ⊗ z ⊕ A 2) ⊗ z ⊕ A 3)
     ⊘ ((((z ⊕ B 0) ⊗ z ⊕ B 1) ⊗ z ⊕ B 2) ⊗ z ⊕ B 3)
 
+-- up to 4, over C and D
 abbrev pub cdOf : Float → Float
 cdOf y =
     ((((((((C 8 ⊗ y ⊕ C 0) ⊗ y ⊕ C 1) ⊗ y ⊕ C 2) ⊗ y ⊕ C 3) ⊗ y ⊕ C 4) ⊗ y ⊕ C 5) ⊗ y ⊕ C 6) ⊗ y ⊕ C 7)
     ⊘ ((((((((y ⊕ D 0) ⊗ y ⊕ D 1) ⊗ y ⊕ D 2) ⊗ y ⊕ D 3) ⊗ y ⊕ D 4) ⊗ y ⊕ D 5) ⊗ y ⊕ D 6) ⊗ y ⊕ D 7)
 
+-- above 4, over P and Q
 abbrev pub pqOf : Float → Float
 pqOf z =
     z ⊗ (((((P 5 ⊗ z ⊕ P 0) ⊗ z ⊕ P 1) ⊗ z ⊕ P 2) ⊗ z ⊕ P 3) ⊗ z ⊕ P 4)
@@ -145,6 +148,7 @@ erfcAbs rules y =
     let near = erfcxAboveThreshold y ⊗ factor in
     cond (le XBIG y) far near
 
+-- erfc
 unfoldable pub erfcOf : Rules → Float → Float
 erfcOf rules x =
     let y = absOf x in
@@ -153,6 +157,7 @@ erfcOf rules x =
     let turned = two ⊖ outside in
     cond (le y THRESHOLD) centre (cond (lt x +0) turned outside)
 
+-- erfcx
 unfoldable pub erfcxOf : Float → Float
 erfcxOf x =
     let y = absOf x in

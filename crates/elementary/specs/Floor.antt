@@ -1,7 +1,4 @@
 -- IEEE 754's roundToIntegralTowardNegative over the values of `lib.Ieee`. Definitions only.
--- `Greatest` has that the result is the greatest whole number not above x, `Examples` closed cases.
-pub mod Greatest
-pub mod Examples
 use mathlib.Core.Bool.{Bool, cond}
 use Prim.Native.Nat.{ℕ, _+_, _-_, _*_, _/_}
 use lib.Ieee.{Float, nan, inf, fin, Format, up, down, round}

@@ -1,4 +1,4 @@
--- Definitions, by the file of the Rust that they follow, and the rules of document 01 for what the Rust gets from elsewhere.
+-- Rules: what a reader believes. By the file of the Rust that they follow, and document 01's for what the Rust gets from elsewhere.
 pub mod Ops
 pub mod Rules
 pub mod Methods
@@ -9,16 +9,5 @@ pub mod Exp
 pub mod Ln
 pub mod Cody
 pub mod NormalDistribution
--- What the contracts of the rounding leaf, of eight side by side and of the bisection say.
-pub mod Round
-pub mod Each
-pub mod Turns
--- Theorems about the definitions, and the laws behind them.
-pub mod Powers
-pub mod Ordering
-pub mod Held
-pub mod Order
-pub mod Compare
-pub mod Bounds
-pub mod Finite
-pub mod Inverse
+-- Words of private contracts: what functions inside the crate say of each other.
+pub mod Inside

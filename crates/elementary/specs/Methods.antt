@@ -1,6 +1,4 @@
 -- The small methods of f64: abs, max, is_zero, powi(2). Definitions only.
--- `Examples` has closed cases.
-pub mod Examples
 use mathlib.Core.Bool.{Bool, false, cond}
 use lib.Ieee.{Float, nan, inf, fin, lt, eq, ne}
 use Rattle.elementary.specs.Ops.{_⊗_, +0}

@@ -7,9 +7,11 @@ use Rattle.elementary.specs.Rules.{Rules}
 use Rattle.elementary.specs.Methods.{absOf}
 use Rattle.elementary.specs.Cody.{erfcOf}
 
+-- 1 / √2, std's
 abbrev pub FRAC-1-SQRT-2 : Float
-FRAC-1-SQRT-2 = bits 0x3fe6_a09e_667f_3bcd
+FRAC-1-SQRT-2 = bits 0x3fe6_a09e_667f_3bcd  -- 0.7071067811865476
 
+-- the cdf
 unfoldable pub cdfOf : Rules → Float → Float
 cdfOf rules y = half ⊗ erfcOf rules (neg y ⊗ FRAC-1-SQRT-2)
 
@@ -19,10 +21,12 @@ sizeOf y = absOf (neg y ⊗ FRAC-1-SQRT-2)
 
 -- ---- the bisection behind the inverse, over any cdf
 
+-- the two ends between which the result lies
 pub record Ends : Type 0 where
   pub lo : Float
   pub hi : Float
 
+-- the middle
 abbrev pub midOf : Float → Float → Float
 midOf lo hi = half ⊗ (lo ⊕ hi)
 
@@ -34,19 +38,26 @@ bisected cdf (suc n) p lo hi =
     let below = lt (cdf mid) p in
     bisected cdf n p (cond below mid lo) (cond below hi mid)
 
--- −39 and 39
+-- the first ends
 abbrev pub lowest : Float
-lowest = neg (bits 0x4043_8000_0000_0000)
+lowest = neg (bits 0x4043_8000_0000_0000)  -- −39
 
 abbrev pub highest : Float
-highest = bits 0x4043_8000_0000_0000
+highest = bits 0x4043_8000_0000_0000  -- 39
 
 -- the ends after the 64 turns
 unfoldable pub endsOf : Rules → Float → Ends
 endsOf rules p = bisected (cdfOf rules) 64 p lowest highest
 
+-- the inverse cdf
 unfoldable pub inverseOf : Rules → Float → Float
-inverseOf rules p = let inside = endsOf rules p .hi in cond (ne p p) nan (cond (le p +0) (inf true) (cond (le one p) (inf false) inside))
+inverseOf rules p =
+    let inside = endsOf rules p .hi in
+    cond (ne p p) nan
+    (cond (le p +0) (inf true)
+    (cond (le one p) (inf false)
+    inside))
 
+-- inverse_f_upper_map
 unfoldable pub inverseFUpperMapOf : Rules → Float → Float
 inverseFUpperMapOf rules f = neg two ⊗ inverseOf rules f

@@ -1,4 +1,4 @@
--- What a rule set (document 01's and 02's term) decides in this layer. The definitions that it reaches take it as an argument, so that a later rule
+-- What a rule set (document 02's term) decides in this layer. The definitions that it reaches take it as an argument, so that a later rule
 -- set is a further value and no further text. Definitions only.
 use mathlib.Core.Bool.{Bool, true}
 

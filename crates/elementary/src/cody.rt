@@ -8,7 +8,7 @@ ghost use mathlib.Core.Path.{_≡_};
 ghost use mathlib.Core.Bool.{true, cond};
 ghost use lib.Ieee.{lt};
 ghost use Rattle.elementary.specs.Ops.{_⊖_, _⊗_, +0, two};
-ghost use Rattle.elementary.specs.Each.{at, UpTo, Each};
+ghost use Rattle.elementary.specs.Inside.Each.{at, UpTo, Each};
 ghost use Rattle.elementary.specs.Rules.{rules-0};
 ghost use Rattle.elementary.specs.Methods.{absOf};
 ghost use Rattle.elementary.specs.Exp.{expOf};

@@ -8,10 +8,10 @@ ghost use mathlib.Core.Path.{_≡_};
 ghost use Prim.Native.Nat.{_≤_};
 ghost use lib.Ieee.{binary64, minus};
 ghost use Rattle.elementary.specs.Ops.{one};
-ghost use Rattle.elementary.specs.Each.{Each};
+ghost use Rattle.elementary.specs.Inside.Each.{Each};
 ghost use Rattle.elementary.specs.Exp as Exp;
-ghost use Rattle.elementary.specs.Exp.{Whole, Biased};
-ghost use Rattle.elementary.specs.Bounds.{AtMost};
+ghost use Rattle.elementary.specs.Inside.Exp.{Whole, Biased};
+ghost use Rattle.elementary.specs.Inside.Bounds.{AtMost};
 
 // `scaled` for any power of two: p is taken apart and its digits are rounded at their new place.
 fn far(p: f64, e: u64) -> f64

@@ -15,11 +15,11 @@ ghost use mathlib.Core.Bool.{true, false};
 ghost use Prim.Native.Nat.{_≤_, _<_};
 ghost use lib.Ieee.{lt};
 ghost use Rattle.elementary.specs.Rules.{rules-0};
-ghost use Rattle.elementary.specs.Each.{Each};
+ghost use Rattle.elementary.specs.Inside.Each.{Each};
 ghost use Rattle.elementary.specs.Exp.{expOf};
 ghost use Rattle.elementary.specs.Cody.{negativeSquare};
 ghost use Rattle.elementary.specs.NormalDistribution.{cdfOf, midOf, lowest, highest, endsOf};
-ghost use Rattle.elementary.specs.Turns.{After};
+ghost use Rattle.elementary.specs.Inside.Turns.{After};
 
 // The ends after i turns, and the cdf's values there.
 struct Ends {

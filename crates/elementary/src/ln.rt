@@ -9,14 +9,14 @@ ghost use mathlib.Core.Path.{_≡_};
 ghost use Prim.Native.Nat.{_≤_, _<_, _^_};
 ghost use lib.Dec.{T};
 ghost use lib.Ieee.Positive as Positive;
-ghost use Rattle.elementary.specs.Ops.{_⊘_, one, whole};
+ghost use Rattle.elementary.specs.Ops.{_⊘_, one, float};
 ghost use Rattle.elementary.specs.Ln.{exponentAt, lnSum, lnAt, lnInner, lnOf, cubeRootOf};
 
 const SQRT_2: f64 = 1.4142135623730951;
 
 // The sum of the series in z: 1/1 + z/3 + z^2/5 and so on to z^11/23.
 fn series(z: f64) -> f64
-    ensures { λ r. ⌜ r ≡ lnSum 11 z (one ⊘ whole 23) ⌝ }
+    ensures { λ r. ⌜ r ≡ lnSum 11 z (one ⊘ float 23) ⌝ }
 {
     let mut q = 1.0 / 23.0;
     let mut i: u64 = 11;

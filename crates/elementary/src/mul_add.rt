@@ -22,10 +22,10 @@ ghost use lib.Ieee as Ieee;
 ghost use lib.Ieee.{binary64, neg as negated, round, sum};
 ghost use lib.Ieee.Exact.{HasValue};
 ghost use lib.Ieee.Scale as Scale;
-ghost use Rattle.elementary.specs.Ops.{whole};
-ghost use Rattle.elementary.specs.Round.{wide, Same, Digits};
+ghost use Rattle.elementary.specs.Ops.{float};
+ghost use Rattle.elementary.specs.Inside.Round.{wide, Same, Digits};
 ghost use Rattle.elementary.specs.MulAdd.{fma};
-ghost use Rattle.elementary.specs.MulAdd.Steps.{Near, Far, Ordered, Both, Marked, Clear, Joined, Opened, Apart, Turned, Splits, Pinned, Usual};
+ghost use Rattle.elementary.specs.Inside.MulAdd.{Near, Far, Ordered, Both, Marked, Clear, Joined, Opened, Apart, Turned, Splits, Pinned, Usual};
 
 // The product of two numbers of at most 53 digits.
 fn product(a: u64, b: u64) -> Wide
@@ -534,7 +534,7 @@ fn splits(a: f64, p: u32, q: u32) -> bool
 // difference are exact, so that only the last sum rounds.
 fn split(a: f64, p: u32, q: u32) -> f64
     requires { ⌜ Splits a p q ⌝ }
-    ensures { λ r. ⌜ r ≡ fma binary64 a (whole p) (negated (whole q)) ⌝ }
+    ensures { λ r. ⌜ r ≡ fma binary64 a (float p) (negated (float q)) ⌝ }
 {
     let b = f64::to_bits(a);
     let high = f64::from_bits(b - b % 0x8000_0000);
@@ -544,7 +544,7 @@ fn split(a: f64, p: u32, q: u32) -> f64
 
 // a * p - q, rounded once: `mul_add` for whole numbers.
 pub fn mul_add_whole(a: f64, p: u32, q: u32) -> f64
-    ensures { λ r. ⌜ r ≡ fma binary64 a (whole p) (negated (whole q)) ⌝ }
+    ensures { λ r. ⌜ r ≡ fma binary64 a (float p) (negated (float q)) ⌝ }
 {
     if splits(a, p, q) {
         split(a, p, q)

@@ -5,7 +5,7 @@ use crate::cody::smoothened_exponentials_of_negative_squares;
 use crate::inverse::bisected;
 use crate::methods::abs;
 ghost use mathlib.Core.Path.{_≡_};
-ghost use Rattle.elementary.specs.Each.{Each};
+ghost use Rattle.elementary.specs.Inside.Each.{Each};
 ghost use Rattle.elementary.specs.Rules.{rules-0};
 ghost use Rattle.elementary.specs.Exp.{expOf};
 ghost use Rattle.elementary.specs.Cody.{negativeSquare};

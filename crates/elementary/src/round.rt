@@ -9,7 +9,7 @@ ghost use lib.Ieee as Ieee;
 ghost use lib.Ieee.{binary64, round};
 ghost use lib.Ieee.Exact.{HasValue};
 ghost use lib.Ieee.Scale as Scale;
-ghost use Rattle.elementary.specs.Round.{Halved, Any, Rounds, Lead, wide, Decoded, Lifted};
+ghost use Rattle.elementary.specs.Inside.Round.{Halved, Any, Rounds, Lead, wide, Decoded, Lifted};
 
 // Neither an infinity nor a NaN.
 pub(crate) fn finite(x: f64) -> bool

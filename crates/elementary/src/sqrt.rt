@@ -3,7 +3,7 @@ ghost use mathlib.Core.Path.{_≡_};
 ghost use Prim.Native.Nat.{_+_, _*_, _/_, _^_, _<_, _≤_};
 ghost use lib.Ieee.{binary64, ofBits};
 ghost use Rattle.elementary.specs.Sqrt.{sqrtOf, roundRoot};
-ghost use Rattle.elementary.specs.Sqrt.Isqrt.{Root};
+ghost use Rattle.elementary.specs.Inside.Sqrt.{Root};
 
 // A root with one digit more, in any base, as in long division. g is the root of the digits so far,
 // u what is left of them with the radicand's next digit, l the digit after. The quotient is the

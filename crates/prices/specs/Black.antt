@@ -2,11 +2,10 @@
 use mathlib.Core.Bool.{Bool, cond, _&&_, _||_}
 use Prim.Native.Nat.{ℕ, zero, suc}
 use lib.Ieee.{Float, binary64, neg, lt, le}
-use Rattle.elementary.specs.Ops.{_⊕_, _⊖_, _⊗_, _⊘_, bits, whole, +0, half, one, two}
+use Rattle.elementary.specs.Ops.{_⊕_, _⊖_, _⊗_, _⊘_, bits, float, +0, half, one, two, SQRT-2PI, mulAdd, MIN-POSITIVE, MAX}
 use Rattle.elementary.specs.Rules.{Rules}
 use Rattle.elementary.specs.Methods.{absOf, maxOf}
 use Rattle.elementary.specs.Sqrt.{sqrtOf}
-use Rattle.elementary.specs.MulAdd.{fma}
 use Rattle.elementary.specs.Exp.{expOf}
 use Rattle.elementary.specs.Ln.{lnOf}
 use Rattle.elementary.specs.Cody.{erfcOf, erfcxOf}
@@ -16,26 +15,23 @@ use Rattle.prices.specs.declared.answer.Answer.{Answer}
 use Rattle.prices.specs.declared.answer.Answer.the-variants.{Value, Refused}
 use Rattle.prices.specs.Inputs.{negated, times}
 use Rattle.prices.specs.Intrinsic.{intrinsicOf}
-use Rattle.prices.specs.Vega.{SQRT-2PI, ONE-OVER-SQRT-TWO-PI}
+use Rattle.prices.specs.Vega.{ONE-OVER-SQRT-TWO-PI}
 
--- −10, for H_LARGE and for ASYMPTOTIC_EXPANSION_ACCURACY_THRESHOLD
+-- for H_LARGE and for ASYMPTOTIC_EXPANSION_ACCURACY_THRESHOLD
 abbrev pub H-LARGE : Float
-H-LARGE = bits 0xc024_0000_0000_0000
+H-LARGE = bits 0xc024_0000_0000_0000  -- −10
 
--- 2 × 0.10566243270259357
+-- 2 × 0.10566243270259357, a bound on t
 abbrev pub SMALL-T : Float
-SMALL-T = bits 0x3fcb_0cb1_74df_99c8
+SMALL-T = bits 0x3fcb_0cb1_74df_99c8  -- 0.21132486540518713
 
--- 0.46875
+-- from it on erfcx stands for erfc
 abbrev pub CODYS-THRESHOLD : Float
-CODYS-THRESHOLD = bits 0x3fde_0000_0000_0000
+CODYS-THRESHOLD = bits 0x3fde_0000_0000_0000  -- 0.46875
 
 -- −FRAC_1_SQRT_2
 abbrev pub MINUS-FRAC : Float
-MINUS-FRAC = bits 0xbfe6_a09e_667f_3bcd
-
-abbrev pub mulAdd : Float → Float → Float → Float
-mulAdd a b c = fma binary64 a b c
+MINUS-FRAC = bits 0xbfe6_a09e_667f_3bcd  -- −0.7071067811865476
 
 -- ---- the three regions
 
@@ -80,30 +76,30 @@ abbrev pub turnBy : Float → Float → Float → Float → Float → Float
 turnBy a h2 sum p q = mulAdd h2 sum (mulAdd a p q)
 
 abbrev pub first : Float → Float → ℕ → Float
-first a h2 c = firstBy a h2 (whole c)
+first a h2 c = firstBy a h2 (float c)
 
 -- q is taken off
 abbrev pub turn : Float → Float → Float → ℕ → ℕ → Float
-turn a h2 sum p q = turnBy a h2 sum (whole p) (neg (whole q))
+turn a h2 sum p q = turnBy a h2 sum (float p) (neg (float q))
 
 unfoldable pub term1 : Float → Float → Float
-term1 a h2 = first a h2 3 ⊘ whole 6
+term1 a h2 = first a h2 3 ⊘ float 6
 
 unfoldable pub term2 : Float → Float → Float
-term2 a h2 = turn a h2 (first a h2 10) 15 7 ⊘ whole 120
+term2 a h2 = turn a h2 (first a h2 10) 15 7 ⊘ float 120
 
 unfoldable pub term3 : Float → Float → Float
-term3 a h2 = turn a h2 (turn a h2 (first a h2 21) 105 18) 105 57 ⊘ whole 5040
+term3 a h2 = turn a h2 (turn a h2 (first a h2 21) 105 18) 105 57 ⊘ float 5040
 
 unfoldable pub term4 : Float → Float → Float
-term4 a h2 = turn a h2 (turn a h2 (turn a h2 (first a h2 36) 378 33) 1260 285) 945 561 ⊘ whole 362880
+term4 a h2 = turn a h2 (turn a h2 (turn a h2 (first a h2 36) 378 33) 1260 285) 945 561 ⊘ float 362880
 
 unfoldable pub term5 : Float → Float → Float
-term5 a h2 = turn a h2 (turn a h2 (turn a h2 (turn a h2 (first a h2 55) 990 52) 6930 840) 17325 4680) 10395 6555 ⊘ whole 39916800
+term5 a h2 = turn a h2 (turn a h2 (turn a h2 (turn a h2 (first a h2 55) 990 52) 6930 840) 17325 4680) 10395 6555 ⊘ float 39916800
 
 unfoldable pub term6 : Float → Float → Float
 term6 a h2 =
-    turn a h2 (turn a h2 (turn a h2 (turn a h2 (turn a h2 (first a h2 78) 2145 75) 25740 1926) 135135 20370) 270270 82845) 135135 89055 ⊘ whole 6227020800
+    turn a h2 (turn a h2 (turn a h2 (turn a h2 (turn a h2 (first a h2 78) 2145 75) 25740 1926) 135135 20370) 270270 82845) 135135 89055 ⊘ float 6227020800
 
 -- the sum over the powers of t², from the smallest term
 unfoldable pub taylorOf : Float → Float → Float → Float
@@ -137,15 +133,15 @@ smallTOf h t = let inner = smallTInner h t in cond (le SMALL-T t) (Refused 8) (V
 unfoldable pub seriesTurns : ℕ → ℕ → Float → Float → Float → Float → Float
 seriesTurns zero i z2 y sign term = y
 seriesTurns (suc n) i z2 y sign term =
-    let factor = (two ⊗ whole i ⊕ two) ⊗ (two ⊗ whole i ⊕ whole 3) in
+    let factor = (two ⊗ float i ⊕ two) ⊗ (two ⊗ float i ⊕ float 3) in
     seriesTurns n (suc i) z2 (y ⊕ sign ⊗ term) (neg sign) (term ⊗ (z2 ⊘ factor))
 
 -- Y(z): 1/z − 1/z³ + 3/z⁵ and the 15 terms of i from 3 to 17
 unfoldable pub seriesOf : Float → Float
 seriesOf z =
     let z2 = z ⊗ z in
-    let y = one ⊘ z ⊖ one ⊘ (z2 ⊗ z) ⊕ whole 3 ⊘ (z2 ⊗ z2 ⊗ z) in
-    let term = one ⊘ (whole 15 ⊗ z2 ⊗ z2 ⊗ z) in
+    let y = one ⊘ z ⊖ one ⊘ (z2 ⊗ z) ⊕ float 3 ⊘ (z2 ⊗ z2 ⊗ z) in
+    let term = one ⊘ (float 15 ⊗ z2 ⊗ z2 ⊗ z) in
     seriesTurns 15 3 z2 y (neg one) term
 
 unfoldable pub asymptoticInner : Float → Float → Float
@@ -218,10 +214,10 @@ normalisedBlackOf rules x s kind = callOf rules (times kind x) s
 
 -- a positive normal finite number
 abbrev pub isPositiveNormal : Float → Bool
-isPositiveNormal x = le (bits 0x0010_0000_0000_0000) x && le x (bits 0x7fef_ffff_ffff_ffff)
+isPositiveNormal x = le MIN-POSITIVE x && le x MAX
 
 abbrev pub isFinite : Float → Bool
-isFinite x = le (neg (bits 0x7fef_ffff_ffff_ffff)) x && le x (bits 0x7fef_ffff_ffff_ffff)
+isFinite x = le (neg MAX) x && le x MAX
 
 -- the greater of an amount and a multiple of a value; a refusal passes up
 abbrev pub scaledUp : Float → Float → Answer → Answer

@@ -1,4 +1,4 @@
--- Definitions, by the file of the Rust that they follow.
+-- Rules: what a reader believes. By the file of the Rust that they follow.
 pub mod Inputs
 pub mod Answers
 pub mod Intrinsic
@@ -6,6 +6,3 @@ pub mod Vega
 pub mod Black
 pub mod Point
 pub mod RationalCubic
--- Theorems about the definitions.
-pub mod Refusals
-pub mod Exponentials

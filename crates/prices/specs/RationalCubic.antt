@@ -1,26 +1,19 @@
 -- rational_cubic.rs, operation by operation. Definitions only.
 use mathlib.Core.Bool.{Bool, false, not, cond, _&&_, _||_}
 use lib.Ieee.{Float, lt, le, eq, inf}
-use Rattle.elementary.specs.Ops.{_⊕_, _⊖_, _⊗_, _⊘_, bits, whole, +0, half, one}
+use Rattle.elementary.specs.Ops.{_⊕_, _⊖_, _⊗_, _⊘_, bits, float, +0, half, one, mulAdd, EPSILON, MIN}
 use Rattle.elementary.specs.Methods.{absOf, maxOf, isZero}
 use Rattle.prices.specs.declared.rational_cubic.Side.{Side}
 use Rattle.prices.specs.declared.rational_cubic.Side.the-variants.{Left, Right}
 use Rattle.prices.specs.declared.answer.Answer.{Answer}
 use Rattle.prices.specs.declared.answer.Answer.the-variants.{Value, Refused}
-use Rattle.prices.specs.Black.{mulAdd}
 
--- −(1 − 1.4901161193847656e-8), 2 / EPSILON², f64::EPSILON, and f64::MIN, which is −f64::MAX
+-- the least and the largest control parameter: −(1 − √EPSILON) and 2 / EPSILON²
 abbrev pub MINIMUM : Float
-MINIMUM = bits 0xbfef_ffff_f800_0000
+MINIMUM = bits 0xbfef_ffff_f800_0000  -- −0.9999999850988388
 
 abbrev pub MAXIMUM : Float
-MAXIMUM = bits 0x4680_0000_0000_0000
-
-abbrev pub EPSILON : Float
-EPSILON = bits 0x3cb0_0000_0000_0000
-
-abbrev pub MIN : Float
-MIN = bits 0xffef_ffff_ffff_ffff
+MAXIMUM = bits 0x4680_0000_0000_0000  -- 4.056481920730334e+31
 
 abbrev pub isInfinite : Float → Bool
 isInfinite x = eq (absOf x) (inf false)
@@ -32,7 +25,7 @@ curveOf h t y-l y-r d-l d-r r =
     let t2 = t ⊗ t in
     let omt2 = omt ⊗ omt in
     let numerator = y-r ⊗ t2 ⊗ t ⊕ (r ⊗ y-r ⊖ h ⊗ d-r) ⊗ t2 ⊗ omt ⊕ (r ⊗ y-l ⊕ h ⊗ d-l) ⊗ t ⊗ omt2 ⊕ y-l ⊗ omt2 ⊗ omt in
-    let denominator = one ⊕ (r ⊖ whole 3) ⊗ t ⊗ omt in
+    let denominator = one ⊕ (r ⊖ float 3) ⊗ t ⊗ omt in
     let straight = mulAdd y-r t (y-l ⊗ omt) in
     let curved = numerator ⊘ denominator in
     cond (lt r MAXIMUM) curved straight

@@ -1,24 +1,17 @@
 -- `normalised_vega` of so_rational.rs, operation by operation. Definitions only.
 use mathlib.Core.Bool.{Bool, cond, _||_}
 use lib.Ieee.{Float, neg, le}
-use Rattle.elementary.specs.Ops.{_⊕_, _⊗_, _⊘_, bits, +0, half}
+use Rattle.elementary.specs.Ops.{_⊕_, _⊗_, _⊘_, bits, +0, half, eighth}
 use Rattle.elementary.specs.Methods.{absOf, squareOf}
 use Rattle.elementary.specs.Exp.{expOf}
 
--- 2.5066282746310002 and 1 over it, as the Rust rounds it
-abbrev pub SQRT-2PI : Float
-SQRT-2PI = bits 0x4004_0d93_1ff6_2705
-
+-- 1 / √(2π), as the Rust rounds it
 abbrev pub ONE-OVER-SQRT-TWO-PI : Float
-ONE-OVER-SQRT-TWO-PI = bits 0x3fd9_8845_33d4_3651
+ONE-OVER-SQRT-TWO-PI = bits 0x3fd9_8845_33d4_3651  -- 0.3989422804014327
 
--- 1.4916681462400413e-154
+-- the square root of the least positive normal number
 abbrev pub SQRT-DBL-MIN : Float
-SQRT-DBL-MIN = bits 0x2000_0000_0000_0000
-
--- 0.125
-abbrev pub eighth : Float
-eighth = bits 0x3fc0_0000_0000_0000
+SQRT-DBL-MIN = bits 0x2000_0000_0000_0000  -- 1.4916681462400413e-154
 
 -- where x is 0
 abbrev pub atTheMoney : Float → Float
@@ -28,6 +21,7 @@ atTheMoney s = ONE-OVER-SQRT-TWO-PI ⊗ expOf (neg eighth ⊗ s ⊗ s)
 abbrev pub vegaVanishes : Float → Float → Bool
 vegaVanishes ax s = le s +0 || le s (ax ⊗ SQRT-DBL-MIN)
 
+-- normalised_vega
 unfoldable pub vegaOf : Float → Float → Float
 vegaOf x s =
     let ax = absOf x in

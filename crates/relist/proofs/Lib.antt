@@ -1,3 +1,1 @@
--- Laws that the proofs of the program use.
-mod Parts
-mod Listed
+pub mod Laws

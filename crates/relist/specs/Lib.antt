@@ -1,4 +1,2 @@
--- Definitions.
+-- Rules: what a reader believes.
 pub mod Lines
--- Theorems about them.
-pub mod Blocks

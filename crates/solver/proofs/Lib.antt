@@ -1,5 +1,6 @@
--- Laws that the proofs of several functions use.
-pub mod Parts
-pub mod Priced
-pub mod Reached
-pub mod Solving
+pub mod Laws
+-- The definitions at closed inputs.
+mod Examples
+mod Table
+-- The proofs of the promises.
+pub mod Promised

@@ -3,7 +3,7 @@
 use mathlib.Core.Bool.{Bool, true, false, cond, _&&_}
 use Prim.Native.Nat.{ℕ}
 use lib.Ieee.{Float, binary64, neg, lt, le}
-use Rattle.elementary.specs.Ops.{_⊕_, _⊖_, _⊗_, _⊘_, bits, whole, +0, half, one, two, MAX}
+use Rattle.elementary.specs.Ops.{_⊕_, _⊖_, _⊗_, _⊘_, bits, float, +0, half, one, two, MAX, eighth, MIN, quarter}
 use Rattle.elementary.specs.Rules.{Rules}
 use Rattle.elementary.specs.Methods.{absOf, maxOf, squareOf}
 use Rattle.elementary.specs.Sqrt.{sqrtOf}
@@ -17,37 +17,37 @@ use Rattle.prices.specs.declared.rational_cubic.Side.{Side}
 use Rattle.prices.specs.declared.rational_cubic.Side.the-variants.{Left, Right}
 use Rattle.prices.specs.Inputs.{times}
 use Rattle.prices.specs.Intrinsic.{intrinsicOf}
-use Rattle.prices.specs.Vega.{eighth, vegaOf}
+use Rattle.prices.specs.Vega.{vegaOf}
 use Rattle.prices.specs.Black.{callOf}
-use Rattle.prices.specs.RationalCubic.{MIN, interpolationOf, convexParameterOf}
+use Rattle.prices.specs.RationalCubic.{interpolationOf, convexParameterOf}
 use Rattle.solver.specs.declared.state.State.{State}
 use Rattle.solver.specs.declared.state.Mapped.{Mapped}
 use Rattle.solver.specs.declared.state.Start.{Start}
 use Rattle.solver.specs.declared.state.Start.the-variants.{Answered, Stopped, Looping}
 use Rattle.solver.specs.declared.state.Stepped.{Stepped}
-use Rattle.solver.specs.Step.{quarter, lowerStep, upperStep, generalStep, branchStep}
+use Rattle.solver.specs.Step.{lowerStep, upperStep, generalStep, branchStep}
 
--- 1.3407807929942596e154, √3, 2π/√27, √(π/2), √(1/3), π and π/6, as the Rust rounds them
+-- The Rust's constants, as it rounds them.
 abbrev pub SQRT-DBL-MAX : Float
-SQRT-DBL-MAX = bits 0x5fef_ffff_ffff_ffff
+SQRT-DBL-MAX = bits 0x5fef_ffff_ffff_ffff  -- 1.3407807929942596e+154
 
 abbrev pub SQRT-THREE : Float
-SQRT-THREE = bits 0x3ffb_b67a_e858_4caa
+SQRT-THREE = bits 0x3ffb_b67a_e858_4caa  -- 1.7320508075688772
 
 abbrev pub TWO-PI-OVER-SQRT-TWENTY-SEVEN : Float
-TWO-PI-OVER-SQRT-TWENTY-SEVEN = bits 0x3ff3_58e1_a79e_d7e1
+TWO-PI-OVER-SQRT-TWENTY-SEVEN = bits 0x3ff3_58e1_a79e_d7e1  -- 1.2091995761561452
 
 abbrev pub SQRT-PI-OVER-TWO : Float
-SQRT-PI-OVER-TWO = bits 0x3ff4_0d93_1ff6_2706
+SQRT-PI-OVER-TWO = bits 0x3ff4_0d93_1ff6_2706  -- 1.2533141373155003
 
 abbrev pub SQRT-ONE-OVER-THREE : Float
-SQRT-ONE-OVER-THREE = bits 0x3fe2_79a7_4590_331c
+SQRT-ONE-OVER-THREE = bits 0x3fe2_79a7_4590_331c  -- 0.5773502691896257
 
 abbrev pub PI : Float
-PI = bits 0x4009_21fb_5444_2d18
+PI = bits 0x4009_21fb_5444_2d18  -- 3.141592653589793
 
 abbrev pub PI-OVER-SIX : Float
-PI-OVER-SIX = bits 0x3fe0_c152_382d_7365
+PI-OVER-SIX = bits 0x3fe0_c152_382d_7365  -- 0.5235987755982988
 
 -- DENORMALISATION_CUTOFF is 0, so this never holds; it stands where the Rust has it
 abbrev pub isBelowHorizon : Float → Bool
@@ -78,7 +78,7 @@ lowerMap rules x s =
     let phi = cdfOf rules z in
     let phi′ = cdfOf rules (neg z) in
     let fpp =
-    PI-OVER-SIX ⊗ y ⊘ (s2 ⊗ s) ⊗ phi′ ⊗ (whole 8 ⊗ SQRT-THREE ⊗ s ⊗ ax ⊕ (whole 3 ⊗ s2 ⊗ (s2 ⊖ whole 8) ⊖ whole 8 ⊗ x ⊗ x) ⊗ phi′ ⊘ phi) ⊗ expOf (two ⊗ y ⊕ quarter ⊗ s2) in
+    PI-OVER-SIX ⊗ y ⊘ (s2 ⊗ s) ⊗ phi′ ⊗ (float 8 ⊗ SQRT-THREE ⊗ s ⊗ ax ⊕ (float 3 ⊗ s2 ⊗ (s2 ⊖ float 8) ⊖ float 8 ⊗ x ⊗ x) ⊗ phi′ ⊘ phi) ⊗ expOf (two ⊗ y ⊕ quarter ⊗ s2) in
     let phi2 = phi′ ⊗ phi′ in
     let fp = PI ⊗ two ⊗ y ⊗ phi2 ⊗ expOf (y ⊕ eighth ⊗ s ⊗ s) in
     let f = cond (isBelowHorizon x) +0 (TWO-PI-OVER-SQRT-TWENTY-SEVEN ⊗ ax ⊗ (phi2 ⊗ phi′)) in

@@ -1,4 +1,4 @@
--- What a rule set (document 01's and 02's term) decides in solve. Definitions only.
+-- What a rule set (document 02's term) decides in solve. Definitions only.
 use lib.Ieee.{Float}
 use Rattle.elementary.specs.Rules.{Rules, rules-0}
 use Rattle.prices.specs.declared.inputs.OptionType.{OptionType}

@@ -6,14 +6,13 @@ use lib.ListN.{length}
 use lib.Dec.{ltb, eqb}
 use lib.IntN.{ℤ, pos, negsuc}
 use lib.Ieee.{Float, binary64, lt, le}
-use Rattle.elementary.specs.Ops.{_⊖_, _⊗_, _⊘_, +0, MAX}
+use Rattle.elementary.specs.Ops.{_⊖_, _⊗_, _⊘_, +0, MAX, MIN}
 use Rattle.elementary.specs.Methods.{maxOf}
 use Rattle.elementary.specs.Sqrt.{sqrtOf}
 use Rattle.elementary.specs.Ln.{lnOf}
 use Rattle.prices.specs.declared.inputs.OptionType.{OptionType}
 use Rattle.prices.specs.Inputs.{negated, times}
 use Rattle.prices.specs.Black.{isPositiveNormal, isFinite}
-use Rattle.prices.specs.RationalCubic.{MIN}
 use Rattle.solver.specs.declared.state.State.{State}
 use Rattle.solver.specs.declared.state.Record.{Record}
 use Rattle.solver.specs.declared.state.Solution.{Solution}

@@ -3,7 +3,7 @@ use mathlib.Core.Bool.{Bool, cond, _&&_, _||_}
 use Prim.Native.Nat.{ℕ}
 use lib.Dec.{eqb}
 use lib.Ieee.{Float, neg, lt, le}
-use Rattle.elementary.specs.Ops.{_⊕_, _⊖_, _⊗_, _⊘_, bits, whole, +0, half, one, two}
+use Rattle.elementary.specs.Ops.{_⊕_, _⊖_, _⊗_, _⊘_, bits, float, +0, half, one, two, EPSILON, MIN, quarter}
 use Rattle.elementary.specs.Rules.{Rules}
 use Rattle.elementary.specs.Methods.{absOf, maxOf, squareOf}
 use Rattle.elementary.specs.Ln.{lnOf}
@@ -11,7 +11,6 @@ use Rattle.prices.specs.declared.answer.Answer.{Answer}
 use Rattle.prices.specs.declared.answer.Answer.the-variants.{Value, Refused as Number}
 use Rattle.prices.specs.Vega.{vegaOf}
 use Rattle.prices.specs.Black.{callOf}
-use Rattle.prices.specs.RationalCubic.{EPSILON, MIN}
 use Rattle.solver.specs.declared.state.State.{State}
 use Rattle.solver.specs.declared.state.Ends.{Ends}
 use Rattle.solver.specs.declared.state.Record.{Record}
@@ -19,12 +18,8 @@ use Rattle.solver.specs.declared.state.Stepped.{Stepped}
 use Rattle.solver.specs.declared.state.Stepped.the-variants.{Went, Refused}
 use Rattle.solver.specs.Loop.{Turn, goes, ends, tested, refused}
 
--- 0.25
-abbrev pub quarter : Float
-quarter = bits 0x3fd0_0000_0000_0000
-
 unfoldable pub householderFactor : Float → Float → Float → Float
-householderFactor newton halley hh3 = (one ⊕ half ⊗ halley ⊗ newton) ⊘ (one ⊕ newton ⊗ (halley ⊕ hh3 ⊗ newton ⊘ whole 6))
+householderFactor newton halley hh3 = (one ⊕ half ⊗ halley ⊗ newton) ⊘ (one ⊕ newton ⊗ (halley ⊕ hh3 ⊗ newton ⊘ float 6))
 
 -- ---- the bracket
 
@@ -43,10 +38,10 @@ toMiddle bracket s = half ⊗ (bracket .left ⊕ bracket .right) ⊖ s
 
 -- (x / s)² / s − s / 4, and the third-order term that goes with it
 abbrev pub halleyOf : Float → Float → Float
-halleyOf x s = squareOf (x ⊘ s) ⊘ s ⊖ s ⊘ whole 4
+halleyOf x s = squareOf (x ⊘ s) ⊘ s ⊖ s ⊘ float 4
 
 abbrev pub hh3Of : Float → Float → Float → Float
-hh3Of halley x s = halley ⊗ halley ⊖ whole 3 ⊗ squareOf (x ⊘ (s ⊗ s)) ⊖ quarter
+hh3Of halley x s = halley ⊗ halley ⊖ float 3 ⊗ squareOf (x ⊘ (s ⊗ s)) ⊖ quarter
 
 -- the lower loop, in ln b
 unfoldable pub lowerDs : Float → Float → Float → Float → Float → Ends → Float
@@ -55,11 +50,11 @@ lowerDs x beta s b bp bracket =
     let ln-beta = lnOf beta in
     let bpob = bp ⊘ b in
     let h = x ⊘ s in
-    let b-halley = h ⊗ h ⊘ s ⊖ s ⊘ whole 4 in
+    let b-halley = h ⊗ h ⊘ s ⊖ s ⊘ float 4 in
     let newton = (ln-beta ⊖ ln-b) ⊗ ln-b ⊘ ln-beta ⊘ bpob in
     let halley = b-halley ⊖ bpob ⊗ (one ⊕ two ⊘ ln-b) in
-    let b-hh3 = b-halley ⊗ b-halley ⊖ whole 3 ⊗ squareOf (h ⊘ s) ⊖ quarter in
-    let hh3 = b-hh3 ⊕ two ⊗ squareOf bpob ⊗ (one ⊕ whole 3 ⊘ ln-b ⊗ (one ⊕ one ⊘ ln-b)) ⊖ whole 3 ⊗ b-halley ⊗ bpob ⊗ (one ⊕ two ⊘ ln-b) in
+    let b-hh3 = b-halley ⊗ b-halley ⊖ float 3 ⊗ squareOf (h ⊘ s) ⊖ quarter in
+    let hh3 = b-hh3 ⊕ two ⊗ squareOf bpob ⊗ (one ⊕ float 3 ⊘ ln-b ⊗ (one ⊕ one ⊘ ln-b)) ⊖ float 3 ⊗ b-halley ⊗ bpob ⊗ (one ⊕ two ⊘ ln-b) in
     let ds = newton ⊗ householderFactor newton halley hh3 in
     let middle = toMiddle bracket s in
     cond (le b +0 || le bp +0) middle ds
@@ -74,7 +69,7 @@ upperDs b-max x beta s b bp bracket =
     let b-hh3 = hh3Of b-halley x s in
     let newton = neg g ⊘ gp in
     let halley = b-halley ⊕ gp in
-    let hh3 = b-hh3 ⊕ gp ⊗ (two ⊗ gp ⊕ whole 3 ⊗ b-halley) in
+    let hh3 = b-hh3 ⊕ gp ⊗ (two ⊗ gp ⊕ float 3 ⊗ b-halley) in
     let ds = newton ⊗ householderFactor newton halley hh3 in
     let middle = toMiddle bracket s in
     cond (le b-max b || le bp MIN) middle ds

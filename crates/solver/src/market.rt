@@ -6,7 +6,7 @@ ghost use Rattle.elementary.specs.Rules.{rules-0};
 ghost use Rattle.prices.specs.Vega.{vegaOf};
 ghost use Rattle.prices.specs.Black.{callOf};
 ghost use Rattle.prices.specs.Point.{told};
-ghost use Rattle.solver.specs.Market.{Shared};
+ghost use Rattle.solver.specs.Inside.Market.{Shared};
 
 // x and the target after all mapping, b_max, which is exp(x / 2), and exp(−x / 2).
 pub struct Market {

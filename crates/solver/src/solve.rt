@@ -25,7 +25,7 @@ ghost use Rattle.solver.specs.RuleSets.{rule-set-0, rustCap};
 ghost use Rattle.solver.specs.Loop.{run as runOf};
 ghost use Rattle.solver.specs.Step.{nextBy, branchStep};
 ghost use Rattle.solver.specs.Guess.{begunFrom};
-ghost use Rattle.solver.specs.Market.{Shared, SharedIn, Begins};
+ghost use Rattle.solver.specs.Inside.Market.{Shared, SharedIn, Begins};
 ghost use Rattle.solver.specs.Solve.{overExpiry, acceptedBegun, inputNumber, ran, solvingWith, solveOf, solveWithTrail, stepsOf};
 ghost use Rattle.solver.specs.Trail.{trailAfter, keptAfter};
 

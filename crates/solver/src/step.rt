@@ -12,7 +12,7 @@ use elementary::methods::max;
 use elementary::methods::powi_2;
 ghost use mathlib.Core.Path.{_≡_};
 ghost use Rattle.elementary.specs.Rules.{rules-0};
-ghost use Rattle.solver.specs.Market.{Shared};
+ghost use Rattle.solver.specs.Inside.Market.{Shared};
 ghost use Rattle.solver.specs.Step.{householderFactor, endsAfter, toMiddle, halleyOf, hh3Of, lowerDs, upperDs, generalDs, branchDs, branchAfter, branchStep, isClose};
 
 const EPSILON: f64 = 2.220446049250313e-16;

@@ -12,8 +12,8 @@ use lib.Ieee.Fits.{down-pos}
 use lib.Ieee.Exact.{HasValue}
 use lib.Ieee.Scale.{round-same}
 use lib.Ieee.Back.{unsigned-back}
-use Rattle.elementary.specs.Ops.{_⊕_, whole}
-use Rattle.elementary.specs.Exp.{Whole, Biased}
+use Rattle.elementary.specs.Ops.{_⊕_, float}
+use Rattle.elementary.specs.Inside.Exp.{Whole, Biased}
 
 abbrev bias : Float
 bias = ofBits binary64 0x40a0_0000_0000_0000
@@ -29,7 +29,7 @@ sum-form n d = rw (mul-one (n * d + 2048 * d), mul-one d) (omega (arith, add-mul
 difference-form : (n d : ℕ) → (2048 * d - n * d) * 1 ≡ (2048 - n) * (d * 1)
 difference-form n d = rw (mul-one (2048 * d - n * d), mul-one d, mul-comm (2048 - n) d, mul-sub d 2048 n, mul-comm d 2048, mul-comm d n)
 
-plus-bias : (k : Float) (s : Bool) (n : ℕ) → n ≤ 1078 → HasValue k s n 1 → k ⊕ bias ≡ whole (shifted s n)
+plus-bias : (k : Float) (s : Bool) (n : ℕ) → n ≤ 1078 → HasValue k s n 1 → k ⊕ bias ≡ float (shifted s n)
 unfolding add sum ofBits ofInt
 plus-bias nan s n l h = absurd h
 plus-bias (inf t) s n l h = absurd h

@@ -14,7 +14,7 @@ use lib.Ieee.Exact.{HasValue}
 use lib.Ieee.Positive.{first-pos}
 use lib.Ieee.Scale.{round-same, finite}
 use Rattle.elementary.specs.Exp.{scaled}
-use Rattle.elementary.proofs.Decode.{same-power, same-value}
+use Rattle.elementary.proofs.Laws.Decode.{same-power, same-value}
 
 -- 2 ^ (e - l) as a fraction
 power : (e l : ℕ) → up (minus e l) * 2 ^ l ≡ 2 ^ e * down (minus e l)

@@ -8,9 +8,11 @@ use lib.Pow.{pow-pos}
 use borrow.Author.Tests.{ltb-false}
 use lib.Ieee.{Float, nan, inf, fin, up, down, lt, ne, neg, ofBits}
 use lib.Ieee.Compare.{nan-differs}
-use Rattle.elementary.specs.Exp.{LARGEST, LEAST, LOG2-E, expK, Whole}
-use Rattle.elementary.specs.Bounds.{AtMost, small-exact, unsigned, mul-by, add-at-most, floor-whole}
-use Rattle.elementary.specs.Finite.{half-side}
+use Rattle.elementary.specs.Exp.{LARGEST, LEAST, LOG2-E, expK}
+use Rattle.elementary.specs.Inside.Exp.{Whole}
+use Rattle.elementary.proofs.Laws.Bounds.{small-exact, unsigned, mul-by, add-at-most, floor-whole}
+use Rattle.elementary.specs.Inside.Bounds.{AtMost}
+use Rattle.elementary.proofs.Laws.Finite.{half-side}
 
 pub whole-k : (y : Float) → AtMost y 746 → Whole (expK y)
 unfolding ofBits

@@ -5,13 +5,13 @@ use native.Mathlib.Omega.{arith}
 use lib.Dec.{T, le→leb}
 use lib.IntN.{pos}
 use lib.Ieee.{Float, binary64, inFloat}
-use Rattle.elementary.specs.Ops.{_⊕_, _⊗_, _⊘_, whole, one}
+use Rattle.elementary.specs.Ops.{_⊕_, _⊗_, _⊘_, float, one}
 use Rattle.elementary.specs.Exp.{expSum}
 
 abbrev pub Left : Float → Float → ℕ → Type 0
 Left r p i = expSum 13 r one ≡ expSum i r p
 
-pub turned : (r p : Float) (i : ℕ) → 0 < i → Left r p i → Left r (one ⊕ r ⊗ p ⊘ whole i) (i - 1)
+pub turned : (r p : Float) (i : ℕ) → 0 < i → Left r p i → Left r (one ⊕ r ⊗ p ⊘ float i) (i - 1)
 unfolding expSum
 turned r p zero l h = absurd (omega arith)
 turned r p (suc i) l h = let e : suc i - 1 ≡ i = omega arith in rw e h

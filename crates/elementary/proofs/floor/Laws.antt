@@ -14,11 +14,11 @@ use lib.Ieee.Fits.{neg-fits}
 use lib.Ieee.Exact.{HasValue}
 use lib.Ieee.Back.{whole-unique}
 use lib.Ieee.Bits.{is-true, is-false, ofBits-fits}
-use Rattle.elementary.specs.Powers.{pow-split}
+use Rattle.elementary.proofs.Laws.Powers.{pow-split}
 use Rattle.elementary.specs.Floor.{floorSize, floorOf}
-use Rattle.elementary.specs.Floor.Greatest.{Cut, cut-is, cut-whole, floor-value, floor-fits}
-use Rattle.elementary.proofs.Bits.{nan-pattern, no-nan-pattern}
-use Rattle.elementary.proofs.Values.{recast, revalue, value-low, value-mid, value-inf, signed-parts, packed, value-packed}
+use Rattle.elementary.proofs.Laws.Greatest.{Cut, cut-is, cut-whole, floor-value, floor-fits}
+use Rattle.elementary.proofs.Laws.Bits.{nan-pattern, no-nan-pattern}
+use Rattle.elementary.proofs.Laws.Values.{recast, revalue, value-low, value-mid, value-inf, signed-parts, packed, value-packed}
 
 -- what has the value is the floor
 found : (b : ℕ) (r : Float) (s : Bool) (a c n : ℕ) → T (fits binary64 r) → 0 < c → HasValue (ofBits binary64 b) s a c → Cut s a c n → HasValue r s n 1

@@ -7,9 +7,9 @@ use native.Mathlib.Omega.{arith}
 use lib.ListN.{getD}
 use lib.Ieee.{Float, nan, lt}
 use Rattle.elementary.specs.Rules.{rules-0}
-use Rattle.elementary.specs.Each.{Each}
+use Rattle.elementary.specs.Inside.Each.{Each}
 use Rattle.elementary.specs.NormalDistribution.{cdfOf, midOf, bisected, endsOf}
-use Rattle.elementary.specs.Turns.{After}
+use Rattle.elementary.specs.Inside.Turns.{After}
 
 -- ---- one turn
 turn-up : (cdf : Float → Float) (n : ℕ) (p lo hi : Float) → lt (cdf (midOf lo hi)) p ≡ true → bisected cdf (suc n) p lo hi ≡ bisected cdf n p (midOf lo hi) hi

@@ -11,7 +11,7 @@ use lib.Ieee.{Float, nan, inf, fin, up, down, level, lt, eq, ne, ofBits}
 use lib.Ieee.Positive.{positive, first-pos}
 use lib.Ieee.Fits.{up-pos}
 use Rattle.elementary.specs.Ops.{+0}
-use Rattle.elementary.specs.Round.{Decoded, Digits}
+use Rattle.elementary.specs.Inside.Round.{Decoded, Digits}
 
 level-zero : (s : Bool) (a b : ℕ) → a ≡ 0 → b ≡ 0 → level s a false b ≡ true
 level-zero true a b p q = rw (p, q)

@@ -13,10 +13,10 @@ use lib.Ieee.Fits.{round-fits}
 use Rattle.elementary.specs.Sqrt.{inUnits}
 use Rattle.elementary.specs.Ops.{_⊗_, half}
 use Rattle.elementary.specs.Ln.{SQRT-2, placeOf, significandOf, exponentAt, lnAt, lnInner}
-use Rattle.elementary.specs.Round.{Decoded, Digits}
-use Rattle.elementary.proofs.Leaf.{size-of}
-use Rattle.elementary.proofs.Decode.{units-of, same-power, same-value}
-use Rattle.elementary.proofs.Values.{value-unique}
+use Rattle.elementary.specs.Inside.Round.{Decoded, Digits}
+use Rattle.elementary.proofs.Laws.Leaf.{size-of}
+use Rattle.elementary.proofs.Laws.Decode.{units-of, same-power, same-value}
+use Rattle.elementary.proofs.Laws.Values.{value-unique}
 
 module _ (y : Float) (s : Bool) (m i : ℕ) (D : Decoded y s m i) (G : Digits m i) where
   abbrev u : ℕ

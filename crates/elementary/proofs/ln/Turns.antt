@@ -7,30 +7,30 @@ use native.Mathlib.Omega.{arith}
 use lib.Dec.{T, leb, ltb, le→leb, leb→le, nleb→lt, ltb→lt, nltb→le}
 use lib.IntN.{pos, negsuc}
 use lib.Ieee.{Float, binary64, inFloat, minus, round, ofInt, ofBits, sum}
-use Rattle.elementary.specs.Ops.{_⊕_, _⊖_, _⊗_, _⊘_, one, whole}
+use Rattle.elementary.specs.Ops.{_⊕_, _⊖_, _⊗_, _⊘_, one, float}
 use Rattle.elementary.specs.Ln.{lnSum}
-use Rattle.elementary.proofs.Values.{whole-value}
-use Rattle.elementary.proofs.Adding.{sub-at}
+use Rattle.elementary.proofs.Laws.Values.{whole-value}
+use Rattle.elementary.proofs.Laws.Adding.{sub-at}
 
 pub counted : (n : ℕ) → n ≤ 2 ^ 53 → T (inFloat binary64 (pos n))
 unfolding inFloat
 counted n h = le→leb n (2 ^ 53) h
 
 -- ---- the series
-pub first : one ⊘ ofBits binary64 0x4037_0000_0000_0000 ≡ one ⊘ whole 23
+pub first : one ⊘ ofBits binary64 0x4037_0000_0000_0000 ≡ one ⊘ float 23
 unfolding ofBits ofInt
 first = refl
 
 -- q is the sum for z after the turns down to i
 abbrev pub Down : ℕ → Float → Float → Type 0
-Down i z q = lnSum 11 z (one ⊘ whole 23) ≡ lnSum i z q
+Down i z q = lnSum 11 z (one ⊘ float 23) ≡ lnSum i z q
 
-pub turned : (i : ℕ) (z q : Float) → 0 < i → Down i z q → Down (i - 1) z (one ⊘ whole (2 * (i - 1) + 1) ⊕ z ⊗ q)
+pub turned : (i : ℕ) (z q : Float) → 0 < i → Down i z q → Down (i - 1) z (one ⊘ float (2 * (i - 1) + 1) ⊕ z ⊗ q)
 unfolding lnSum
 turned zero z q l h = absurd (omega arith)
 turned (suc i) z q l h = let e : suc i - 1 ≡ i = omega arith in rw e h
 
-pub done : (i : ℕ) (z q : Float) → i ≤ 0 → Down i z q → q ≡ lnSum 11 z (one ⊘ whole 23)
+pub done : (i : ℕ) (z q : Float) → i ≤ 0 → Down i z q → q ≡ lnSum 11 z (one ⊘ float 23)
 unfolding lnSum
 done zero z q l h = sym h
 done (suc i) z q l h = absurd (omega arith)
@@ -53,9 +53,9 @@ apart a b = go (ltb a b) (leb b a) (ltb→lt a b) (nltb→le a b) (leb→le b a)
     go false true _ _ _ _ = refl
     go false false _ h _ k = absurd (no (k tt) (h tt))
 
-pub difference : (a b : ℕ) → a ≤ 2 ^ 53 → b ≤ 2 ^ 53 → whole a ⊖ whole b ≡ ofInt binary64 (minus a b)
-difference a b h k = sub-at (whole a) (whole b) false false a b 1 (zero-lt-suc 0) (whole-value a h) (whole-value b k) ∙ apart a b
+pub difference : (a b : ℕ) → a ≤ 2 ^ 53 → b ≤ 2 ^ 53 → float a ⊖ float b ≡ ofInt binary64 (minus a b)
+difference a b h k = sub-at (float a) (float b) false false a b 1 (zero-lt-suc 0) (whole-value a h) (whole-value b k) ∙ apart a b
 
-pub unit : ofBits binary64 0x4090_c800_0000_0000 ≡ whole 1074
+pub unit : ofBits binary64 0x4090_c800_0000_0000 ≡ float 1074
 unfolding ofBits ofInt
 unit = refl

@@ -12,10 +12,10 @@ use lib.Ieee.Digits.{size-lt, size-reaches}
 use lib.Ieee.Fits.{round-is}
 use lib.Ieee.Nearest.{closest}
 use lib.Ieee.Scale.{round-same}
-use Rattle.elementary.specs.Round.{Cut, Halved, Same}
-use Rattle.elementary.specs.MulAdd.Steps.{Marked}
-use Rattle.elementary.proofs.Halves.{closest-is}
-use Rattle.elementary.proofs.Leaf.{half-of, size-of, mul-mod-mul, zero-of-mul, sum-zero-l, sum-zero-r}
+use Rattle.elementary.specs.Inside.Round.{Cut, Halved, Same}
+use Rattle.elementary.specs.Inside.MulAdd.{Marked}
+use Rattle.elementary.proofs.Laws.Halves.{closest-is}
+use Rattle.elementary.proofs.Laws.Leaf.{half-of, size-of, mul-mod-mul, zero-of-mul, sum-zero-l, sum-zero-r}
 use Rattle.elementary.proofs.mul_add.Sums.{cut-plus, cut-minus, cut-exact-minus}
 
 -- a and b have the same digits from 2 ^ g on, 55 or more of them, and both have something below or neither has

@@ -15,10 +15,10 @@ use lib.Ieee.Fits.{down-pos, round-fits}
 use lib.Ieee.Exact.{HasValue}
 use lib.Ieee.Nearest.{closest}
 use borrow.Author.Tests.{eqb-true, eq-eqb}
-use Rattle.elementary.specs.Order.{Le, fractions→le}
-use Rattle.elementary.specs.Compare as compare
-use Rattle.elementary.proofs.Leaf.{zero-of-mul}
-use Rattle.elementary.proofs.Values.{recast, value-unique}
+use Rattle.elementary.proofs.Laws.Order.{Le, fractions→le}
+use Rattle.elementary.proofs.Laws.Compare as compare
+use Rattle.elementary.proofs.Laws.Leaf.{zero-of-mul}
+use Rattle.elementary.proofs.Laws.Values.{recast, value-unique}
 use Rattle.elementary.proofs.mul_add.Nearest.{ex, dist, Short, near, near-mono}
 use Rattle.elementary.proofs.mul_add.TwoSum.{dist-comm, near-part}
 use Rattle.elementary.proofs.mul_add.Pairs.{Is, Rounded, round-units, round-value, near-zero}

@@ -13,12 +13,12 @@ use lib.Ieee.Exact.{HasValue}
 use lib.Ieee.Scale.{finite}
 use lib.Ieee.Bits.{ofBits-toBits}
 use Rattle.elementary.specs.MulAdd.{fma}
-use Rattle.elementary.specs.MulAdd.Steps.{Pinned, Usual}
-use Rattle.elementary.proofs.Bits.{no-nan-pattern}
-use Rattle.elementary.proofs.Leaf.{same-test}
-use Rattle.elementary.proofs.Values.{recast, value-low, value-mid}
-use Rattle.elementary.proofs.Adding.{sum-value}
-use Rattle.elementary.proofs.Decode.{finite-field}
+use Rattle.elementary.specs.Inside.MulAdd.{Pinned, Usual}
+use Rattle.elementary.proofs.Laws.Bits.{no-nan-pattern}
+use Rattle.elementary.proofs.Laws.Leaf.{same-test}
+use Rattle.elementary.proofs.Laws.Values.{recast, value-low, value-mid}
+use Rattle.elementary.proofs.Laws.Adding.{sum-value}
+use Rattle.elementary.proofs.Laws.Decode.{finite-field}
 use Rattle.elementary.proofs.mul_add.Exactly.{fma-at}
 use Rattle.elementary.proofs.mul_add.Nearest.{dist, Short, short-of, near, near-short}
 use Rattle.elementary.proofs.mul_add.Pairs.{bound, Is, Rounded, sum-is, dist-add, add-near, add-rounds}

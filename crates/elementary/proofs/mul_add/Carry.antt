@@ -6,9 +6,9 @@ use native.Mathlib.Omega.{arith}
 use lib.Dec.{leb, ltb, le→leb, leb→le, lt→ltb, ltb→lt}
 use lib.Arith.{mod-mul}
 use lib.Pow.{pow-add, pow-pos, shr-shr, high, shl-lt}
-use Rattle.elementary.specs.Round.{wide, Any, Same}
-use Rattle.elementary.proofs.Leaf.{same-test, mul-mod-mul, zero-of-mul, sum-zero-l, sum-zero-r}
-use Rattle.elementary.proofs.Words.{wide-div, wide-mod, top-lt}
+use Rattle.elementary.specs.Inside.Round.{wide, Any, Same}
+use Rattle.elementary.proofs.Laws.Leaf.{same-test, mul-mod-mul, zero-of-mul, sum-zero-l, sum-zero-r}
+use Rattle.elementary.proofs.Laws.Words.{wide-div, wide-mod, top-lt}
 
 module _ (P ah al bh bl : ℕ) where
   -- ---- sums

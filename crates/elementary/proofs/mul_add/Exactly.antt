@@ -14,9 +14,9 @@ use lib.Ieee.Scale.{round-same, finite}
 use lib.Ieee.Positive.{first-pos}
 use lib.Pow.{pow-add}
 use Rattle.elementary.specs.MulAdd.{fma}
-use Rattle.elementary.proofs.Leaf.{zero-of-mul, same-test}
+use Rattle.elementary.proofs.Laws.Leaf.{zero-of-mul, same-test}
 use Rattle.elementary.proofs.mul_add.Sums.{sum-same, sum-more, sum-less}
-use Rattle.elementary.proofs.Adding.{sum-value}
+use Rattle.elementary.proofs.Laws.Adding.{sum-value}
 
 -- ---- in either order
 pub beq-cases : (s t : Bool) → ((Bool·beq s t ≡ true) × (s ≡ t)) ⊎ ((Bool·beq s t ≡ false) × (Bool·beq t s ≡ false))

@@ -9,11 +9,11 @@ use lib.Dec.{T, leb}
 use lib.Pow.{pow-pos, pow-mono, shl-lt}
 use lib.Ieee.{Float, nan, inf, fin, binary64, toBits, fits, isNan, eq, add, sub, mul, sum, round, unlike}
 use lib.Ieee.Exact.{HasValue, round-exact}
-use Rattle.elementary.specs.Round.{wide, Decoded}
-use Rattle.elementary.specs.MulAdd.Steps.{Marked, Middling, Opened, Apart}
-use Rattle.elementary.proofs.Decode.{split-power, same-power, same-value, normal-value}
+use Rattle.elementary.specs.Inside.Round.{wide, Decoded}
+use Rattle.elementary.specs.Inside.MulAdd.{Marked, Middling, Opened, Apart}
+use Rattle.elementary.proofs.Laws.Decode.{split-power, same-power, same-value, normal-value}
 use Rattle.elementary.proofs.mul_add.Sums.{sum-same, sum-more}
-use Rattle.elementary.proofs.Adding.{sub-mul, add-at, sub-at}
+use Rattle.elementary.proofs.Laws.Adding.{sub-mul, add-at, sub-at}
 use Rattle.elementary.specs.MulAdd.{fma}
 use Rattle.elementary.proofs.mul_add.Exactly.{sum-comm, beq-refl, beq-cases, product-form, fma-at}
 use Rattle.elementary.proofs.mul_add.Alike.{round-alike, plus-alike, minus-alike}

@@ -10,8 +10,8 @@ use lib.Ieee.{size, nearest, units}
 use lib.Ieee.Digits.{size-lt, size-le, size-reaches}
 use lib.Ieee.Fits.{nearest-le}
 use lib.Ieee.Nearest.{closest}
-use Rattle.elementary.specs.Ordering.{Cmp, cmp}
-use Rattle.elementary.proofs.Adding.{sub-mul}
+use Rattle.elementary.proofs.Laws.Ordering.{Cmp, cmp}
+use Rattle.elementary.proofs.Laws.Adding.{sub-mul}
 
 -- ---- off by a half at most
 -- w * d + r, with the remainder r

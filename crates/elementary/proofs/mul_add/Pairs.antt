@@ -11,8 +11,8 @@ use lib.Ieee.{Float, binary64, size, units, round, sum, add, sub, neg}
 use lib.Ieee.Fits.{round-is}
 use lib.Ieee.Nearest.{closest, closest-same}
 use lib.Ieee.Exact.{HasValue, units-val}
-use Rattle.elementary.proofs.Values.{recast}
-use Rattle.elementary.proofs.Adding.{add-at, neg-value}
+use Rattle.elementary.proofs.Laws.Values.{recast}
+use Rattle.elementary.proofs.Laws.Adding.{add-at, neg-value}
 use Rattle.elementary.proofs.mul_add.Sums.{sum-same, sum-more, sum-less}
 use Rattle.elementary.proofs.mul_add.Nearest.{ex, dist, Short, short-of, near, near-exact, near-mono}
 

@@ -10,10 +10,10 @@ use lib.Arith.{digits-div, digits-mod}
 use lib.Pow.{pow-add, pow-pos, pow-mono, shl-lt, shr-lt, add-lt-pow}
 use lib.Ieee.{Format, round, sum}
 use lib.Ieee.Bits.{is-true, is-false}
-use Rattle.elementary.specs.Round.{Cut, Same}
-use Rattle.elementary.proofs.Leaf.{mul-mod-mul, zero-of-mul}
-use Rattle.elementary.proofs.Adding.{sub-mul}
-use Rattle.elementary.proofs.Decode.{split-power}
+use Rattle.elementary.specs.Inside.Round.{Cut, Same}
+use Rattle.elementary.proofs.Laws.Leaf.{mul-mod-mul, zero-of-mul}
+use Rattle.elementary.proofs.Laws.Adding.{sub-mul}
+use Rattle.elementary.proofs.Laws.Decode.{split-power}
 
 -- ---- `sum` by its cases
 pub sum-same : (f : Format) (s t : Bool) (a b c : ℕ) → Bool·beq s t ≡ true → sum f s a t b c ≡ round f s (a + b) c

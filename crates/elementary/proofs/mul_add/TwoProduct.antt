@@ -10,9 +10,9 @@ use lib.Ieee.{Float, nan, inf, fin, binary64, unlike, up, down, round, mul, add,
 use lib.Ieee.Fits.{down-pos}
 use lib.Ieee.Exact.{HasValue}
 use lib.Ieee.Scale.{round-same}
-use Rattle.elementary.proofs.Values.{recast}
-use Rattle.elementary.proofs.Leaf.{zero-of-mul}
-use Rattle.elementary.proofs.Adding.{sub-mul}
+use Rattle.elementary.proofs.Laws.Values.{recast}
+use Rattle.elementary.proofs.Laws.Leaf.{zero-of-mul}
+use Rattle.elementary.proofs.Laws.Adding.{sub-mul}
 use Rattle.elementary.proofs.mul_add.Nearest.{ex, ex-lt, dist, Mult, mult-down, Short, short-top, near, near-mult, near-exact, near-best}
 use Rattle.elementary.proofs.mul_add.Pairs.{bound, near-in, near-zero, Is, add-exact, sub-exact, relabel, round-value, value-range}
 use Rattle.elementary.proofs.mul_add.TwoSum.{dist-comm, same-dist}

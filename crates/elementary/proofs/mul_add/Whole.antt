@@ -14,14 +14,14 @@ use lib.Ieee.Exact.{HasValue, round-exact}
 use lib.Ieee.Scale.{round-same}
 use lib.Ieee.Bits.{is-false, ofBits-toBits}
 use borrow.Author.Tests.{le-ltb}
-use Rattle.elementary.specs.Ops.{whole}
+use Rattle.elementary.specs.Ops.{float}
 use Rattle.elementary.specs.MulAdd.{fma}
-use Rattle.elementary.specs.MulAdd.Steps.{Splits}
-use Rattle.elementary.proofs.Leaf.{same-test}
-use Rattle.elementary.proofs.Bits.{no-nan-pattern}
-use Rattle.elementary.proofs.Values.{recast, revalue, value-mid, whole-value}
-use Rattle.elementary.proofs.Decode.{same-power}
-use Rattle.elementary.proofs.Adding.{sum-value, add-at, sub-at, neg-value}
+use Rattle.elementary.specs.Inside.MulAdd.{Splits}
+use Rattle.elementary.proofs.Laws.Leaf.{same-test}
+use Rattle.elementary.proofs.Laws.Bits.{no-nan-pattern}
+use Rattle.elementary.proofs.Laws.Values.{recast, revalue, value-mid, whole-value}
+use Rattle.elementary.proofs.Laws.Decode.{same-power}
+use Rattle.elementary.proofs.Laws.Adding.{sum-value, add-at, sub-at, neg-value}
 use Rattle.elementary.proofs.mul_add.Sums.{sum-same, sum-more}
 use Rattle.elementary.proofs.mul_add.Carry.{mul-lt}
 use Rattle.elementary.proofs.mul_add.Exactly.{sum-comm, fma-at}
@@ -189,7 +189,7 @@ module _ (x : Float) (F : T (fits binary64 x)) (p q : ℕ) (S : Splits x p q) wh
   pub high-number : T (not (nanBits binary64 c))
   high-number = no-nan-pattern c (omega (arith, hi))
 
-  pub split-is : add binary64 (sub binary64 (mul binary64 (ofBits binary64 c) (whole p)) (whole q)) (mul binary64 (sub binary64 x (ofBits binary64 c)) (whole p)) ≡ fma binary64 x (whole p) (neg (whole q))
+  pub split-is : add binary64 (sub binary64 (mul binary64 (ofBits binary64 c) (float p)) (float q)) (mul binary64 (sub binary64 x (ofBits binary64 c)) (float p)) ≡ fma binary64 x (float p) (neg (float q))
   split-is =
-      parts-is x (ofBits binary64 c) (whole p) (whole q) h l p q g (omega arith) (omega arith) (S .factor) (S .addend) (omega (arith, hi)) both high
+      parts-is x (ofBits binary64 c) (float p) (float q) h l p q g (omega arith) (omega arith) (S .factor) (S .addend) (omega (arith, hi)) both high
       (whole-value p (omega (arith, S .factor))) (whole-value q (omega (arith, S .addend)))

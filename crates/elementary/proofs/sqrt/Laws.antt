@@ -18,11 +18,12 @@ use lib.Ieee.Fits.{down-pos}
 use lib.Ieee.Exact.{HasValue, units-val}
 use lib.Ieee.Bits.{is-false, ofBits-fits}
 use Rattle.elementary.specs.Sqrt.{isqrt, roundRoot, sqrtOf}
-use Rattle.elementary.specs.Ordering.{Cmp, cmp}
-use Rattle.elementary.specs.Sqrt.Nearest.{units-of, units-fits}
-use Rattle.elementary.specs.Sqrt.Isqrt.{Root, sq-lt, sq-suc, sq-twice, isqrt-root}
-use Rattle.elementary.proofs.Bits.{nan-pattern, no-nan-pattern}
-use Rattle.elementary.proofs.Values.{recast, value-low, value-mid, value-inf, value-packed, value-unique}
+use Rattle.elementary.proofs.Laws.Ordering.{Cmp, cmp}
+use Rattle.elementary.proofs.Laws.SqrtNearest.{units-of, units-fits}
+use Rattle.elementary.proofs.Laws.Isqrt.{sq-lt, sq-suc, sq-twice, isqrt-root}
+use Rattle.elementary.specs.Inside.Sqrt.{Root}
+use Rattle.elementary.proofs.Laws.Bits.{nan-pattern, no-nan-pattern}
+use Rattle.elementary.proofs.Laws.Values.{recast, value-low, value-mid, value-inf, value-packed, value-unique}
 
 -- ---- which way `nearest` goes
 by-order : (q r a b : ℕ) → (a < b → q ≡ r) → (b < a → suc q ≡ r) → (a ≡ b → ⊥) → nearest q (compare a b) ≡ r

@@ -5,7 +5,8 @@ use mathlib.Core.Logic.{_⊎_, inl, inr}
 use Prim.Native.Nat.{ℕ, zero, suc, _+_, _-_, _*_, _/_, _%_, _^_, _≤_, _<_}
 use native.Mathlib.Nat.{mul-assoc, mul-comm, mul-left-comm, add-mul, mul-add, suc-mul, mul-le-mul, mul-le-mul-right, mod-lt, div-add-mod', div-lt-iff-lt-mul, le-div-iff-mul-le}
 use native.Mathlib.Omega.{arith}
-use Rattle.elementary.specs.Sqrt.Isqrt.{Root, sq-lt, sq-suc}
+use Rattle.elementary.proofs.Laws.Isqrt.{sq-lt, sq-suc}
+use Rattle.elementary.specs.Inside.Sqrt.{Root}
 
 -- ---- products written out
 square : (g B h ρ l : ℕ) → (g * g * B + (h * (2 * g) + ρ)) * B + l + h * h ≡ (g * B + h) * (g * B + h) + (ρ * B + l)

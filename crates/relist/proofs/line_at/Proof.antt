@@ -1,6 +1,6 @@
 -- `line_at` meets its contract: the part from the place on comes back with the line at its start. Assumes nothing.
 use borrow.Author.Needs.{needs}
-use Rattle.relist.proofs.Parts.{line-laid}
+use Rattle.relist.proofs.Laws.Parts.{line-laid}
 use Rattle.relist.proofs.line_at.Statement.{statement}
 use Rattle.relist.proofs.line_at.Tie as tie
 

@@ -3,7 +3,7 @@ use Prim.Native.Nat.{_-_}
 use native.Mathlib.Omega.{arith}
 use lib.ListN.{length}
 use borrow.Author.Needs.{needs}
-use Rattle.relist.proofs.Listed.{So-far, none-yet, one-more, all, short-line}
+use Rattle.relist.proofs.Laws.Listed.{So-far, none-yet, one-more, all, short-line}
 use Rattle.relist.proofs.list.Statement.{statement}
 use Rattle.relist.proofs.list.Tie as tie
 

@@ -6,7 +6,7 @@ use native.Mathlib.Omega.{arith}
 use lib.ListN.{length, take}
 use lib.Seq.{length-take-le}
 use Rattle.relist.specs.Lines.{linesOf}
-use Rattle.relist.proofs.Listed.{laid-within}
+use Rattle.relist.proofs.Laws.Listed.{laid-within}
 use borrow.Author.Needs.{needs}
 use Rattle.relist.proofs.relist_block.Statement.{statement}
 use Rattle.relist.proofs.relist_block.Tie as tie

@@ -4,7 +4,7 @@ use denote.Ref.{now}
 use borrow.Author.Needs.{needs}
 use mir.Syntax.{w32}
 use mir.ValLaws.{toZ-ofZ}
-use Rattle.abi.proofs.ByKind.{files-call, files-put, files-none}
+use Rattle.abi.proofs.Laws.ByKind.{files-call, files-put, files-none}
 use Rattle.abi.proofs.book.file.Statement.{statement}
 use Rattle.abi.proofs.book.file.Tie as tie
 

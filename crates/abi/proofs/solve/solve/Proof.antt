@@ -4,7 +4,7 @@ use denote.Ref.{now}
 use borrow.Author.Needs.{needs}
 use mir.Syntax.{w32}
 use mir.ValLaws.{toZ-ofZ}
-use Rattle.abi.proofs.ByKind.{solves-call, solves-put, solves-none}
+use Rattle.abi.proofs.Laws.ByKind.{solves-call, solves-put, solves-none}
 use Rattle.abi.proofs.solve.solve.Statement.{statement}
 use Rattle.abi.proofs.solve.solve.Tie as tie
 

@@ -4,8 +4,8 @@ use mathlib.Core.Bool.{true≢false}
 use Prim.Native.Nat.{_-_, _≤_}
 use native.Mathlib.Omega.{arith}
 use borrow.Author.Needs.{needs}
-use Rattle.elementary.specs.Each.{UpTo}
-use Rattle.elementary.proofs.Eight.{one-more}
+use Rattle.elementary.specs.Inside.Each.{UpTo}
+use Rattle.elementary.proofs.Laws.Eight.{one-more}
 use Rattle.elementary.proofs.cody.alike.Statement.{statement}
 use Rattle.elementary.proofs.cody.alike.Tie as tie
 

@@ -2,7 +2,7 @@
 use mathlib.Core.Path.{ap, _∙_}
 use Rattle.elementary.specs.Exp.{expOf}
 use Rattle.elementary.specs.Cody.{negativeSquare}
-use Rattle.elementary.proofs.Eight.{copies}
+use Rattle.elementary.proofs.Laws.Eight.{copies}
 use borrow.Author.Needs.{needs}
 use Rattle.elementary.proofs.cody.exps_of_negative_squares.Statement.{statement}
 use Rattle.elementary.proofs.cody.exps_of_negative_squares.Tie as tie

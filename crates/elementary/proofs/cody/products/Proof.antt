@@ -2,10 +2,10 @@
 use mathlib.Core.Path.{refl}
 use Prim.Native.Nat.{_-_}
 use native.Mathlib.Omega.{arith}
-use Rattle.elementary.proofs.Eight.{Filled, begun, next, filled}
+use Rattle.elementary.proofs.Laws.Eight.{Filled, begun, next, filled}
 use borrow.Author.Needs.{needs}
 use Rattle.elementary.specs.Ops.{_⊗_}
-use Rattle.elementary.specs.Each.{at}
+use Rattle.elementary.specs.Inside.Each.{at}
 use Rattle.elementary.proofs.cody.products.Statement.{statement}
 use Rattle.elementary.proofs.cody.products.Tie as tie
 

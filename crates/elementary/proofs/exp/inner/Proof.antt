@@ -4,7 +4,8 @@ use Prim.Native.Nat.{ℕ}
 use borrow.Author.Needs.{needs}
 use lib.Ieee.{Float, binary64, minus}
 use Rattle.elementary.specs.Ops.{one}
-use Rattle.elementary.specs.Exp.{expSum, scaled, expK, expR, expInner, Biased}
+use Rattle.elementary.specs.Exp.{expSum, scaled, expK, expR, expInner}
+use Rattle.elementary.specs.Inside.Exp.{Biased}
 use Rattle.elementary.proofs.exp.Range.{whole-k}
 use Rattle.elementary.proofs.exp.inner.Statement.{statement}
 use Rattle.elementary.proofs.exp.inner.Tie as tie

@@ -6,8 +6,8 @@ use borrow.Author.Needs.{needs}
 use Rattle.elementary.specs.Ops.{one}
 use Rattle.elementary.specs.Exp.{expSum}
 use Rattle.elementary.proofs.exp.Turns.{Left, turned, done, fits}
-use Rattle.elementary.specs.Each.{Of}
-use Rattle.elementary.proofs.Eight.{eight}
+use Rattle.elementary.specs.Inside.Each.{Of}
+use Rattle.elementary.proofs.Laws.Eight.{eight}
 use Rattle.elementary.proofs.exp.sums.Statement.{statement}
 use Rattle.elementary.proofs.exp.sums.Tie as tie
 

@@ -5,7 +5,7 @@ use borrow.Author.Needs.{needs}
 use lib.Ieee.{binary64, ofBits, toBits}
 use lib.Ieee.Bits.{ofBits-toBits}
 use Rattle.elementary.specs.Floor.{floorOf}
-use Rattle.elementary.proofs.Bits.{differs, no-nan}
+use Rattle.elementary.proofs.Laws.Bits.{differs, no-nan}
 use Rattle.elementary.proofs.floor.Laws.{floor-large}
 use Rattle.elementary.proofs.floor.floor.Statement.{statement}
 use Rattle.elementary.proofs.floor.floor.Tie as tie

@@ -3,7 +3,7 @@ use mathlib.Core.Path.{refl}
 use Prim.Native.Nat.{_-_, _≤_}
 use native.Mathlib.Omega.{arith}
 use borrow.Author.Needs.{needs}
-use Rattle.elementary.specs.Turns.{After}
+use Rattle.elementary.specs.Inside.Turns.{After}
 use Rattle.elementary.proofs.inverse.Laws.{at-point}
 use Rattle.elementary.proofs.inverse.walk.Statement.{statement}
 use Rattle.elementary.proofs.inverse.walk.Tie as tie

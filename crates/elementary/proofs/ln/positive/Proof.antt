@@ -6,7 +6,7 @@ use native.Mathlib.Omega.{arith}
 use lib.Dec.{T, lit<}
 use lib.Ieee.Exact.{HasValue}
 use lib.Ieee.Positive.{positive-finite}
-use Rattle.elementary.specs.Round.{Digits}
+use Rattle.elementary.specs.Inside.Round.{Digits}
 use Rattle.elementary.specs.Ln.{lnAt, placeOf, significandOf}
 use Rattle.elementary.proofs.ln.Ends.{digits-of}
 use Rattle.elementary.proofs.ln.Place.{place-is, significand-is, halved, kept}

@@ -1,7 +1,7 @@
 -- `abs` meets its contract: a NaN stays, and of any other float the bits below the sign are those of its size. Assumes nothing.
 use mathlib.Core.Path.{refl}
 use Rattle.elementary.specs.Methods.{absOf}
-use Rattle.elementary.proofs.Bits.{differs, no-nan, abs-bits, abs-bits-no-nan}
+use Rattle.elementary.proofs.Laws.Bits.{differs, no-nan, abs-bits, abs-bits-no-nan}
 use Rattle.elementary.proofs.methods.abs.Statement.{statement}
 use Rattle.elementary.proofs.methods.abs.Tie as tie
 

@@ -2,7 +2,7 @@
 use mathlib.Core.Path.{refl}
 use lib.Ieee.{toBits}
 use borrow.Author.Needs.{needs}
-use Rattle.elementary.proofs.Bits.{differs, no-nan}
+use Rattle.elementary.proofs.Laws.Bits.{differs, no-nan}
 use Rattle.elementary.proofs.methods.bits_of.Statement.{statement}
 use Rattle.elementary.proofs.methods.bits_of.Tie as tie
 

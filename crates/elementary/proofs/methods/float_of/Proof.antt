@@ -1,7 +1,7 @@
 -- `float_of` meets its contract: the size of a NaN's bits is above an infinity's, and no other is. Assumes nothing.
 use mathlib.Core.Path.{sym, _∙_}
 use borrow.Author.Needs.{needs}
-use Rattle.elementary.proofs.Bits.{nan-made, nan-pattern, no-nan-pattern}
+use Rattle.elementary.proofs.Laws.Bits.{nan-made, nan-pattern, no-nan-pattern}
 use Rattle.elementary.proofs.methods.float_of.Statement.{statement}
 use Rattle.elementary.proofs.methods.float_of.Tie as tie
 

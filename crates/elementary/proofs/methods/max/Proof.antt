@@ -4,7 +4,7 @@ use mathlib.Core.Bool.{cond}
 use Prim.Native.Nat.{_^_, _≤_, _<_}
 use lib.Ieee.{Float, binary64, toBits}
 use Rattle.elementary.specs.Methods.{maxOf, signOf}
-use Rattle.elementary.proofs.Bits.{lt-ordered, no-nan, sign-clear, sign-set}
+use Rattle.elementary.proofs.Laws.Bits.{lt-ordered, no-nan, sign-clear, sign-set}
 use Rattle.elementary.proofs.methods.max.Statement.{statement}
 use Rattle.elementary.proofs.methods.max.Tie as tie
 use Rattle.elementary.proofs.methods.max.Reads as reads

@@ -1,7 +1,7 @@
 -- `methods::same` meets its contract: floats of one pattern are one float. Assumes nothing.
 use mathlib.Core.Path.{sym, subst}
 use lib.Dec.{T, eqb→eq}
-use Rattle.elementary.proofs.Bits.{equal-left, equal-right, same-bits}
+use Rattle.elementary.proofs.Laws.Bits.{equal-left, equal-right, same-bits}
 use Rattle.elementary.proofs.methods.same.Statement.{statement}
 use Rattle.elementary.proofs.methods.same.Tie as tie
 

@@ -1,7 +1,7 @@
 -- `mul_add::beyond` meets its contract: the difference is exact, and beside the addend the product counts only by its marked digits (Machine). Assumes nothing.
 use Prim.Native.Nat.{ℕ, _^_, _<_}
 use native.Mathlib.Omega.{arith}
-use Rattle.elementary.specs.Round.{wide}
+use Rattle.elementary.specs.Inside.Round.{wide}
 use Rattle.elementary.proofs.mul_add.Machine as machine
 use borrow.Author.Needs.{needs}
 use Rattle.elementary.proofs.mul_add.beyond.Statement.{statement}

@@ -6,8 +6,8 @@ use native.Mathlib.Omega.{arith}
 use lib.Dec.{lit≤}
 use lib.Pow.{pow-pos, shl-lt}
 use lib.Ieee.{binary64, sum}
-use Rattle.elementary.specs.Round.{wide}
-use Rattle.elementary.specs.MulAdd.Steps.{Placed}
+use Rattle.elementary.specs.Inside.Round.{wide}
+use Rattle.elementary.specs.Inside.MulAdd.{Placed}
 use Rattle.elementary.proofs.mul_add.Carry as carry
 use borrow.Author.Needs.{needs}
 use Rattle.elementary.proofs.mul_add.fused.Statement.{statement}

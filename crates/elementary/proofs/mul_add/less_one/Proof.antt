@@ -3,7 +3,7 @@ use mathlib.Core.Path.{_≡_, sym, ap, _∙_}
 use Prim.Native.Nat.{ℕ, _+_, _-_, _*_, _^_, _≤_}
 use native.Mathlib.Omega.{arith}
 use lib.Pow.{pow-pos}
-use Rattle.elementary.specs.Round.{wide}
+use Rattle.elementary.specs.Inside.Round.{wide}
 use Rattle.elementary.proofs.mul_add.Carry as carry
 use Rattle.elementary.proofs.mul_add.less_one.Statement.{statement}
 use Rattle.elementary.proofs.mul_add.less_one.Tie as tie

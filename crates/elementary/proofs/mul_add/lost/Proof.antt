@@ -1,7 +1,7 @@
 -- `mul_add::lost` meets its contract: the remainder by 2^d is 0 just where both parts of it are (Carry). Assumes nothing.
 use mathlib.Core.Path.{subst}
 use Prim.Native.Nat.{ℕ}
-use Rattle.elementary.specs.Round.{Any}
+use Rattle.elementary.specs.Inside.Round.{Any}
 use Rattle.elementary.proofs.mul_add.Carry as carry
 use borrow.Author.Needs.{needs}
 use Rattle.elementary.proofs.mul_add.lost.Statement.{statement}

@@ -2,8 +2,8 @@
 use mathlib.Core.Path.{_≡_}
 use Prim.Native.Nat.{ℕ, _+_, _*_, _/_, _%_, _^_, _<_}
 use native.Mathlib.Omega.{arith}
-use Rattle.elementary.specs.Round.{Same}
-use Rattle.elementary.specs.MulAdd.Steps.{Marked}
+use Rattle.elementary.specs.Inside.Round.{Same}
+use Rattle.elementary.specs.Inside.MulAdd.{Marked}
 use borrow.Author.Needs.{needs}
 use Rattle.elementary.proofs.mul_add.marked.Statement.{statement}
 use Rattle.elementary.proofs.mul_add.marked.Tie as tie

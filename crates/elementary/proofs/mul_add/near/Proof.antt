@@ -6,8 +6,8 @@ use native.Mathlib.Nat.{lt-of-lt-of-le, lt-irrefl, mul-assoc, mul-comm, pow-succ
 use native.Mathlib.Omega.{arith}
 use lib.Dec.{lit≤}
 use lib.Pow.{pow-mono, shl-lt, add-lt-pow}
-use Rattle.elementary.specs.Round.{wide}
-use Rattle.elementary.specs.MulAdd.Steps.{Turned}
+use Rattle.elementary.specs.Inside.Round.{wide}
+use Rattle.elementary.specs.Inside.MulAdd.{Turned}
 use Rattle.elementary.proofs.mul_add.Machine as machine
 use borrow.Author.Needs.{needs}
 use Rattle.elementary.proofs.mul_add.near.Statement.{statement}

@@ -6,7 +6,7 @@ use lib.Dec.{T, ltb→lt}
 use lib.Ieee.{Float, binary64, toBits, ofBits, add, sub, mul}
 use lib.Ieee.Fits.{add-fits, sub-fits}
 use borrow.Author.Needs.{needs}
-use Rattle.elementary.proofs.Bits.{abs-bits-no-nan, equal-left}
+use Rattle.elementary.proofs.Laws.Bits.{abs-bits-no-nan, equal-left}
 use Rattle.elementary.proofs.mul_add.pinned.Statement.{statement}
 use Rattle.elementary.proofs.mul_add.pinned.Tie as tie
 

@@ -2,7 +2,7 @@
 use mathlib.Core.Logic.{inl, inr}
 use Prim.Native.Nat.{ℕ, _+_, _^_, _≤_, _<_}
 use native.Mathlib.Omega.{arith}
-use Rattle.elementary.specs.MulAdd.Steps.{Apart}
+use Rattle.elementary.specs.Inside.MulAdd.{Apart}
 use Rattle.elementary.proofs.mul_add.Machine as machine
 use borrow.Author.Needs.{needs}
 use Rattle.elementary.proofs.mul_add.placed.Statement.{statement}

@@ -6,8 +6,8 @@ use native.Mathlib.Nat.{mul-le-mul}
 use native.Mathlib.Omega.{arith}
 use lib.Ieee.{binary64, unlike, sum}
 use Rattle.elementary.specs.MulAdd.{fma}
-use Rattle.elementary.specs.Round.{wide, Decoded}
-use Rattle.elementary.specs.MulAdd.Steps.{Placed, Middling, Joined}
+use Rattle.elementary.specs.Inside.Round.{wide, Decoded}
+use Rattle.elementary.specs.Inside.MulAdd.{Placed, Middling, Joined}
 use Rattle.elementary.proofs.mul_add.Carry as carry
 use Rattle.elementary.proofs.mul_add.Machine as machine
 use borrow.Author.Needs.{needs}

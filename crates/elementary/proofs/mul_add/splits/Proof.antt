@@ -2,7 +2,7 @@
 use mathlib.Core.Bool.{false≢true}
 use lib.Dec.{ltb→lt}
 use lib.Ieee.{binary64, toBits}
-use Rattle.elementary.proofs.Bits.{no-nan}
+use Rattle.elementary.proofs.Laws.Bits.{no-nan}
 use Rattle.elementary.proofs.mul_add.splits.Statement.{statement}
 use Rattle.elementary.proofs.mul_add.splits.Tie as tie
 

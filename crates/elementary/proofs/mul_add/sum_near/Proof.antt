@@ -7,7 +7,7 @@ use native.Mathlib.Omega.{arith}
 use borrow.Author.Tests.{leb-true, leb-false}
 use lib.Dec.{lit≤}
 use lib.Ieee.{binary64, round}
-use Rattle.elementary.specs.Round.{wide}
+use Rattle.elementary.specs.Inside.Round.{wide}
 use Rattle.elementary.proofs.mul_add.Sums as sums
 use borrow.Author.Needs.{needs}
 use Rattle.elementary.proofs.mul_add.sum_near.Statement.{statement}

@@ -3,7 +3,7 @@ use mathlib.Core.Path.{_≡_, ap, _∙_}
 use Prim.Native.Nat.{ℕ, _+_, _-_, _*_, _^_, _≤_}
 use native.Mathlib.Omega.{arith}
 use lib.Ieee.{binary64, sum}
-use Rattle.elementary.specs.Round.{wide}
+use Rattle.elementary.specs.Inside.Round.{wide}
 use borrow.Author.Needs.{needs}
 use Rattle.elementary.proofs.mul_add.sum_ordered.Statement.{statement}
 use Rattle.elementary.proofs.mul_add.sum_ordered.Tie as tie

@@ -2,7 +2,7 @@
 use mathlib.Core.Path.{_∙_}
 use Prim.Native.Nat.{_*_, _^_}
 use lib.Ieee.{binary64}
-use Rattle.elementary.specs.Round.{wide}
+use Rattle.elementary.specs.Inside.Round.{wide}
 use Rattle.elementary.proofs.mul_add.Exactly as exactly
 use borrow.Author.Needs.{needs}
 use Rattle.elementary.proofs.mul_add.sum_wide.Statement.{statement}

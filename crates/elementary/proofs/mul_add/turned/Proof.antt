@@ -3,7 +3,7 @@ use mathlib.Core.Path.{_≡_, sym, _∙_}
 use mathlib.Core.Bool.{true≢false, false≢true}
 use Prim.Native.Nat.{ℕ, _+_, _-_, _^_, _<_}
 use native.Mathlib.Omega.{arith}
-use Rattle.elementary.specs.Round.{wide}
+use Rattle.elementary.specs.Inside.Round.{wide}
 use borrow.Author.Needs.{needs}
 use Rattle.elementary.proofs.mul_add.turned.Statement.{statement}
 use Rattle.elementary.proofs.mul_add.turned.Tie as tie

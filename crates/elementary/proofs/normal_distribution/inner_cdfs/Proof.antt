@@ -2,8 +2,8 @@
 use mathlib.Core.Path.{refl}
 use Prim.Native.Nat.{_-_}
 use native.Mathlib.Omega.{arith}
-use Rattle.elementary.specs.Each.{Of}
-use Rattle.elementary.proofs.Eight.{Filled, begun, next, filled}
+use Rattle.elementary.specs.Inside.Each.{Of}
+use Rattle.elementary.proofs.Laws.Eight.{Filled, begun, next, filled}
 use borrow.Author.Needs.{needs}
 use Rattle.elementary.specs.Rules.{rules-0}
 use Rattle.elementary.specs.NormalDistribution.{cdfOf}

@@ -3,7 +3,7 @@ use lib.Ieee.{div, neg, ofBits}
 use lib.Ieee.Compare.{differs-from-itself}
 use Rattle.elementary.specs.Rules.{rules-0}
 use Rattle.elementary.specs.NormalDistribution.{inverseOf}
-use Rattle.elementary.specs.Inverse.{lowest-under, highest-over}
+use Rattle.elementary.proofs.Laws.Inverse.{lowest-under, highest-over}
 use Rattle.elementary.proofs.normal_distribution.inverse_normal_cdf.Statement.{statement}
 use Rattle.elementary.proofs.normal_distribution.inverse_normal_cdf.Tie as tie
 

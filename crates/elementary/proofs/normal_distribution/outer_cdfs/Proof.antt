@@ -2,12 +2,12 @@
 use mathlib.Core.Path.{_≡_, refl, ap, _∙_}
 use Prim.Native.Nat.{_-_}
 use native.Mathlib.Omega.{arith}
-use Rattle.elementary.proofs.Eight.{Filled, begun, next, filled}
+use Rattle.elementary.proofs.Laws.Eight.{Filled, begun, next, filled}
 use borrow.Author.Needs.{needs}
 use lib.Ieee.{Float, neg}
 use Rattle.elementary.specs.Ops.{_⊗_, half}
 use Rattle.elementary.specs.Rules.{rules-0}
-use Rattle.elementary.specs.Each.{Of}
+use Rattle.elementary.specs.Inside.Each.{Of}
 use Rattle.elementary.specs.Cody.{erfcOf, smoothenedExponentialOfNegativeSquare}
 use Rattle.elementary.specs.NormalDistribution.{FRAC-1-SQRT-2, cdfOf}
 use Rattle.elementary.proofs.normal_distribution.outer_cdfs.Statement.{statement}

@@ -1,7 +1,7 @@
 -- `round::assembled` meets its contract: the fields read back from the pattern (Fields). Assumes nothing.
 use Prim.Native.Nat.{ℕ, _+_, _*_, _%_, _^_, _<_}
 use native.Mathlib.Omega.{arith}
-use Rattle.elementary.proofs.Fields as fields
+use Rattle.elementary.proofs.Laws.Fields as fields
 use borrow.Author.Needs.{needs}
 use Rattle.elementary.proofs.round.assembled.Statement.{statement}
 use Rattle.elementary.proofs.round.assembled.Tie as tie

@@ -1,7 +1,7 @@
 -- `round::finite` meets its contract: the two comparisons, by cases on the float. Assumes nothing.
 use lib.Dec.{lit≤}
-use Rattle.elementary.proofs.Decode as decode
-use Rattle.elementary.proofs.Bits.{no-nan-pattern}
+use Rattle.elementary.proofs.Laws.Decode as decode
+use Rattle.elementary.proofs.Laws.Bits.{no-nan-pattern}
 use Rattle.elementary.proofs.round.finite.Statement.{statement}
 use Rattle.elementary.proofs.round.finite.Tie as tie
 

@@ -4,7 +4,7 @@ use Prim.Native.Nat.{ℕ, _-_, _≤_, _<_}
 use native.Mathlib.Nat.{lt-of-lt-of-le}
 use native.Mathlib.Omega.{arith}
 use lib.Dec.{lit≤}
-use Rattle.elementary.proofs.Decode as decode
+use Rattle.elementary.proofs.Laws.Decode as decode
 use borrow.Author.Needs.{needs}
 use Rattle.elementary.proofs.round.lifted.Statement.{statement}
 use Rattle.elementary.proofs.round.lifted.Tie as tie

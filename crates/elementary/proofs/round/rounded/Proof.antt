@@ -8,10 +8,10 @@ use mathlib.Core.Bool.{false}
 use lib.Dec.{T, lit≤, lit<}
 use lib.Ieee.{Float, binary64, ofBits, fits}
 use lib.Ieee.Fits.{round-fits}
-use Rattle.elementary.specs.Round.{Any, Halved}
-use Rattle.elementary.proofs.Leaf as leaf
-use Rattle.elementary.proofs.Bits.{no-nan-pattern}
-use Rattle.elementary.proofs.Pattern as pattern
+use Rattle.elementary.specs.Inside.Round.{Any, Halved}
+use Rattle.elementary.proofs.Laws.Leaf as leaf
+use Rattle.elementary.proofs.Laws.Bits.{no-nan-pattern}
+use Rattle.elementary.proofs.Laws.Pattern as pattern
 use Rattle.elementary.proofs.round.rounded.Statement.{statement}
 use Rattle.elementary.proofs.round.rounded.Tie as tie
 

@@ -6,9 +6,9 @@ use native.Mathlib.Omega.{arith}
 use borrow.Author.Tests.{ltb-true, ltb-false}
 use lib.Pow.{pow-pos}
 use lib.Ieee.{binary64, round, neg}
-use Rattle.elementary.specs.Round.{wide}
-use Rattle.elementary.proofs.Words as words
-use Rattle.elementary.proofs.Sign as sign
+use Rattle.elementary.specs.Inside.Round.{wide}
+use Rattle.elementary.proofs.Laws.Words as words
+use Rattle.elementary.proofs.Laws.Sign as sign
 use borrow.Author.Needs.{needs}
 use Rattle.elementary.proofs.round.rounded_exact.Statement.{statement}
 use Rattle.elementary.proofs.round.rounded_exact.Tie as tie

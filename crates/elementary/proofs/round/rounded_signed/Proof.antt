@@ -2,7 +2,7 @@
 use mathlib.Core.Path.{ap, _∙_}
 use mathlib.Core.Bool.{cond}
 use lib.Ieee.{Float, binary64, neg}
-use Rattle.elementary.proofs.Sign as sign
+use Rattle.elementary.proofs.Laws.Sign as sign
 use borrow.Author.Needs.{needs}
 use Rattle.elementary.proofs.round.rounded_signed.Statement.{statement}
 use Rattle.elementary.proofs.round.rounded_signed.Tie as tie

@@ -4,8 +4,8 @@ use Prim.Native.Nat.{ℕ, _+_, _-_, _*_, _/_, _%_, _^_, _≤_, _<_}
 use native.Mathlib.Nat.{mul-assoc, mul-pos}
 use native.Mathlib.Omega.{arith}
 use lib.Pow.{pow-add, pow-pos}
-use Rattle.elementary.specs.Round.{Cut, Any, wide}
-use Rattle.elementary.proofs.Words as words
+use Rattle.elementary.specs.Inside.Round.{Cut, Any, wide}
+use Rattle.elementary.proofs.Laws.Words as words
 use borrow.Author.Needs.{needs}
 use Rattle.elementary.proofs.round.rounded_wide.Statement.{statement}
 use Rattle.elementary.proofs.round.rounded_wide.Tie as tie

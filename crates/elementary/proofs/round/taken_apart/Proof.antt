@@ -4,8 +4,8 @@ use mathlib.Core.Bool.{Bool}
 use native.Mathlib.Omega.{arith}
 use lib.Dec.{T}
 use lib.Ieee.{binary64, fits}
-use Rattle.elementary.specs.Round.{Decoded}
-use Rattle.elementary.proofs.Decode as decode
+use Rattle.elementary.specs.Inside.Round.{Decoded}
+use Rattle.elementary.proofs.Laws.Decode as decode
 use borrow.Author.Needs.{needs}
 use Rattle.elementary.proofs.round.taken_apart.Statement.{statement}
 use Rattle.elementary.proofs.round.taken_apart.Tie as tie

@@ -5,7 +5,7 @@ use native.Mathlib.Nat.{le-trans, le-of-eq, lt-of-lt-of-le, mul-le-mul-right, mu
 use native.Mathlib.Omega.{arith}
 use lib.Pow.{pow-add, pow-pos}
 use lib.Count.{leadingZeros, leading-top, leading-le}
-use Rattle.elementary.specs.Round.{Lead}
+use Rattle.elementary.specs.Inside.Round.{Lead}
 use Rattle.elementary.proofs.round.zeros.Statement.{statement}
 use Rattle.elementary.proofs.round.zeros.Tie as tie
 

@@ -3,7 +3,7 @@ use mathlib.Core.Logic.{⊎-elim, inl, inr}
 use Prim.Native.Nat.{_^_}
 use native.Mathlib.Omega.{arith}
 use borrow.Author.Needs.{needs}
-use Rattle.elementary.specs.Sqrt.Isqrt.{sq-suc}
+use Rattle.elementary.proofs.Laws.Isqrt.{sq-suc}
 use Rattle.elementary.proofs.sqrt.Steps.{first-digits, root-range}
 use Rattle.elementary.proofs.sqrt.digits.Statement.{statement}
 use Rattle.elementary.proofs.sqrt.digits.Tie as tie

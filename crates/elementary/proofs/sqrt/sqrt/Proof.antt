@@ -10,7 +10,7 @@ use lib.Ieee.Fits.{up-pos, and-l}
 use lib.Ieee.Bits.{ofBits-toBits}
 use Rattle.elementary.specs.Methods.{signOf}
 use Rattle.elementary.specs.Sqrt.{sqrtOf}
-use Rattle.elementary.proofs.Bits.{lt-ordered, no-nan, no-sign, nan-made}
+use Rattle.elementary.proofs.Laws.Bits.{lt-ordered, no-nan, no-sign, nan-made}
 use Rattle.elementary.proofs.sqrt.Laws.{root-top}
 use Rattle.elementary.proofs.sqrt.sqrt.Statement.{statement}
 use Rattle.elementary.proofs.sqrt.sqrt.Tie as tie

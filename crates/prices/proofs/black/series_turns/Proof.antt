@@ -7,13 +7,13 @@ use borrow.Author.Needs.{needs}
 use lib.Dec.{T, le→leb}
 use lib.IntN.{pos}
 use lib.Ieee.{Float, binary64, neg, ofBits, ofInt, inFloat}
-use Rattle.elementary.specs.Ops.{_⊕_, _⊗_, _⊘_, whole, one, two}
+use Rattle.elementary.specs.Ops.{_⊕_, _⊗_, _⊘_, float, one, two}
 use Rattle.prices.specs.Black.{seriesTurns}
 use Rattle.prices.proofs.black.series_turns.Statement.{statement}
 use Rattle.prices.proofs.black.series_turns.Tie as tie
 
 abbrev factor : ℕ → Float
-factor i = (two ⊗ whole i ⊕ two) ⊗ (two ⊗ whole i ⊕ ofBits binary64 0x4008_0000_0000_0000)
+factor i = (two ⊗ float i ⊕ two) ⊗ (two ⊗ float i ⊕ ofBits binary64 0x4008_0000_0000_0000)
 
 -- what is left before turn i
 record Left (z2 start first y sign term : Float) (i : ℕ) : Type 0 where

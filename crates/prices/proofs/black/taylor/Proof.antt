@@ -1,6 +1,6 @@
 -- `black::taylor` meets its contract: each call is its definition, and `fma` by 1 is the last sum. Assumes nothing.
 use mathlib.Core.Path.{sym, _∙_}
-use Rattle.elementary.specs.MulAdd.One.{fma-one}
+use Rattle.elementary.proofs.Laws.FmaOne.{fma-one}
 use Rattle.prices.specs.Black.{taylorOf}
 use borrow.Author.Needs.{needs}
 use Rattle.prices.proofs.black.taylor.Statement.{statement}

@@ -1,5 +1,5 @@
 -- `point::in_region` meets its contract: each way out is the arm that the tests before it leave. Assumes nothing.
-use Rattle.elementary.specs.Compare.{not-le-of-lt}
+use Rattle.elementary.proofs.Laws.Compare.{not-le-of-lt}
 use Rattle.prices.specs.Black.{SMALL-T, smallTOf, codysWith, regionWith}
 use borrow.Author.Needs.{needs}
 use Rattle.prices.proofs.point.in_region.Statement.{statement}

@@ -16,7 +16,7 @@ use Rattle.solver.specs.declared.state.Solution.the-variants.{Solved, Re
 use Rattle.solver.specs.declared.state.Filing.{Filing}
 use Rattle.solver.specs.declared.state.Filing.the-variants.{Filed, Refused as NotFiled}
 use Rattle.solver.specs.Book.{filedBytes, filed}
-use Rattle.solver.proofs.Parts.{part-laid}
+use Rattle.solver.proofs.Laws.Parts.{part-laid}
 use borrow.Author.Needs.{needs}
 use Rattle.solver.proofs.book.file_in_slot.Statement.{statement}
 use Rattle.solver.proofs.book.file_in_slot.Tie as tie

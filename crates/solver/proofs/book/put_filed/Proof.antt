@@ -12,7 +12,7 @@ use mir.ValLaws.{toZ-ofZ}
 use Rattle.prices.specs.declared.inputs.OptionType.{OptionType}
 use Rattle.solver.specs.Trail.{bytesOf, floatBytes, laid}
 use Rattle.solver.specs.Book.{kindByte, limitBits, filedBytes}
-use Rattle.solver.proofs.Parts.{behind}
+use Rattle.solver.proofs.Laws.Parts.{behind}
 use borrow.Author.Needs.{needs}
 use Rattle.solver.proofs.book.put_filed.Statement.{statement}
 use Rattle.solver.proofs.book.put_filed.Tie as tie

@@ -4,7 +4,7 @@ use mathlib.Core.Bool.{cond}
 use lib.Ieee.{lt}
 use Rattle.elementary.specs.Rules.{rules-0}
 use Rattle.solver.specs.Guess.{withValue, lowerBegun, upperBegun, guessedBegun}
-use Rattle.solver.proofs.Priced.{price-is, refusal-is, vega-is}
+use Rattle.solver.proofs.Laws.Priced.{price-is, refusal-is, vega-is}
 use borrow.Author.Needs.{needs}
 use Rattle.solver.proofs.guess.guessed_start.Statement.{statement}
 use Rattle.solver.proofs.guess.guessed_start.Tie as tie

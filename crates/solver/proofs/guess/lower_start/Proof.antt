@@ -2,7 +2,7 @@
 use mathlib.Core.Path.{refl}
 use Rattle.solver.specs.Step.{lowerStep, generalStep}
 use Rattle.solver.specs.Guess.{withValue, lowerBegun}
-use Rattle.solver.proofs.Priced.{price-is, refusal-is, vega-is}
+use Rattle.solver.proofs.Laws.Priced.{price-is, refusal-is, vega-is}
 use borrow.Author.Needs.{needs}
 use Rattle.solver.proofs.guess.lower_start.Statement.{statement}
 use Rattle.solver.proofs.guess.lower_start.Tie as tie

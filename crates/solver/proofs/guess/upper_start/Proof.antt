@@ -2,7 +2,7 @@
 use mathlib.Core.Path.{refl}
 use Rattle.solver.specs.Step.{generalStep}
 use Rattle.solver.specs.Guess.{withValue, upperBegun}
-use Rattle.solver.proofs.Priced.{price-is, refusal-is, vega-is}
+use Rattle.solver.proofs.Laws.Priced.{price-is, refusal-is, vega-is}
 use borrow.Author.Needs.{needs}
 use Rattle.solver.proofs.guess.upper_start.Statement.{statement}
 use Rattle.solver.proofs.guess.upper_start.Tie as tie

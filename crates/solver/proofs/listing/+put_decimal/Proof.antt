@@ -4,8 +4,8 @@ use Prim.Native.Nat.{ℕ, _+_, _-_, _/_, _%_, _<_}
 use native.Mathlib.Omega.{arith}
 use borrow.Author.Needs.{needs}
 use Rattle.solver.specs.Listing.{decimalBy}
-use Rattle.solver.specs.Laid.{put-both, put-none}
-use Rattle.solver.specs.Lines.{decimal-length}
+use Rattle.solver.proofs.Laws.Laid.{put-both, put-none}
+use Rattle.solver.proofs.Laws.Lines.{decimal-length}
 use Rattle.solver.proofs.listing.Digits.{not-zero, decimal-none, decimal-one, decimal-more}
 use borrow.Fn.Kinds.{In}
 use borrow.Fn.PlainCycle.{Measures, is, falls, and}

@@ -8,8 +8,8 @@ use lib.ListN.{length}
 use borrow.Author.Needs.{needs}
 use borrow.Author.Tests.{lt-ltb, le-ltb}
 use Rattle.solver.specs.Listing.{decimalBy, told, lineOf, lineIn}
-use Rattle.solver.specs.Laid.{put-both}
-use Rattle.solver.specs.Lines.{decimal-length, told-length}
+use Rattle.solver.proofs.Laws.Laid.{put-both}
+use Rattle.solver.proofs.Laws.Lines.{decimal-length, told-length}
 use Rattle.solver.proofs.listing.line.Statement.{statement}
 use Rattle.solver.proofs.listing.line.Tie as tie
 

@@ -3,7 +3,7 @@ use mathlib.Core.List.{[], _∷_}
 use native.Mathlib.Omega.{arith}
 use borrow.Author.Needs.{needs}
 use Rattle.solver.specs.Listing.{decimalBy}
-use Rattle.solver.specs.Laid.{put-both}
+use Rattle.solver.proofs.Laws.Laid.{put-both}
 use Rattle.solver.proofs.listing.put_spaced.Statement.{statement}
 use Rattle.solver.proofs.listing.put_spaced.Tie as tie
 

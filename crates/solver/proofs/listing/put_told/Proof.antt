@@ -4,8 +4,8 @@ use Prim.Native.Nat.{ℕ, _≤_}
 use native.Mathlib.Omega.{arith}
 use lib.ListN.{length}
 use Rattle.solver.specs.Listing.{hexBy, spaced}
-use Rattle.solver.specs.Laid.{put-both}
-use Rattle.solver.specs.Lines.{decimal-length, hex-length}
+use Rattle.solver.proofs.Laws.Laid.{put-both}
+use Rattle.solver.proofs.Laws.Lines.{decimal-length, hex-length}
 use borrow.Author.Needs.{needs}
 use Rattle.solver.proofs.listing.put_told.Statement.{statement}
 use Rattle.solver.proofs.listing.put_told.Tie as tie

@@ -1,6 +1,6 @@
 -- `market::priced` meets its contract: the exponentials are those of x. Assumes nothing.
 use Rattle.elementary.specs.Rules.{rules-0}
-use Rattle.prices.specs.Exponentials.{at-own-exponentials}
+use Rattle.prices.proofs.Laws.Exponentials.{at-own-exponentials}
 use borrow.Author.Needs.{needs}
 use Rattle.solver.proofs.market.priced.Statement.{statement}
 use Rattle.solver.proofs.market.priced.Tie as tie

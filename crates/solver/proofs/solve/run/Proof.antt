@@ -6,8 +6,8 @@ use mathlib.Core.Logic.{⊎-elim}
 use lib.ListN.{length, length-append, length-take, length-drop}
 use native.Mathlib.Omega.{arith}
 use borrow.Author.Needs.{needs}
-use Rattle.solver.proofs.Reached.{Reached, none-wrote, one-more, goes-on, stops, runs-out, next-goes, next-refused, next-tested, ended}
-use Rattle.solver.proofs.Parts.{part-laid}
+use Rattle.solver.proofs.Laws.Reached.{Reached, none-wrote, one-more, goes-on, stops, runs-out, next-goes, next-refused, next-tested, ended}
+use Rattle.solver.proofs.Laws.Parts.{part-laid}
 use Rattle.elementary.specs.Rules.{rules-0}
 use Rattle.solver.specs.declared.state.State.{State}
 use Rattle.solver.specs.declared.state.Stepped.{Stepped}

@@ -4,7 +4,7 @@ use lib.ListN.{length}
 use denote.Ref.{now}
 use borrow.Author.Needs.{needs}
 use Rattle.solver.specs.Solve.{solvingOf}
-use Rattle.solver.proofs.Solving.{by-number, by-trail, by-start, Long, short, long, room, untouched, ran-on}
+use Rattle.solver.proofs.Laws.Solving.{by-number, by-trail, by-start, Long, short, long, room, untouched, ran-on}
 use Rattle.solver.proofs.solve.solve.Statement.{statement}
 use Rattle.solver.proofs.solve.solve.Tie as tie
 

@@ -1,5 +1,5 @@
 -- `step::step` meets its contract: what the calls found, in the record and in the state. Assumes nothing.
-use Rattle.solver.proofs.Priced.{price-is, refusal-is, vega-is}
+use Rattle.solver.proofs.Laws.Priced.{price-is, refusal-is, vega-is}
 use borrow.Author.Needs.{needs}
 use Rattle.solver.proofs.step.step.Statement.{statement}
 use Rattle.solver.proofs.step.step.Tie as tie

@@ -3,7 +3,7 @@ use mathlib.Core.Path.{_≡_}
 use mathlib.Core.Bool.{_||_}
 use mathlib.Core.Logic.{⊎-elim}
 use lib.Ieee.{le, ofBits, ofInt}
-use Rattle.prices.specs.RationalCubic.{MIN}
+use Rattle.elementary.specs.Ops.{MIN}
 use Rattle.solver.specs.Step.{upperDs}
 use borrow.Author.Needs.{needs}
 use Rattle.solver.proofs.step.upper_ds.Statement.{statement}

@@ -1,7 +1,7 @@
 -- `trail::put_number_at` meets its contract: the part from `at` on comes back with the number's bytes at its start.
 use borrow.Author.Needs.{needs}
 use denote.Ref.{now}
-use Rattle.solver.proofs.Parts.{number-laid}
+use Rattle.solver.proofs.Laws.Parts.{number-laid}
 use Rattle.solver.proofs.trail.put_number_at.Statement.{statement}
 use Rattle.solver.proofs.trail.put_number_at.Tie as tie
 

@@ -1,5 +1,5 @@
 -- `trail::put_record` meets its contract: six floats, one behind the other.
-use Rattle.solver.proofs.Parts.{behind}
+use Rattle.solver.proofs.Laws.Parts.{behind}
 use Rattle.solver.specs.Trail.{laid, floatBytes, recordBytes}
 use mathlib.Core.Path.{_≡_}
 use mathlib.Core.List.{List, _++_}

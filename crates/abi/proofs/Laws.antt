@@ -1,0 +1,2 @@
+-- Laws, by subject. Nobody has to believe them: each is proved.
+pub mod ByKind

@@ -1,0 +1,3 @@
+mod Methods
+mod Floor
+mod Sqrt

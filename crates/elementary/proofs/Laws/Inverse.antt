@@ -1,0 +1,111 @@
+-- Document 01's sentence on the inverse cdf, "Then cdf(lo) < p ≤ cdf(hi)": the 64 turns end with p between the cdf's values at the two ends, for every
+-- p strictly between 0 and 1 and under every rule set. The cdf need not be monotone for it. Assumes nothing.
+use mathlib.Core.Path.{_≡_, refl, sym, _∙_}
+use mathlib.Core.Bool.{Bool, true, false, cond, true≢false}
+use Prim.Native.Nat.{ℕ, zero, suc}
+use lib.Dec.{T, lit≤}
+use lib.Ieee.{Float, nan, inf, fin, mul, div, sub, neg, eq, lt, le, ne, ofBits, ofInt, toSigned}
+use lib.Ieee.Scale.{finite}
+use Rattle.elementary.specs.Ops.{+0, one}
+use Rattle.elementary.specs.Rules.{Rules}
+use Rattle.elementary.specs.Methods.{absOf}
+use Rattle.elementary.specs.Floor.{floorOf}
+use Rattle.elementary.specs.Exp.{expOf, expInner, expSum, scaled}
+use Rattle.elementary.specs.Cody.{erfcOf, erfcAbs, smoothenedExponentialOfNegativeSquare, tildeOf}
+use Rattle.elementary.specs.NormalDistribution.{cdfOf, midOf, bisected, lowest, highest, endsOf, inverseOf}
+use Rattle.elementary.proofs.Laws.Bounds.{side-finite, small-exact, half-at-most, add-at-most}
+use Rattle.elementary.specs.Inside.Bounds.{AtMost}
+use Rattle.elementary.proofs.Laws.Compare.{lt-asym, le-of-not-lt, not-le-of-lt, not-lt-of-not-le, equal-itself}
+use Rattle.elementary.proofs.Laws.Finite.{cdf-at-most}
+
+pub record Brackets (cdf : Float → Float) (p lo hi : Float) : Type 0 where
+  pub under : lt (cdf lo) p ≡ true
+  pub over : le p (cdf hi) ≡ true
+
+-- a p strictly between 0 and 1 is finite, and no end of the inverse's range
+between-finite : (p : Float) → lt +0 p ≡ true → lt p one ≡ true → T (finite p)
+unfolding lt ofBits
+between-finite nan h k = absurd (true≢false (sym h))
+between-finite (inf true) h k = absurd (true≢false (sym h))
+between-finite (inf false) h k = absurd (true≢false (sym k))
+between-finite (fin s m e) h k = tt
+
+-- ---- the ends of the bisection, after any number of turns
+record Held (cdf : Float → Float) (p lo hi : Float) : Type 0 where
+  under : lt (cdf lo) p ≡ true
+  over : lt (cdf hi) p ≡ false
+  lo-range : AtMost lo 39
+  hi-range : AtMost hi 39
+
+mid-range : {lo hi : Float} → AtMost lo 39 → AtMost hi 39 → AtMost (midOf lo hi) 39
+mid-range h k = half-at-most 39 (small-exact 39 (lit≤ tt)) (add-at-most 78 (small-exact 78 (lit≤ tt)) (lit≤ tt) h k)
+
+held : (cdf : Float → Float) (n : ℕ) (p lo hi : Float) → Held cdf p lo hi → Held cdf p (bisected cdf n p lo hi .lo) (bisected cdf n p lo hi .hi)
+unfolding bisected
+held cdf zero p lo hi h = h
+held cdf (suc n) p lo hi h = held cdf n p _ _ (go (lt (cdf (midOf lo hi)) p) refl)
+  where
+    go : (b : Bool) → lt (cdf (midOf lo hi)) p ≡ b → Held cdf p (cond b (midOf lo hi) lo) (cond b hi (midOf lo hi))
+    go true t = record { under = t; over = h .over; lo-range = mid-range (h .lo-range) (h .hi-range); hi-range = h .hi-range }
+    go false t = record { under = h .under; over = t; lo-range = h .lo-range; hi-range = mid-range (h .lo-range) (h .hi-range) }
+
+-- ---- at the two first ends
+at-lowest : (rules : Rules) → cdfOf rules lowest ≡ +0
+unfolding cdfOf erfcOf absOf erfcAbs smoothenedExponentialOfNegativeSquare tildeOf expOf expInner expSum scaled floorOf mul sub div neg ofBits ofInt toSigned lt le ne
+at-lowest rules = go (rules .far-factor)
+  where
+    go : (b : Bool) → cdfOf (record { far-factor = b }) lowest ≡ +0
+    go true = refl
+    go false = refl
+
+at-highest : (rules : Rules) → cdfOf rules highest ≡ one
+unfolding cdfOf erfcOf absOf erfcAbs smoothenedExponentialOfNegativeSquare tildeOf expOf expInner expSum scaled floorOf mul sub div neg ofBits ofInt toSigned lt le ne
+at-highest rules = go (rules .far-factor)
+  where
+    go : (b : Bool) → cdfOf (record { far-factor = b }) highest ≡ one
+    go true = refl
+    go false = refl
+
+lowest-range : AtMost lowest 39
+unfolding neg ofBits
+lowest-range = record { sign = true; side = record { sized = (refl, lit≤ tt) } }
+
+highest-range : AtMost highest 39
+unfolding ofBits
+highest-range = record { sign = false; side = record { sized = (refl, lit≤ tt) } }
+
+-- ---- where the inverse bisects, the first ends lie on both sides of p
+positive : (p : Float) → ne p p ≡ false → le p +0 ≡ false → lt +0 p ≡ true
+unfolding ne eq le lt ofBits
+positive nan n h = absurd (true≢false n)
+positive (inf true) n h = absurd (true≢false h)
+positive (inf false) n h = refl
+positive (fin s m e) n h = go (lt +0 (fin s m e)) refl
+  where
+    go : (b : Bool) → lt +0 (fin s m e) ≡ b → lt +0 (fin s m e) ≡ true
+    go true t = t
+    go false t = absurd (true≢false (sym (le-of-not-lt +0 (fin s m e) tt tt t) ∙ h))
+
+pub lowest-under : (rules : Rules) (p : Float) → ne p p ≡ false → le p +0 ≡ false → lt (cdfOf rules lowest) p ≡ true
+lowest-under rules p n h = rw (at-lowest rules) (positive p n h)
+
+pub highest-over : (rules : Rules) (p : Float) → le one p ≡ false → lt (cdfOf rules highest) p ≡ false
+highest-over rules p h = rw (at-highest rules) (not-lt-of-not-le one p h)
+
+-- ---- the theorem
+pub inverse-brackets : (rules : Rules) (p : Float) → lt +0 p ≡ true → lt p one ≡ true → Brackets (cdfOf rules) p (endsOf rules p .lo) (endsOf rules p .hi)
+unfolding endsOf
+inverse-brackets rules p above-0 below-1 =
+    let begun : Held (cdfOf rules) p lowest highest =
+    record { under = rw (at-lowest rules) above-0; over = rw (at-highest rules) (lt-asym p one below-1); lo-range = lowest-range; hi-range = highest-range } in
+    let h = held (cdfOf rules) 64 p lowest highest begun in
+    let hi = bisected (cdfOf rules) 64 p lowest highest .hi in
+    record {
+      under = h .under;
+      over = le-of-not-lt (cdfOf rules hi) p (side-finite (cdf-at-most rules (h .hi-range) .side)) (between-finite p above-0 below-1) (h .over);
+    }
+
+-- and there the inverse is the upper end
+pub inverse-is-hi : (rules : Rules) (p : Float) → lt +0 p ≡ true → lt p one ≡ true → inverseOf rules p ≡ endsOf rules p .hi
+unfolding inverseOf
+inverse-is-hi rules p above-0 below-1 = rw (equal-itself p (between-finite p above-0 below-1), not-le-of-lt +0 p above-0, not-le-of-lt p one below-1)

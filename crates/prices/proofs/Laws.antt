@@ -1,0 +1,3 @@
+-- Laws, by subject. Nobody has to believe them: each is proved.
+pub mod Refusals
+pub mod Exponentials

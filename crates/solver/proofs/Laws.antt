@@ -1,0 +1,13 @@
+-- Laws, by subject. Nobody has to believe them: each is proved.
+-- Runs and steps.
+pub mod Runs
+pub mod Bracket
+pub mod Half
+pub mod Forms
+pub mod Priced
+pub mod Reached
+pub mod Solving
+-- Lists and bytes.
+pub mod Laid
+pub mod Lines
+pub mod Parts

@@ -1,0 +1,130 @@
+-- What a completed step says of the bracket's ends, and so what every record of a loop says. Of the steps nothing is used but the two moves. Assumes nothing.
+use mathlib.Core.Path.{_≡_, refl, subst}
+use mathlib.Core.Bool.{Bool, true, false, cond, _&&_}
+use mathlib.Core.Logic.{_⊎_, inl, inr}
+use mathlib.Core.List.{List}
+use Prim.Native.Nat.{ℕ, _≤_}
+use native.Mathlib.Omega.{arith}
+use lib.Ieee.{Float, lt}
+use Rattle.elementary.specs.Rules.{Rules}
+use Rattle.elementary.proofs.Laws.Compare.{lt-asym}
+use Rattle.prices.specs.declared.answer.Answer.{Answer}
+use Rattle.prices.specs.declared.answer.Answer.the-variants.{Value, Refused as Number}
+use Rattle.prices.specs.Vega.{vegaOf}
+use Rattle.prices.specs.Black.{callOf}
+use Rattle.solver.specs.declared.state.State.{State}
+use Rattle.solver.specs.declared.state.Record.{Record}
+use Rattle.solver.specs.declared.state.Stepped.{Stepped}
+use Rattle.solver.specs.declared.state.Stepped.the-variants.{Went, Refused}
+use Rattle.solver.specs.Loop.{goes, ends, tested, run, At, Linked}
+use Rattle.solver.specs.declared.state.Ends.{Ends}
+use Rattle.solver.specs.Step.{endsAfter, dsAt, recordOf, stateAfter, withPrice, stepBy, isClose, turnOf, nextBy}
+use Rattle.solver.proofs.Laws.Runs.{trace, linked, from}
+
+-- ---- a completed step, from the state that it starts at
+pub went : (step : State → Stepped) (st st′ : State) (r : Record) → nextBy step st ≡ goes r st′ → step st ≡ Went st′ r
+went step st st′ r = cases (isClose st) (step st)
+  where
+    cases : (c : Bool) (w : Stepped) → cond c (ends (tested st)) (turnOf w) ≡ goes r st′ → w ≡ Went st′ r
+    cases true w e = cc
+    cases false (Went st″ q) e = cc
+    cases false (Refused n) e = cc
+
+-- ---- what it says of the ends: those of its record are the state's, moved by its price and its s, and the next state has them
+pub record Moved (beta : Float) (st st′ : State) (r : Record) : Type 0 where
+  pub bracket : endsAfter (r .b) beta (r .s) (st .left) (st .right) ≡ record { left = r .left; right = r .right }
+  pub left : st′ .left ≡ r .left
+  pub right : st′ .right ≡ r .right
+
+module _ (dsOf : Float → Float → Float → Ends → Float) (afterOf : Float → Float → Float) (rules : Rules) (x beta : Float) where
+  -- the record and the state of a completed step, and its s after
+  pub record Completed (st st′ : State) (r : Record) : Type 0 where
+    pub moved : Moved beta st st′ r
+    pub from-s : r .s ≡ st .s
+    pub ds : Float
+    pub after : r .after ≡ afterOf (st .s) ds
+    pub next-s : st′ .s ≡ r .after
+
+  pub completed : (st st′ : State) (r : Record) → nextBy (stepBy dsOf afterOf rules x beta) st ≡ goes r st′ → Completed st st′ r
+  completed st st′ r e = priced (callOf rules x (st .s)) (went (stepBy dsOf afterOf rules x beta) st st′ r e)
+    where
+      S : Float → State
+      S b = stateAfter dsOf afterOf beta st b (vegaOf x (st .s))
+
+      R : Float → Record
+      R b = recordOf dsOf afterOf beta st b (vegaOf x (st .s))
+
+      same-state : (b : Float) → Went (S b) (R b) ≡ Went st′ r → S b ≡ st′
+      same-state b h = cc
+
+      same-record : (b : Float) → Went (S b) (R b) ≡ Went st′ r → R b ≡ r
+      same-record b h = cc
+
+      apart : (n : ℕ) → Refused n ≡ Went st′ r → ⊥
+      apart n h = let z : _≡_ {A = ℕ} 0 1 = cc in omega arith
+
+      priced : (a : Answer) → withPrice a (λ b. Went (S b) (R b)) ≡ Went st′ r → Completed st st′ r
+      priced (Number n) h = absurd (apart n h)
+      priced (Value b) h =
+          rw (← same-state b h, ← same-record b h)
+          (record { moved = record { bracket = refl; left = refl; right = refl }; from-s = refl; ds = dsAt dsOf afterOf beta st b (vegaOf x (st .s)); after = refl; next-s = refl })
+
+-- ---- the ends
+pub lt-irrefl : (x : Float) → lt x x ≡ false
+lt-irrefl x = by-cases (lt x x) refl
+  where
+    by-cases : (b : Bool) → lt x x ≡ b → lt x x ≡ false
+    by-cases true e = lt-asym x x e
+    by-cases false e = e
+
+-- an end never falls (left) or never grows (right), by comparing floats
+abbrev pub NotBelow : Float → Float → Type 0
+NotBelow a b = lt b a ≡ false
+
+abbrev pub NotAbove : Float → Float → Type 0
+NotAbove a b = lt a b ≡ false
+
+and-l : (a b : Bool) → (a && b) ≡ true → a ≡ true
+and-l true b h = refl
+and-l false b h = h
+
+and-r : (a b : Bool) → (a && b) ≡ true → b ≡ true
+and-r true b h = h
+and-r false b h = cc
+
+-- the bracket's move: neither end goes outward, and each stays or becomes s, where the price lies on its side
+module _ (b beta s left right : Float) where
+  abbrev Facts : Ends → Type 0
+  Facts e =
+      NotBelow left (e .left) × NotAbove right (e .right) × ((e .left ≡ left) ⊎ ((e .left ≡ s) × (lt b beta ≡ true))) × ((e .right ≡ right) ⊎ ((e .right ≡ s) × (lt beta b ≡ true)))
+
+  facts : Facts (endsAfter b beta s left right)
+  facts = cases (lt beta b && lt s right) (lt b beta && lt left s) refl refl
+    where
+      cases : (p q : Bool) → (lt beta b && lt s right) ≡ p → (lt b beta && lt left s) ≡ q
+          → Facts (cond p (record { left = left; right = s }) (cond q (record { left = s; right = right }) (record { left = left; right = right })))
+      cases true q e f = (lt-irrefl left, lt-asym s right (and-r (lt beta b) (lt s right) e), inl refl, inr (refl, and-l (lt beta b) (lt s right) e))
+      cases false true e f = (lt-asym left s (and-r (lt b beta) (lt left s) f), lt-irrefl right, inr (refl, and-l (lt b beta) (lt left s) f), inl refl)
+      cases false false e f = (lt-irrefl left, lt-irrefl right, inl refl, inl refl)
+
+-- r's end is the starting one, or the s of a record q, that one or an earlier, on the end's side
+abbrev pub EndFrom : (Record → Float) → (Record → Type 0) → Float → List Record → ℕ → Record → Type 0
+EndFrom end side start rs i r = (end r ≡ start) ⊎ ((j : ℕ) × (q : Record) × (j ≤ i) × At rs j q × (end r ≡ q .s) × side q)
+
+module _ (step : State → Stepped) (beta : Float) (moved : (st st′ : State) (r : Record) → nextBy step st ≡ goes r st′ → Moved beta st st′ r) where
+  told : (st st′ : State) (r : Record) (e : nextBy step st ≡ goes r st′) → Facts (r .b) beta (r .s) (st .left) (st .right) (record { left = r .left; right = r .right })
+  told st st′ r e = subst (Facts (r .b) beta (r .s) (st .left) (st .right)) (moved st st′ r e .bracket) (facts (r .b) beta (r .s) (st .left) (st .right))
+
+  pub left-never-falls : (n : ℕ) (st : State) → Linked NotBelow (λ r. r .left) (st .left) (run (nextBy step) n st .records)
+  left-never-falls n st = linked (nextBy step) (λ st. st .left) (λ r. r .left) (λ st st′ r e. moved st st′ r e .left) NotBelow (λ st st′ r e. told st st′ r e .0) (trace (nextBy step) n st)
+
+  pub right-never-grows : (n : ℕ) (st : State) → Linked NotAbove (λ r. r .right) (st .right) (run (nextBy step) n st .records)
+  right-never-grows n st = linked (nextBy step) (λ st. st .right) (λ r. r .right) (λ st st′ r e. moved st st′ r e .right) NotAbove (λ st st′ r e. told st st′ r e .1) (trace (nextBy step) n st)
+
+  pub left-from : (n : ℕ) (st : State) (i : ℕ) (r : Record) → At (run (nextBy step) n st .records) i r → EndFrom (λ r. r .left) (λ q. lt (q .b) beta ≡ true) (st .left) (run (nextBy step) n st .records) i r
+  left-from n st i r a =
+      from (nextBy step) (λ st. st .left) (λ r. r .left) (λ st st′ r e. moved st st′ r e .left) (λ q. q .s) (λ q. lt (q .b) beta ≡ true) (λ st st′ r e. told st st′ r e .2) (trace (nextBy step) n st) a
+
+  pub right-from : (n : ℕ) (st : State) (i : ℕ) (r : Record) → At (run (nextBy step) n st .records) i r → EndFrom (λ r. r .right) (λ q. lt beta (q .b) ≡ true) (st .right) (run (nextBy step) n st .records) i r
+  right-from n st i r a =
+      from (nextBy step) (λ st. st .right) (λ r. r .right) (λ st st′ r e. moved st st′ r e .right) (λ q. q .s) (λ q. lt beta (q .b) ≡ true) (λ st st′ r e. told st st′ r e .3) (trace (nextBy step) n st) a
