@@ -1,8 +1,13 @@
 /* The proved functions, for C: link libabi.a. Document 01 has the rules.
  *
- * A float crosses as its 64 bits, in both directions; a NaN comes back as 7FF8000000000000. Every float is accepted. A
- * slice is a pointer and its length in bytes. No pointer may be null, also where its length is 0, and what one call is
- * lent may not overlap. Every call returns; none keeps a pointer, has a state or calls another library.
+ * A float crosses as its 64 bits, in both directions: any 64 bits may come in, and a NaN comes back as 7FF8000000000000.
+ * What is not a price, a forward, a strike, an expiry or a sigma is refused with a number. A slice is a pointer and its
+ * length in bytes. No pointer may be null, also where its length is 0, and what one call is lent may not overlap. Every
+ * call returns; none keeps a pointer, has a state or calls another library.
+ *
+ * The archive is for x86-64 Linux, and all bits rest on the default floating-point environment: rounding to nearest, and
+ * subnormal numbers neither flushed to zero nor taken for zero. A program that has set MXCSR otherwise (-ffast-math does, at
+ * its start) gets other bits.
  *
  * A kind is 1 for a Call, 2 for a Put; any other is refused with 24 before all else.
  *
@@ -46,7 +51,8 @@ extern "C" {
 
 /* ---- The Black price, and the volatility of a price ---- */
 
-/* The price's bits, a NaN's where it is refused: 2, 3, 5, 4, then 7. `number` gets the number, 0 for none. */
+/* The price's bits, a NaN's where it is refused: 2, 3, 5, 4, then 7. `number` gets the number, 0 for none. 7 comes at the
+ * edge of the asymptotic region, and where forward / strike overflows or rounds to 0 and sigma is negative or -0. */
 uint64_t gintubalos_black(uint64_t forward, uint64_t strike, uint64_t sigma, uint64_t expiry, uint8_t kind,
                           uint8_t *number);
 
@@ -116,7 +122,7 @@ uint64_t gintubalos_convex_rational_cubic_control_parameter(uint64_t x_l, uint64
 uint64_t gintubalos_standard_normal_cdf(uint64_t x);
 uint64_t gintubalos_inverse_normal_cdf(uint64_t x);
 uint64_t gintubalos_inverse_f_upper_map(uint64_t f);
-/* NaN at an infinity. */
+/* NaN from 2^1020 on, either way, since x times 16 overflows there; the cdf from 7FB6A09E667F3BCC on, either way. */
 uint64_t gintubalos_erfc(uint64_t x);
 /* The largest float below -26.6287357137514. */
 uint64_t gintubalos_erfcx(uint64_t x);

@@ -1,4 +1,9 @@
-//! The proved functions, for Rust. Every float is accepted, and a NaN comes back with the bits 7FF8000000000000.
+//! The proved functions, for Rust. Any bits may come in, a NaN comes back with the bits 7FF8000000000000, and what is not a
+//! price, a forward, a strike, an expiry or a sigma is refused with a number.
+//!
+//! The archive behind it is for x86-64 Linux. All bits rest on the default floating-point environment, in which a Rust
+//! program runs: rounding to nearest, subnormal numbers neither flushed to zero nor taken for zero. A program that has C code
+//! change MXCSR gets other bits.
 //!
 //! A program that calls the original library's two functions keeps its calls: names and arguments are the same. Its `use`
 //! lines change in their first word, and an answer is a `Result`, since what the original computes on or panics at is
