@@ -19,7 +19,8 @@ use lib.Ieee.Exact.{HasValue, units-val}
 use lib.Ieee.Bits.{is-false, ofBits-fits}
 use Rattle.elementary.specs.Sqrt.{isqrt, roundRoot, sqrtOf}
 use Rattle.elementary.proofs.Laws.Ordering.{Cmp, cmp}
-use Rattle.elementary.proofs.Laws.SqrtNearest.{units-of, units-fits}
+use Rattle.elementary.proofs.Laws.Places.{units-of}
+use Rattle.elementary.proofs.Laws.Nearest.{units-fits}
 use Rattle.elementary.proofs.Laws.Isqrt.{sq-lt, sq-suc, sq-twice, isqrt-root}
 use Rattle.elementary.specs.Inside.Sqrt.{Root}
 use Rattle.elementary.proofs.Laws.Bits.{nan-pattern, no-nan-pattern}
@@ -128,7 +129,7 @@ pub written : (r k : ℕ) → 2 ^ 52 ≤ r → r < 2 ^ 53 → k < 2000 → ofBit
 written r k lo hi small =
     let room : r * 2 ^ k < 2 ^ 2098 = lt-of-lt-of-le (shl-lt 53 k hi) (pow-mono {i = 53 + k} {j = 2098} (omega arith)) in
     value-unique (ofBits binary64 (k * 2 ^ 52 + r)) (units binary64 false r k) false (r * 2 ^ k)
-    (ofBits-fits binary64 (k * 2 ^ 52 + r)) (units-fits binary64 r k (omega arith) room)
+    (ofBits-fits binary64 (k * 2 ^ 52 + r)) (units-fits binary64 false r k (omega arith) room)
     (value-packed false k r (λ _. lo) (omega arith) (omega arith)) (units-val binary64 false r k room)
 
 -- ---- `sqrtOf` at a finite value that is not 0
