@@ -1,7 +1,6 @@
 -- A proof for each promise of specs/Promises.antt, from the laws.
 use mathlib.Core.Path.{refl}
-use lib.Ieee.{add, sub, mul, neg, lt, sum, round, size, units, odd, ofBits, ofInt}
-use Rattle.elementary.specs.Floor.{floorOf}
+use lib.Ieee.{add, sub, mul, neg, sum, round, size, units, ofBits, ofInt}
 use Rattle.elementary.specs.Sqrt.{sqrtOf}
 use Rattle.elementary.specs.MulAdd.{fma}
 use Rattle.elementary.specs.Promises.{Round-is-nearest, Sqrt-is-rounded, Nearest-is-one, Scaled-is-rounded, Mul-add-is-rounded, Fma-one, Fma-examples, Floor-is-greatest, Cdf-is-finite, Inverse-brackets}
@@ -41,7 +40,7 @@ unfolding fma sum add sub mul neg round units size ofBits ofInt
 fma-examples = record {
   tie = refl;
   once = refl;
-  twice = refl;
+  both = refl;
   overflow = refl;
   largest = refl;
   cancel = refl;
@@ -52,7 +51,7 @@ fma-examples = record {
 }
 
 pub floor-is-greatest : Floor-is-greatest
-floor-is-greatest = record { whole = floor-greatest; one = greatest-unique; other = floor-other }
+floor-is-greatest = record { whole = floor-greatest; unique = greatest-unique; other = floor-other }
 
 pub cdf-is-finite : Cdf-is-finite
 cdf-is-finite = cdf-finite

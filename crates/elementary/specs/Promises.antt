@@ -17,12 +17,9 @@ use Rattle.elementary.specs.MulAdd.{fma}
 use Rattle.elementary.specs.Exp.{scaled}
 use Rattle.elementary.specs.NormalDistribution.{lowest, highest, cdfOf, endsOf, inverseOf}
 
--- ---- correct rounding
-
 -- Where a value stands on the line, in units of the format's smallest value. An infinity stands where the next value after the largest would, at
--- 2 ^ (emax + 1): to be nearer to that place than to the largest value, or as near, is IEEE 754's condition for overflow (4.3.1).
+-- 2 ^ (emax + 1): to be nearer to that place than to the largest value, or as near, is IEEE 754's condition for overflow (4.3.1). A NaN is nowhere, and stands with the zeros.
 unfoldable pub place : Format → Float → ℕ
-unfolding inUnits
 place f nan = 0
 place f (inf s) = 2 ^ (low f + suc (emax f))
 place f (fin s m e) = inUnits f (fin s m e)
@@ -31,11 +28,10 @@ place f (fin s m e) = inUnits f (fin s m e)
 -- say what t is: 2 t compares with a whole number n as `twice` does with `scale n`. So 2 t is compared with the sum of two places, twice their middle.
 -- (A y of the other sign stands by its size, which is nearer.)
 pub record NearestTo (f : Format) (s : Bool) (twice : ℕ) (scale : ℕ → ℕ) (r : Float) : Type 0 where
-  -- The format holds r,
+  -- The format holds r, which is not NaN
   pub of-format : T (fits f r)
-  -- r is not NaN,
   pub number : T (not (isNan r))
-  -- and it has the sign s, a zero too.
+  -- and has the sign s, a zero too.
   pub sign : signOf r ≡ s
   -- No value y above r is nearer: t is not above the middle of r and y.
   pub from-above : (y : Float) → T (fits f y) → place f r < place f y → twice ≤ scale (place f r + place f y)
@@ -64,14 +60,13 @@ pub record RoundedRoot (f : Format) (x r : Float) : Type 0 where
 pub record Sqrt-is-rounded : Type 0 where
   -- The root of a finite x above 0 is correctly rounded.
   pub root : (f : Format) (x : Float) → T (fits f x) → T (positive x) → RoundedRoot f x (sqrtOf f x)
-  -- The root of a zero is that zero, with its sign.
+  -- The root of a zero is that zero, with its sign, and that of +infinity is +infinity.
   pub zeros : (f : Format) (s : Bool) (e : ℤ) → sqrtOf f (fin s 0 e) ≡ fin s 0 e
-  -- The root of +infinity is +infinity.
   pub infinity : (f : Format) → sqrtOf f (inf false) ≡ inf false
   -- The root of a NaN, and of what is below 0, −infinity too, is NaN.
   pub none : (f : Format) (x : Float) → T (isNan x || lt x +0) → sqrtOf f x ≡ nan
 
--- There is one rounded value: what is said of it leaves no choice.
+-- There is one rounded value of a fraction, and one of a root: what is said of it leaves no choice.
 pub record Nearest-is-one : Type 0 where
   pub fraction : (f : Format) (s : Bool) (a c : ℕ) (r q : Float) → 0 < c → Rounded f s a c r → Rounded f s a c q → r ≡ q
   pub root : (f : Format) (x r q : Float) → RoundedRoot f x r → RoundedRoot f x q → r ≡ q
@@ -99,52 +94,48 @@ pub record Mul-add-is-rounded : Type 0 where
   -- A factor that is infinite or NaN makes the product an infinity or, with a zero or a NaN, NaN: there the two operations one after the other.
   pub factor : (f : Format) (x y z : Float) → T (not (finite x && finite y)) → fma f x y z ≡ add f (mul f x y) z
 
--- The sum of a × b and c for some bits, with what the plain operations give where that is not the same.
+-- Some closed cases, in decimals beside the bits.
 pub record Fma-examples : Type 0 where
-  pub tie : mulAdd (bits 0x3cb8_0000_0000_0000) one one ≡ bits 0x3ff0_0000_0000_0002  -- 3 × 2^−53 × 1 + 1 is a middle: the even 1.0000000000000004
+  pub tie : mulAdd (bits 0x3cb8_0000_0000_0000) one one ≡ bits 0x3ff0_0000_0000_0002  -- 3.3306690738754696e-16 × 1 + 1, the middle of two values: 1.0000000000000004, the even one
   pub once : mulAdd (bits 0x3fb9_9999_9999_999a) (bits 0x4024_0000_0000_0000) (neg one) ≡ bits 0x3c90_0000_0000_0000  -- 0.1 × 10 − 1 = 5.551115123125783e-17
-  pub twice : bits 0x3fb9_9999_9999_999a ⊗ bits 0x4024_0000_0000_0000 ⊖ one ≡ +0  -- where product and sum are rounded each: 0
-  pub overflow : mulAdd MAX one (bits 0x7c90_0000_0000_0000) ≡ inf false  -- f64::MAX and half the distance to the value before it, 2^970
-  pub largest : mulAdd MAX one (bits 0x7c8f_ffff_ffff_ffff) ≡ MAX  -- and the next smaller addend
+  pub both : bits 0x3fb9_9999_9999_999a ⊗ bits 0x4024_0000_0000_0000 ⊖ one ≡ +0  -- and 0 where the product is rounded too
+  pub overflow : mulAdd MAX one (bits 0x7c90_0000_0000_0000) ≡ inf false  -- 1.7976931348623157e308 × 1 + 9.9792015476736e291, half a last digit
+  pub largest : mulAdd MAX one (bits 0x7c8f_ffff_ffff_ffff) ≡ MAX  -- and + 9.979201547673598e291, the value before that
   pub cancel : mulAdd (float 3) (float 5) (neg (float 15)) ≡ +0  -- 3 × 5 − 15 = +0
   pub zeros : mulAdd (neg +0) one (neg +0) ≡ neg +0  -- −0 × 1 + −0 = −0
   pub no-number : mulAdd (inf false) +0 nan ≡ nan  -- infinity × 0 + NaN
-  pub large : mulAdd MAX MAX (inf true) ≡ inf true  -- the product is finite, so the addend −infinity stays
-  pub subnormal : mulAdd (bits 0x1e68_0000_0000_0000) (bits 0x1e60_0000_0000_0000) (bits 1) ≡ bits 2  -- 1.5 × 2^−537 × 2^−537 + 2^−1074 = 2.5 × 2^−1074: 1e-323
+  pub large : mulAdd MAX MAX (inf true) ≡ inf true  -- 1.7976931348623157e308² − infinity: the product is finite
+  pub subnormal : mulAdd (bits 0x1e68_0000_0000_0000) (bits 0x1e60_0000_0000_0000) (bits 1) ≡ bits 2  -- 3.334138124227616e-162 × 2.2227587494850775e-162 + 5e-324, 2.5 of the smallest value: 1e-323
 
 -- By the factor 1 it is the plain sum, for every operand.
 abbrev pub Fma-one : Type 0
 Fma-one = (x y : Float) → fma binary64 x one y ≡ x ⊕ y
 
--- ---- floor
-
 -- y is a whole number: ±n / 1
-abbrev pub Whole : Float → Type 0
-Whole y = (s : Bool) × (n : ℕ) × HasValue y s n 1
+abbrev pub IsWhole : Float → Type 0
+IsWhole y = (s : Bool) × (n : ℕ) × HasValue y s n 1
 
 -- r is the greatest whole number not above x.
 pub record GreatestWhole (f : Format) (x r : Float) : Type 0 where
   -- r is a value of the format, and a whole number,
   pub of-format : T (fits f r)
-  pub whole : Whole r
+  pub whole : IsWhole r
   -- it has the sign of x, which matters where it is a zero,
   pub sign : signOf r ≡ signOf x
   -- it is not above x,
   pub not-above : T (le r x)
   -- and no whole number up to x is greater.
-  pub greatest : (y : Float) → Whole y → T (le y x) → T (le y r)
+  pub greatest : (y : Float) → IsWhole y → T (le y x) → T (le y r)
 
 pub record Floor-is-greatest : Type 0 where
   -- The floor of a finite x is the greatest whole number not above it.
   pub whole : (f : Format) (x : Float) → T (fits f x) → T (finite x) → GreatestWhole f x (floorOf f x)
   -- There is one such value.
-  pub one : (f : Format) (x r q : Float) → GreatestWhole f x r → GreatestWhole f x q → r ≡ q
+  pub unique : (f : Format) (x r q : Float) → GreatestWhole f x r → GreatestWhole f x q → r ≡ q
   -- The floor of an infinity or a NaN is itself.
   pub other : (f : Format) (x : Float) → T (not (finite x)) → floorOf f x ≡ x
 
--- ---- the normal distribution, under every rule set
-
--- From −39 to 39, where the inverse looks for its result, the cdf is a finite number.
+-- Under every rule set the cdf is a finite number from −39 to 39, where the inverse looks for its result.
 abbrev pub Cdf-is-finite : Type 0
 Cdf-is-finite = (rules : Rules) (y : Float) → T (le lowest y) → T (le y highest) → T (finite (cdfOf rules y))
 
@@ -154,6 +145,6 @@ pub record Brackets (rules : Rules) (p lo hi : Float) : Type 0 where
   pub over : le p (cdfOf rules hi) ≡ true
   pub inverse : inverseOf rules p ≡ hi
 
--- For every p between 0 and 1 the 64 turns of the bisection end so.
+-- For every p between 0 and 1 the 64 turns of the bisection end so, under every rule set.
 abbrev pub Inverse-brackets : Type 0
 Inverse-brackets = (rules : Rules) (p : Float) → lt +0 p ≡ true → lt p one ≡ true → Brackets rules p (endsOf rules p .lo) (endsOf rules p .hi)

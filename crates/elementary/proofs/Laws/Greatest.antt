@@ -9,7 +9,7 @@ use native.Mathlib.Omega.{arith}
 use lib.IntN.{ℤ, pos, negsuc}
 use lib.Dec.{T}
 use lib.Pow.{pow-add, pow-pos}
-use lib.Ieee.{Float, nan, inf, fin, Format, emax, low, up, down, round, fits, le}
+use lib.Ieee.{Float, nan, inf, fin, Format, emax, low, up, down, round, fits}
 use lib.Ieee.Fits.{down-pos, round-fits, nan-fits, inf-fits}
 use lib.Ieee.Exact.{HasValue, round-exact}
 use lib.Ieee.Back.{round-whole, whole-unique}

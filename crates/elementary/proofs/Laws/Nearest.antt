@@ -2,7 +2,7 @@
 -- digits, moved up by one where the number is past the middle, is the nearest value of the format, and there is one such value. Assumes nothing.
 use mathlib.Core.Path.{_≡_, refl, sym, ap, _∙_, subst}
 use mathlib.Core.Logic.{_⊎_, inl, inr}
-use mathlib.Core.Bool.{Bool, true, false, not, cond}
+use mathlib.Core.Bool.{Bool, true, false, not}
 use Prim.Native.Nat.{ℕ, suc, _+_, _-_, _*_, _%_, _^_, _≤_, _<_, Ordering, Ordering·lt, Ordering·eq, Ordering·gt}
 use native.Mathlib.Nat.{le-trans, le-of-eq, le-of-lt, le-refl, le-antisymm, lt-irrefl, lt-of-not-le, not-le-of-lt, lt-of-lt-of-le, lt-of-le-of-lt, eq-or-lt-of-le, add-comm}
 use native.Mathlib.Nat.{suc-mul, mul-assoc, mul-le-mul-right, mul-lt-mul-of-pos-right, div-mul-le-self, div-lt-iff-lt-mul}
@@ -13,7 +13,7 @@ use native.Mathlib.Numerals.{add-one}
 use native.Mathlib.Omega.{arith}
 use lib.Dec.{T, ltb, ltb→lt, nltb→le, lt→ltb}
 use lib.Pow.{pow-lt, pow-pos}
-use lib.Ieee.{Float, Format, inf, prec, low, emax, nearest, odd, units, fits, isNan, toBits}
+use lib.Ieee.{Float, Format, inf, prec, low, nearest, units, fits, isNan}
 use lib.Ieee.Fits.{two, kept-lt, nearest-le, odd-fits, inf-fits}
 use lib.Ieee.Exact.{HasValue, units-val}
 use lib.Ieee.Nearest.{nearest-ge}

@@ -1,15 +1,15 @@
 -- `round` is roundTiesToEven of every fraction, and so are the operations that hand it their exact result: p × 2^k and fused multiply-add. Assumes nothing.
-use mathlib.Core.Path.{_≡_, refl, sym, ap, _∙_, subst}
+use mathlib.Core.Path.{_≡_, refl}
 use mathlib.Core.Bool.{Bool, true, false, not, cond, _&&_}
 use Prim.Native.Nat.{ℕ, suc, _+_, _-_, _*_, _/_, _%_, _^_, _≤_, _<_, compare, Ordering, Ordering·lt, Ordering·eq, Ordering·gt}
-use native.Mathlib.Nat.{le-trans, le-of-eq, le-of-lt, le-refl, lt-of-lt-of-le, mul-assoc, mul-comm, mul-left-comm, mul-le-mul-right, mul-lt-mul-of-pos-right, mul-pos, add-mul, one-mul}
+use native.Mathlib.Nat.{le-trans, le-of-lt, le-refl, mul-assoc, mul-comm, mul-le-mul-right, mul-lt-mul-of-pos-right, mul-pos, add-mul, one-mul}
 use native.Mathlib.Nat.{div-mul-le-self, div-lt-iff-lt-mul, div-add-mod', div-div-eq-div-mul}
 use native.Mathlib.Omega.{arith}
 use lib.IntN.{ℤ}
 use lib.Pow.{pow-pos}
 use borrow.Author.Tests.{ltb-true, ltb-false, le-ltb}
 use lib.Dec.{T, ltb, eqb}
-use lib.Ieee.{Float, nan, inf, fin, Format, prec, low, up, down, unlike, size, nearest, units, round, sum, add, mul}
+use lib.Ieee.{Float, nan, inf, fin, Format, prec, low, up, down, unlike, round, sum, add, mul}
 use lib.Ieee.Fits.{down-pos, round-is}
 use lib.Ieee.Scale.{finite}
 use Rattle.elementary.specs.MulAdd.{fma}

@@ -1,14 +1,13 @@
 -- `sqrtOf f x`, for a finite x above 0 of the format f, is √x rounded to nearest. It neither overflows nor vanishes, and there is no tie: a middle of two
 -- values is an odd number of one digit more, and its square has more digits than x. Assumes nothing.
 use mathlib.Core.Path.{_≡_, refl, sym, ap, _∙_}
-use mathlib.Core.Bool.{Bool, true, false, not, _||_}
-use Prim.Native.Nat.{ℕ, zero, suc, _+_, _-_, _*_, _/_, _^_, _≤_, _<_, compare, Ordering}
+use mathlib.Core.Bool.{true, false, _||_}
+use Prim.Native.Nat.{ℕ, zero, suc, _+_, _-_, _*_, _^_, _≤_, _<_, compare, Ordering}
 use native.Mathlib.Nat.{le-trans, le-of-eq, le-refl, lt-of-not-le, lt-of-lt-of-le, lt-of-le-of-lt, mul-assoc, mul-comm, mul-left-comm, one-mul, pow-suc, mul-le-mul, mul-le-mul-right}
 use native.Mathlib.Nat.{mul-lt-mul-of-pos-right, le-mul-of-pos-right, mul-pos, div-mul-le-self, le-div-iff-mul-le, div-lt-iff-lt-mul, eq-of-mul-eq-mul-right}
 use native.Mathlib.Decide.{decLe}
 use native.Mathlib.Numerals.{add-one}
 use native.Mathlib.Omega.{arith}
-use lib.IntN.{ℤ}
 use lib.Dec.{T, ltb→lt}
 use lib.Pow.{pow-add, pow-pos, pow-mono, pow-lt}
 use lib.Ieee.{Float, nan, inf, fin, Format, prec, emax, low, up, down, size, nearest, units, fits, isNan, ofBits, lt}
