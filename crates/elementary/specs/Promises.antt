@@ -24,8 +24,8 @@ place f nan = 0
 place f (inf s) = 2 ^ (low f + suc (emax f))
 place f (fin s m e) = inUnits f (fin s m e)
 
--- r is the value of the format f that is nearest to a real number of the sign s and the size t, ties to even. `twice` and the growing function `scale`
--- say what t is: 2 t compares with a whole number n as `twice` does with `scale n`. So 2 t is compared with the sum of two places, twice their middle.
+-- r is the value of the format f that is nearest to a real number of the sign s and, in the same units, the size t; ties to even. `twice` and the growing
+-- function `scale` say what t is: 2 t compares with a whole number n as `twice` does with `scale n`. The sum of two places is twice their middle.
 -- (A y of the other sign stands by its size, which is nearer.)
 pub record NearestTo (f : Format) (s : Bool) (twice : ℕ) (scale : ℕ → ℕ) (r : Float) : Type 0 where
   -- The format holds r, which is not NaN
@@ -40,7 +40,7 @@ pub record NearestTo (f : Format) (s : Bool) (twice : ℕ) (scale : ℕ → ℕ)
   -- Where another value y is as near, the last digit of r is 0.
   pub even : (y : Float) → T (fits f y) → (place f y ≡ place f r → ⊥) → scale (place f r + place f y) ≡ twice → toBits f r % 2 ≡ 0
 
--- r is ±a / c rounded, for a c above 0: a / c is a * 2 ^ low / c of the format's smallest values.
+-- r is ±a / c rounded, for a c above 0. In units, t is a * 2 ^ low / c: so 2 t ≤ n says 2 * (a * 2 ^ low) ≤ n * c.
 abbrev pub Rounded : Format → Bool → ℕ → ℕ → Float → Type 0
 Rounded f s a c r = NearestTo f s (2 * (a * 2 ^ low f)) (λ (n : ℕ). n * c) r
 
@@ -48,7 +48,7 @@ Rounded f s a c r = NearestTo f s (2 * (a * 2 ^ low f)) (λ (n : ℕ). n * c) r
 abbrev pub Round-is-nearest : Type 0
 Round-is-nearest = (f : Format) (s : Bool) (a c : ℕ) → 0 < c → Rounded f s a c (round f s a c)
 
--- r is √x rounded, for a finite x above 0: √x is √(x * 2 ^ low * 2 ^ low) of the format's smallest values.
+-- r is √x rounded, for a finite x above 0. In units, x is `place f x`, and t is √(place f x * 2 ^ low): so 2 t ≤ n says 4 * (place f x * 2 ^ low) ≤ n * n.
 pub record RoundedRoot (f : Format) (x r : Float) : Type 0 where
   -- r is nearest to the root.
   pub nearest : NearestTo f false (4 * (place f x * 2 ^ low f)) (λ (n : ℕ). n * n) r
@@ -80,7 +80,7 @@ abbrev pub sumSize : Bool → ℕ → Bool → ℕ → ℕ
 sumSize s a t b = cond (Bool·beq s t) (a + b) (a - b + (b - a))
 
 abbrev pub sumSign : Bool → ℕ → Bool → ℕ → Bool
-sumSign s a t b = cond (Bool·beq s t) s (cond s (ltb b a) (ltb a b))
+sumSign s a t b = cond (Bool·beq s t) s (cond s (ltb b a) (ltb a b))  -- true is −
 
 pub record Mul-add-is-rounded : Type 0 where
   -- Of finite operands ±m × 2^e, ±n × 2^d and ±p × 2^g the product is ±P / D and the addend ±A / D: their exact sum is rounded once.
@@ -89,9 +89,9 @@ pub record Mul-add-is-rounded : Type 0 where
       let A = p * up g * (down e * down d) in
       let D = down e * down d * down g in
       Rounded f (sumSign (unlike s t) P v A) (sumSize (unlike s t) P v A) D (fma f (fin s m e) (fin t n d) (fin v p g))
-  -- To a finite product, however large, an infinite addend is the result, and so is a NaN.
+  -- With a finite product, however large, an addend that is infinite or NaN is the result.
   pub addend : (f : Format) (x y z : Float) → T (finite x) → T (finite y) → T (not (finite z)) → fma f x y z ≡ z
-  -- A factor that is infinite or NaN makes the product an infinity or, with a zero or a NaN, NaN: there the two operations one after the other.
+  -- With a factor that is infinite or NaN the product is not rounded: an infinity, or NaN where the other factor is 0 or NaN. The sum then is the plain one.
   pub factor : (f : Format) (x y z : Float) → T (not (finite x && finite y)) → fma f x y z ≡ add f (mul f x y) z
 
 -- Some closed cases, in decimals beside the bits.

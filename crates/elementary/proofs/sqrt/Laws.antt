@@ -3,7 +3,7 @@ use mathlib.Core.Path.{_≡_, refl, sym, ap, _∙_, subst}
 use mathlib.Core.Logic.{_⊎_, inl, inr}
 use mathlib.Core.Bool.{true, false, not, true≢false}
 use Prim.Native.Nat.{ℕ, zero, suc, _+_, _-_, _*_, _/_, _%_, _^_, _≤_, _<_, compare, Ordering, Ordering·lt, Ordering·eq, Ordering·gt}
-use native.Mathlib.Nat.{le-trans, lt-of-not-le, not-le-of-lt, lt-of-lt-of-le, le-antisymm, eq-or-lt-of-le, mul-assoc, mul-comm, mul-left-comm, suc-mul, pow-suc}
+use native.Mathlib.Nat.{le-trans, lt-of-not-le, not-le-of-lt, lt-of-lt-of-le, eq-or-lt-of-le, mul-assoc, mul-comm, mul-left-comm, suc-mul, pow-suc}
 use native.Mathlib.Nat.{mul-le-mul-right, mul-lt-mul-of-pos-right, mul-pos, zero-mul, div-eq-of-lt-le, div-div-eq-div-mul}
 use native.Mathlib.Decide.{decLe}
 use native.Mathlib.Numerals.{add-one}
@@ -13,12 +13,12 @@ use lib.Arith.{lt→nleb}
 use lib.Pow.{pow-add, pow-pos, pow-mono, shl-lt, shl-exact}
 use lib.Count.{leadingZeros, leading-top}
 use lib.Ieee.{Float, nan, inf, fin, binary64, up, down, size, nearest, units, ofBits, nanBits}
-use lib.Ieee.Digits.{size-lt, size-le}
 use lib.Ieee.Fits.{down-pos}
 use lib.Ieee.Exact.{HasValue, units-val}
 use lib.Ieee.Bits.{is-false, ofBits-fits}
 use Rattle.elementary.specs.Sqrt.{isqrt, roundRoot, sqrtOf}
 use Rattle.elementary.proofs.Laws.Ordering.{Cmp, cmp}
+use Rattle.elementary.proofs.Laws.Leaf.{size-of}
 use Rattle.elementary.proofs.Laws.Places.{units-of}
 use Rattle.elementary.proofs.Laws.Nearest.{units-fits}
 use Rattle.elementary.proofs.Laws.Isqrt.{sq-lt, sq-suc, sq-twice, isqrt-root}
@@ -34,10 +34,6 @@ by-order q r a b x y z = go (compare a b) (cmp a b)
     go Ordering·lt c = x c
     go Ordering·eq c = absurd (z c)
     go Ordering·gt c = y c
-
--- the size of a number between two powers
-size-is : (n j : ℕ) → 2 ^ j ≤ n → n < 2 ^ suc j → size n ≡ suc j
-size-is n j a b = le-antisymm (size-le n (suc j) b) (lt-of-not-le (λ (g : size n ≤ j). not-le-of-lt (lt-of-lt-of-le (size-lt n) (pow-mono g)) a))
 
 -- ---- a root of 54 digits: the last digit says which way to round, since n is even and so no odd square
 -- twice the middle between w / 2 and the next number up
@@ -112,7 +108,7 @@ module _ (a w h : ℕ) (lo : 2 ^ 62 ≤ a) (hi : a + 2 ^ 11 ≤ 2 ^ 64) (root : 
       let l : 2 ^ (53 + h) ≤ isqrt n = rw pow-add (le-trans (mul-le-mul-right (2 ^ h) w-lo) v-lo) in
       let u : isqrt n < 2 ^ (54 + h) = rw pow-add (lt-of-lt-of-le v-hi (mul-le-mul-right (2 ^ h) (omega (arith, w-hi)))) in
       let e : suc (53 + h) ≡ 54 + h = omega arith in
-      size-is (isqrt n) (53 + h) l (rw e u) ∙ e
+      size-of (isqrt n) (53 + h) l (rw e u) ∙ e
 
   first-digits : isqrt n / 2 ^ suc h ≡ w / 2
   first-digits = ap (λ (z : ℕ). isqrt n / z) (pow-suc 2 h) ∙ sym (div-div-eq-div-mul (isqrt n) (2 ^ h) 2) ∙ ap (λ (z : ℕ). z / 2) (div-eq-of-lt-le (2 ^ h) v-lo (rw add-one v-hi))
