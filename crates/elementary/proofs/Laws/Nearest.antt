@@ -13,9 +13,9 @@ use native.Mathlib.Numerals.{add-one}
 use native.Mathlib.Omega.{arith}
 use lib.Dec.{T, ltb, ltb→lt, nltb→le, lt→ltb}
 use lib.Pow.{pow-lt, pow-pos}
-use lib.Ieee.{Float, Format, inf, prec, low, nearest, units, fits, isNan}
+use lib.Ieee.{Float, Format, inf, prec, nearest, units, fits, isNan}
 use lib.Ieee.Fits.{two, kept-lt, nearest-le, odd-fits, inf-fits}
-use lib.Ieee.Exact.{HasValue, units-val}
+use lib.Ieee.Exact.{units-val}
 use lib.Ieee.Nearest.{nearest-ge}
 use lib.Ieee.Scale.{overflow}
 use Rattle.elementary.specs.Methods.{signOf}
@@ -62,14 +62,14 @@ module _
     mid-is : mid ≡ q * 2 ^ k + suc q * 2 ^ k
     mid-is = rw (add-one, suc-mul (2 * q) (2 ^ k), suc-mul q (2 ^ k), mul-assoc 2 q (2 ^ k)) (omega arith)
 
-    -- how Q * 2 ^ k and another value v lie to the number
-    record Near (Q v : ℕ) : Type 0 where
+    -- Q * 2 ^ k is no farther from the number than v, and as far only at the middle and with an even Q
+    record NoFarther (Q v : ℕ) : Type 0 where
       over : Q * 2 ^ k < v → twice ≤ scale (Q * 2 ^ k + v)
       below : v < Q * 2 ^ k → scale (Q * 2 ^ k + v) ≤ twice
       tie : (v ≡ Q * 2 ^ k → ⊥) → scale (Q * 2 ^ k + v) ≡ twice → (twice ≡ scale mid) × (Q % 2 ≡ 0)
 
     -- not past the middle: q
-    near-q : twice ≤ scale mid → (twice ≡ scale mid → q % 2 ≡ 0) → (v : ℕ) → InDigits p v → Near q v
+    near-q : twice ≤ scale mid → (twice ≡ scale mid → q % 2 ≡ 0) → (v : ℕ) → InDigits p v → NoFarther q v
     near-q h even v d = record {
       over = λ l. le-trans h (above l);
       below = λ l. le-of-lt (under l);
@@ -87,7 +87,7 @@ module _
         go x e (no l) = let t : twice ≡ scale mid = le-antisymm h (le-trans (above (lt-of-not-le l)) (le-of-eq e)) in (t, even t)
 
     -- not before the middle: the next
-    near-next : scale mid ≤ twice → (twice ≡ scale mid → suc q % 2 ≡ 0) → (v : ℕ) → InDigits p v → Near (suc q) v
+    near-next : scale mid ≤ twice → (twice ≡ scale mid → suc q % 2 ≡ 0) → (v : ℕ) → InDigits p v → NoFarther (suc q) v
     near-next h even v d = record {
       over = λ l. le-of-lt (above l);
       below = λ l. le-trans (under l) h;
@@ -104,20 +104,20 @@ module _
         go x e (yes l) = absurd (not-le-of-lt (above (lt-of-le-ne l (λ y. x (sym y)))) (le-of-eq e))
         go x e (no l) = let t : twice ≡ scale mid = le-antisymm (le-trans (le-of-eq (sym e)) (under (lt-of-not-le l))) h in (t, even t)
 
-    near : (o : Ordering) → Cmp o twice (scale mid) → (v : ℕ) → InDigits p v → Near (nearest q o) v
+    near : (o : Ordering) → Cmp o twice (scale mid) → (v : ℕ) → InDigits p v → NoFarther (nearest q o) v
     near Ordering·lt c v d = near-q (le-of-lt c) (λ e. absurd (lt-irrefl twice (lt-of-lt-of-le c (le-of-eq (sym e))))) v d
     near Ordering·gt c v d = near-next (le-of-lt c) (λ e. absurd (lt-irrefl twice (lt-of-le-of-lt (le-of-eq e) c))) v d
     near Ordering·eq c v d = go (decLe (q % 2) 0)
       where
-        go : Dec (q % 2 ≤ 0) → Near (q + q % 2) v
-        go (yes z) = subst (λ (x : ℕ). Near x v) (omega arith) (near-q (le-of-eq c) (λ e. omega arith) v d)
-        go (no z) = subst (λ (x : ℕ). Near x v) (omega arith) (near-next (le-of-eq (sym c)) (λ e. omega arith) v d)
+        go : Dec (q % 2 ≤ 0) → NoFarther (q + q % 2) v
+        go (yes z) = subst (λ (x : ℕ). NoFarther x v) (omega arith) (near-q (le-of-eq c) (λ e. omega arith) v d)
+        go (no z) = subst (λ (x : ℕ). NoFarther x v) (omega arith) (near-next (le-of-eq (sym c)) (λ e. omega arith) v d)
 
     module _ (s : Bool) (o : Ordering) (c : Cmp o twice (scale mid)) where
       abbrev Q : ℕ
       Q = nearest q o
 
-      close : (y : Float) → T (fits f y) → Near Q (place f y)
+      close : (y : Float) → T (fits f y) → NoFarther Q (place f y)
       close y u = near o c (place f y) (digits-of f y u)
 
       few : Q ≤ 2 ^ p
@@ -126,19 +126,16 @@ module _
       lots : 0 < k → 2 ^ (p - 1) ≤ Q
       lots h = le-trans (full p w (two f) h) (nearest-ge q o)
 
-      pub value : Q * 2 ^ k < overflow f → HasValue (units f s Q k) s (Q * 2 ^ k) (2 ^ low f)
-      value h = units-val f s Q k h
-
       -- where it is at no middle, there is no tie
       pub no-tie : Q * 2 ^ k < overflow f → (twice ≡ scale mid → ⊥) → (y : Float) → T (fits f y) → (place f y ≡ place f (units f s Q k) → ⊥) → scale (place f (units f s Q k) + place f y) ≡ twice → ⊥
       no-tie h n y u x e =
-          let at = place-of f (units f s Q k) s (Q * 2 ^ k) (value h) in
+          let at = place-of f (units f s Q k) s (Q * 2 ^ k) (units-val f s Q k h) in
           n (close y u .tie (rw at at x) (rw at at e) .0)
 
       within : Q * 2 ^ k < overflow f → NearestTo f s twice scale (units f s Q k)
       within h =
           let r = units f s Q k in
-          let v = value h in
+          let v = units-val f s Q k h in
           let at = place-of f r s (Q * 2 ^ k) v in
           record {
             of-format = units-fits f s Q k few h;

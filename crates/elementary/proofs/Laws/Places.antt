@@ -2,7 +2,7 @@
 use mathlib.Core.Path.{_≡_, refl, sym, ap, _∙_, subst}
 use mathlib.Core.Bool.{Bool, true, false, not, cond}
 use Prim.Native.Nat.{ℕ, zero, suc, _+_, _-_, _*_, _/_, _%_, _^_, _≤_, _<_}
-use native.Mathlib.Nat.{le-trans, le-of-eq, le-of-lt, le-refl, le-suc, le-antisymm, lt-of-not-le, lt-of-lt-of-le, lt-of-le-of-lt, not-le-of-lt, mul-assoc, mul-comm, mul-left-comm}
+use native.Mathlib.Nat.{le-trans, le-of-eq, le-of-lt, le-refl, le-suc, le-antisymm, lt-of-not-le, lt-of-lt-of-le, lt-of-le-of-lt, not-le-of-lt, mul-assoc, mul-comm, mul-left-comm, mul-right-comm}
 use native.Mathlib.Nat.{mul-one, one-mul, zero-mul, pow-suc, mul-le-mul-right, mul-lt-mul-of-pos-right, lt-of-mul-lt-mul-right, mul-div-cancel, zero-div, div-one, div-lt-iff-lt-mul, le-div-iff-mul-le}
 use native.Mathlib.Decide.{decLe}
 use native.Mathlib.Omega.{arith}
@@ -13,6 +13,7 @@ use lib.Ieee.{Float, nan, inf, fin, Format, binary32, binary64, prec, emax, low,
 use lib.Ieee.Digits.{size-lt, size-le, size-reaches}
 use lib.Ieee.Fits.{two, two-le-pos, down-pos, kept-lt}
 use lib.Ieee.Exact.{HasValue}
+use lib.Ieee.Nearest.{div-same}
 use lib.Ieee.Scale.{overflow}
 use lib.Ieee.Bits.{ofBits-toBits}
 use Rattle.elementary.specs.Methods.{signOf}
@@ -119,17 +120,22 @@ lead-next p w P e n = go (decLe (2 ^ p) (suc (lead p w)))
     go (yes l) = omega (arith, power-even p (omega arith), kept-lt p w)
 
 -- ---- a value's place
-pub units-of : (f : Format) (x : Float) (s : Bool) (a : ℕ) → HasValue x s a (2 ^ low f) → inUnits f x ≡ a
+pub units-of : (f : Format) (x : Float) (s : Bool) (a c : ℕ) → 0 < c → HasValue x s a c → inUnits f x ≡ a * 2 ^ low f / c
 unfolding inUnits
-units-of f nan s a h = absurd h
-units-of f (inf t) s a h = absurd h
-units-of f (fin t m e) s a h = ap (λ (z : ℕ). z / down e) (h .1) ∙ mul-div-cancel a (down-pos e)
+units-of f nan s a c C h = absurd h
+units-of f (inf t) s a c C h = absurd h
+units-of f (fin t m e) s a c C h =
+    div-same (m * up e * 2 ^ low f) (down e) (a * 2 ^ low f) c (down-pos e) C
+    (mul-right-comm (m * up e) (2 ^ low f) c ∙ ap (λ (z : ℕ). z * 2 ^ low f) (h .1) ∙ mul-right-comm a (down e) (2 ^ low f))
+
+pub whole-units : (f : Format) (x : Float) (s : Bool) (a : ℕ) → HasValue x s a (2 ^ low f) → inUnits f x ≡ a
+whole-units f x s a h = units-of f x s a (2 ^ low f) (pow-pos (low f)) h ∙ mul-div-cancel a (pow-pos (low f))
 
 pub place-of : (f : Format) (x : Float) (s : Bool) (a : ℕ) → HasValue x s a (2 ^ low f) → place f x ≡ a
 unfolding place
 place-of f nan s a h = absurd h
 place-of f (inf t) s a h = absurd h
-place-of f (fin t m e) s a h = units-of f (fin t m e) s a h
+place-of f (fin t m e) s a h = whole-units f (fin t m e) s a h
 
 pub sign-of : (x : Float) (s : Bool) (a c : ℕ) → HasValue x s a c → signOf x ≡ s
 unfolding signOf

@@ -13,6 +13,7 @@ use lib.Pow.{pow-add, pow-pos, pow-mono, pow-lt}
 use lib.Ieee.{Float, nan, inf, fin, Format, prec, emax, low, up, down, size, nearest, units, fits, isNan, ofBits, lt}
 use lib.Ieee.Digits.{size-lt, size-le, size-reaches}
 use lib.Ieee.Fits.{two, reach, down-pos, up-pos, kept-lt, nearest-le}
+use lib.Ieee.Exact.{units-val}
 use lib.Ieee.Nearest.{nearest-ge}
 use lib.Ieee.Scale.{overflow}
 use lib.Ieee.Positive.{positive, positive-of-value}
@@ -24,7 +25,7 @@ use Rattle.elementary.proofs.Laws.Held.{holds}
 use Rattle.elementary.proofs.Laws.Ordering.{cmp}
 use Rattle.elementary.proofs.Laws.Isqrt.{sq-lt, sq-suc, sq-twice, isqrt-root}
 use Rattle.elementary.proofs.Laws.Places.{InDigits, tail, lead, full, digits-of, finite-under}
-use Rattle.elementary.proofs.Laws.Nearest.{middle, value, no-tie, units-nearest, nearest-one}
+use Rattle.elementary.proofs.Laws.Nearest.{middle, no-tie, units-nearest, nearest-one}
 
 -- ---- numbers
 sq-grows : (a b : ℕ) → a < b → a * a < b * b
@@ -154,7 +155,7 @@ module _ (f : Format) (n : ℕ) where
     root-positive =
         rw root-is
         (positive-of-value (units f false (nearest q order) k) (nearest q order * 2 ^ k) (2 ^ low f)
-        (value f (isqrt n) (4 * n) (λ (x : ℕ). x * x) sq-grows from to false order (cmp (4 * n) (mid * mid)) under)
+        (units-val f false (nearest q order) k under)
         (mul-pos (lt-of-lt-of-le q-pos (nearest-ge q order)) (pow-pos k)))
 
 -- ---- the theorem

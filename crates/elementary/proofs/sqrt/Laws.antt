@@ -19,7 +19,7 @@ use lib.Ieee.Bits.{is-false, ofBits-fits}
 use Rattle.elementary.specs.Sqrt.{isqrt, roundRoot, sqrtOf}
 use Rattle.elementary.proofs.Laws.Ordering.{Cmp, cmp}
 use Rattle.elementary.proofs.Laws.Leaf.{size-of}
-use Rattle.elementary.proofs.Laws.Places.{units-of}
+use Rattle.elementary.proofs.Laws.Places.{whole-units}
 use Rattle.elementary.proofs.Laws.Nearest.{units-fits}
 use Rattle.elementary.proofs.Laws.Isqrt.{sq-lt, sq-suc, sq-twice, isqrt-root}
 use Rattle.elementary.specs.Inside.Sqrt.{Root}
@@ -138,7 +138,7 @@ sqrt-positive nan a h p = absurd h
 sqrt-positive (inf t) a h p = absurd h
 sqrt-positive (fin t zero e) a h p = absurd (no-zero (up e) (2 ^ 1074) a (down e) (h .1) p (down-pos e))
 sqrt-positive (fin true (suc m) e) a h p = absurd (true≢false (h .0))
-sqrt-positive (fin false (suc m) e) a h p = ap (λ (z : ℕ). roundRoot binary64 (z * 2 ^ 1074)) (units-of binary64 (fin false (suc m) e) false a h)
+sqrt-positive (fin false (suc m) e) a h p = ap (λ (z : ℕ). roundRoot binary64 (z * 2 ^ 1074)) (whole-units binary64 (fin false (suc m) e) false a h)
 
 -- ---- the shift that normalises m
 module _ (m e : ℕ) (m-pos : 0 < m) (m-lt : m < 2 ^ 53) (e-lo : 1 ≤ e) (e-hi : e < 2047) where
