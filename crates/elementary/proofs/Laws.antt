@@ -6,6 +6,9 @@ pub mod Words
 pub mod Halves
 -- Floats: their bits, their values, how they compare, how large results can be.
 pub mod Held
+pub mod Places
+pub mod Nearest
+pub mod Rounding
 pub mod Order
 pub mod Compare
 pub mod Bounds

@@ -1,3 +1,5 @@
 pub mod Laws
+-- The promises of specs/Promises, each under its name.
+pub mod Promised
 -- The definitions at closed inputs.
 mod Examples

@@ -27,11 +27,11 @@ abbrev pub XBIG : Float
 XBIG = bits 0x403a_8b02_0c49_ba5e  -- 26.543
 
 -- Cody's six tables, by index
-abbrev at : List ℕ → ℕ → Float
-at table i = bits (getD table i 0)
+abbrev entry : List ℕ → ℕ → Float
+entry table i = bits (getD table i 0)
 
-abbrev pub A : ℕ → Float
-A = at
+abbrev pub A : ℕ → Float  -- up to the threshold, over B
+A = entry
     (0x4009_49fb_3ed4_43e9  -- 3.1611237438705655
     ∷ 0x405c_774e_4d36_5da3  -- 113.86415415105016
     ∷ 0x4077_97c3_8897_528b  -- 377.485237685302
@@ -39,16 +39,16 @@ A = at
     ∷ 0x3fc7_c790_5a31_c322  -- 0.18577770618460315
     ∷ [])
 
-abbrev pub B : ℕ → Float
-B = at
+abbrev pub B : ℕ → Float  -- under A
+B = entry
     (0x4037_99ee_342f_b2de  -- 23.601290952344122
     ∷ 0x406e_80c9_d57e_55b8  -- 244.02463793444417
     ∷ 0x4094_0a77_529c_adc8  -- 1282.6165260773723
     ∷ 0x40a6_3879_423b_87ad  -- 2844.236833439171
     ∷ [])
 
-abbrev pub C : ℕ → Float
-C = at
+abbrev pub C : ℕ → Float  -- from there to 4, over D
+C = entry
     (0x3fe2_0dd5_08eb_103e  -- 0.5641884969886701
     ∷ 0x4021_c42c_35b8_bc02  -- 8.883149794388377
     ∷ 0x4050_87a0_d1c4_20d0  -- 66.11919063714163
@@ -60,8 +60,8 @@ C = at
     ∷ 0x3e57_1e70_3c5f_5815  -- 2.1531153547440383e-08
     ∷ [])
 
-abbrev pub D : ℕ → Float
-D = at
+abbrev pub D : ℕ → Float  -- under C
+D = entry
     (0x402f_7d66_f486_ded5  -- 15.744926110709835
     ∷ 0x405d_6c69_b0ff_cde7  -- 117.6939508913125
     ∷ 0x4080_c972_e588_749e  -- 537.1811018620099
@@ -72,8 +72,8 @@ D = at
     ∷ 0x4093_395b_7fd3_5f61  -- 1230.3393548037495
     ∷ [])
 
-abbrev pub P : ℕ → Float
-P = at
+abbrev pub P : ℕ → Float  -- above 4, over Q
+P = entry
     (0x3fd3_8a78_b9f0_65f6  -- 0.30532663496123236
     ∷ 0x3fd7_0fe4_0e24_25b8  -- 0.36034489994980445
     ∷ 0x3fc0_199d_980a_842f  -- 0.12578172611122926
@@ -82,8 +82,8 @@ P = at
     ∷ 0x3f90_b4fb_18b4_85c7  -- 0.016315387137302097
     ∷ [])
 
-abbrev pub Q : ℕ → Float
-Q = at
+abbrev pub Q : ℕ → Float  -- under P
+Q = entry
     (0x4004_8c54_5088_00db  -- 2.568520192289822
     ∷ 0x3ffd_f79d_6855_f0ad  -- 1.8729528499234604
     ∷ 0x3fe0_e499_3e12_2c39  -- 0.5279051029514285

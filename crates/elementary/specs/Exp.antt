@@ -1,10 +1,8 @@
 -- Document 01's exp, operation by operation. Definitions only.
-use mathlib.Core.Path.{_≡_}
-use mathlib.Core.Bool.{Bool, false, cond}
-use Prim.Native.Nat.{ℕ, zero, suc, _*_, _≤_}
+use mathlib.Core.Bool.{false, cond}
+use Prim.Native.Nat.{ℕ, zero, suc, _*_}
 use lib.IntN.{ℤ}
-use lib.Ieee.{Float, nan, inf, fin, Format, binary64, up, down, minus, round, neg, lt, ne, toSigned}
-use lib.Ieee.Exact.{HasValue}
+use lib.Ieee.{Float, nan, inf, fin, Format, binary64, up, down, round, neg, lt, ne, toSigned}
 use Rattle.elementary.specs.Ops.{_⊕_, _⊖_, _⊗_, _⊘_, bits, float, +0, half, one, H, L}
 use Rattle.elementary.specs.Floor.{floorOf}
 
@@ -16,7 +14,7 @@ abbrev pub LEAST : Float
 LEAST = neg (bits 0x4087_5000_0000_0000)  -- −746
 
 abbrev pub LOG2-E : Float
-LOG2-E = bits 0x3ff7_1547_652b_82fe  -- 1.4426950408889634
+LOG2-E = bits 0x3ff7_1547_652b_82fe  -- 1 / ln 2, 1.4426950408889634
 
 -- p becomes 1 + (r × p) / i, for i from n down to 1
 unfoldable pub expSum : ℕ → Float → Float → Float

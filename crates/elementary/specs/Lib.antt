@@ -9,5 +9,7 @@ pub mod Exp
 pub mod Ln
 pub mod Cody
 pub mod NormalDistribution
+-- Promises: statements alone, no proof.
+pub mod Promises
 -- Words of private contracts: what functions inside the crate say of each other.
 pub mod Inside

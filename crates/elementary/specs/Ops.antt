@@ -8,16 +8,16 @@ use Rattle.elementary.specs.MulAdd.{fma}
 infixl 65 _⊕_ _⊖_
 infixl 70 _⊗_ _⊘_
 abbrev pub _⊕_ : Float → Float → Float
-x ⊕ y = add binary64 x y
+x ⊕ y = add binary64 x y  -- sum
 
 abbrev pub _⊖_ : Float → Float → Float
-x ⊖ y = sub binary64 x y
+x ⊖ y = sub binary64 x y  -- difference
 
 abbrev pub _⊗_ : Float → Float → Float
-x ⊗ y = mul binary64 x y
+x ⊗ y = mul binary64 x y  -- product
 
 abbrev pub _⊘_ : Float → Float → Float
-x ⊘ y = div binary64 x y
+x ⊘ y = div binary64 x y  -- quotient
 
 -- a × b + c, rounded once
 abbrev pub mulAdd : Float → Float → Float → Float
@@ -33,7 +33,7 @@ float n = ofInt binary64 (pos n)
 
 -- ---- small numbers
 abbrev pub +0 : Float
-+0 = bits 0
++0 = bits 0  -- zero without a sign
 
 abbrev pub eighth : Float
 eighth = bits 0x3fc0_0000_0000_0000  -- 0.125
@@ -63,19 +63,19 @@ abbrev pub MIN-POSITIVE : Float
 MIN-POSITIVE = bits 0x0010_0000_0000_0000  -- 2.2250738585072014e-308
 
 abbrev pub MAX : Float
-MAX = bits 0x7fef_ffff_ffff_ffff  -- 1.7976931348623157e308
+MAX = bits 0x7fef_ffff_ffff_ffff  -- f64::MAX, the largest finite number, 1.7976931348623157e308
 
 -- f64::MIN, which is −f64::MAX
 abbrev pub MIN : Float
 MIN = bits 0xffef_ffff_ffff_ffff  -- −1.7976931348623157e308
 
 abbrev pub EPSILON : Float
-EPSILON = bits 0x3cb0_0000_0000_0000  -- 2.220446049250313e-16
+EPSILON = bits 0x3cb0_0000_0000_0000  -- f64::EPSILON, from 1 to the next number, 2.220446049250313e-16
 
 -- ---- document 01's
 
 abbrev pub SQRT-2PI : Float
-SQRT-2PI = bits 0x4004_0d93_1ff6_2705  -- 2.5066282746310002
+SQRT-2PI = bits 0x4004_0d93_1ff6_2705  -- √(2π), 2.5066282746310002
 
 -- ln 2 in two parts. The last 21 of H's 53 binary digits are zero, so that k × H is exact for every k of exp and ln.
 abbrev pub H : Float

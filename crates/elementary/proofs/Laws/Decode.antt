@@ -3,20 +3,17 @@ use mathlib.Core.Path.{_≡_, refl, sym, ap, _∙_, subst}
 use mathlib.Core.Logic.{inl, inr}
 use mathlib.Core.Bool.{Bool, true, false, not, true≢false, false≢true}
 use Prim.Native.Nat.{ℕ, suc, _+_, _-_, _*_, _/_, _%_, _^_, _≤_, _<_}
-use native.Mathlib.Nat.{lt-of-lt-of-le, not-le-of-lt, le-of-suc-le-suc, lt-of-not-le, eq-or-lt-of-le, mul-assoc, mul-right-comm, lt-of-mul-lt-mul-right, le-of-mul-le-mul-right, mul-mod-left, eq-of-mul-eq-mul-right, lt-irrefl}
+use native.Mathlib.Nat.{lt-of-lt-of-le, not-le-of-lt, le-of-suc-le-suc, lt-of-not-le, eq-or-lt-of-le, mul-assoc, lt-of-mul-lt-mul-right, le-of-mul-le-mul-right, mul-mod-left, lt-irrefl}
 use native.Mathlib.Omega.{arith}
 use lib.Dec.{T, leb, lit<}
 use lib.Pow.{pow-add, pow-pos, pow-mono, shl-lt}
-use lib.Ieee.{Float, nan, inf, fin, binary64, up, down, ofBits, toBits, fits, isNan, lt, neg}
+use lib.Ieee.{Float, nan, inf, fin, binary64, ofBits, toBits, fits, isNan, lt, neg}
 use lib.Ieee.Exact.{HasValue}
 use lib.Ieee.Bits.{ofBits-toBits}
-use lib.Ieee.Fits.{down-pos}
-use lib.Ieee.Nearest.{div-same}
 use lib.Ieee.Scale.{finite}
-use Rattle.elementary.specs.Sqrt.{inUnits}
 use Rattle.elementary.specs.Inside.Round.{Lead, Decoded, Lifted}
 use Rattle.elementary.proofs.Laws.Bits.{nan-pattern}
-use Rattle.elementary.proofs.Laws.Values.{value-low, value-mid, value-inf}
+use Rattle.elementary.proofs.Laws.Values.{revalue, value-low, value-mid, value-inf}
 
 -- ---- finite
 pub finite-no-nan : (x : Float) → T (finite x) → T (not (isNan x))
@@ -39,34 +36,12 @@ finite-no nan h = refl
 finite-no (inf s) h = refl
 finite-no (fin s m e) h = absurd (true≢false h)
 
--- ---- the same value as another fraction
+-- ---- powers of 2 in a value's fraction
 pub split-power : (q i k l : ℕ) → i ≡ k + l → q * 2 ^ i ≡ q * 2 ^ k * 2 ^ l
 split-power q i k l e = ap (λ (z : ℕ). q * z) (ap (λ (z : ℕ). 2 ^ z) e ∙ pow-add 2 k l) ∙ sym (mul-assoc q (2 ^ k) (2 ^ l))
 
 pub same-power : (q i j k l : ℕ) → i + j ≡ k + l → q * 2 ^ i * 2 ^ j ≡ q * 2 ^ k * 2 ^ l
 same-power q i j k l e = sym (split-power q (i + j) i j refl) ∙ split-power q (i + j) k l e
-
-pub same-value : (x : Float) (s : Bool) (a c b d : ℕ) → 0 < c → a * d ≡ b * c → HasValue x s a c → HasValue x s b d
-same-value nan s a c b d P e h = h
-same-value (inf t) s a c b d P e h = h
-same-value (fin t m g) s a c b d P e h = (
-  h .0,
-  eq-of-mul-eq-mul-right c P (m * up g * d) (b * down g)
-      (mul-right-comm (m * up g) d c
-      ∙ ap (λ (z : ℕ). z * d) (h .1)
-      ∙ mul-right-comm a (down g) d
-      ∙ ap (λ (z : ℕ). z * down g) e
-      ∙ mul-right-comm b c (down g)),
-)
-
--- as a number of smallest values, cut
-pub units-of : (x : Float) (s : Bool) (a c : ℕ) → 0 < c → HasValue x s a c → inUnits binary64 x ≡ a * 2 ^ 1074 / c
-unfolding inUnits
-units-of nan s a c P h = absurd h
-units-of (inf t) s a c P h = absurd h
-units-of (fin t m e) s a c P h =
-    div-same (m * up e * 2 ^ 1074) (down e) (a * 2 ^ 1074) c (down-pos e) P
-    (mul-right-comm (m * up e) (2 ^ 1074) c ∙ ap (λ (z : ℕ). z * 2 ^ 1074) (h .1) ∙ mul-right-comm a (down e) (2 ^ 1074))
 
 -- ---- the fields
 module _ (x : Float) (F : T (fits binary64 x)) where
@@ -86,7 +61,7 @@ module _ (x : Float) (F : T (fits binary64 x)) where
   low-value z m e L =
       let v : HasValue x s (b % 2 ^ 63) (2 ^ 1074) = rw (ofBits-toBits binary64 x F) at (value-low b (omega arith)) in
       record {
-        value = same-value x s (b % 2 ^ 63) (2 ^ 1074) (m * 2 ^ e) (2 ^ 1138) (pow-pos 1074)
+        value = revalue x s (b % 2 ^ 63) (2 ^ 1074) (m * 2 ^ e) (2 ^ 1138) (pow-pos 1074)
             (ap (λ (w : ℕ). w * 2 ^ 1138) (omega arith) ∙ split-power t 1138 64 1074 refl ∙ ap (λ (w : ℕ). w * 2 ^ 1074) (sym (L .same))) v;
         whole = ap (λ (w : ℕ). w % 2 ^ 64) (L .same) ∙ mul-mod-left t (2 ^ 64);
         room = L .room;
@@ -97,7 +72,7 @@ module _ (x : Float) (F : T (fits binary64 x)) where
   normal-value p h =
       let v : HasValue x s ((2 ^ 52 + t) * 2 ^ (f - 1)) (2 ^ 1074) = rw (ofBits-toBits binary64 x F) at (value-mid b (f - 1) (omega arith) (omega arith)) in
       record {
-        value = same-value x s ((2 ^ 52 + t) * 2 ^ (f - 1)) (2 ^ 1074) ((2 ^ 52 + t) * 2 ^ (f + 63)) (2 ^ 1138) (pow-pos 1074) (same-power (2 ^ 52 + t) (f - 1) 1138 (f + 63) 1074 (omega arith)) v;
+        value = revalue x s ((2 ^ 52 + t) * 2 ^ (f - 1)) (2 ^ 1074) ((2 ^ 52 + t) * 2 ^ (f + 63)) (2 ^ 1138) (pow-pos 1074) (same-power (2 ^ 52 + t) (f - 1) 1138 (f + 63) 1074 (omega arith)) v;
         whole = ap (λ (w : ℕ). w % 2 ^ 64) (split-power (2 ^ 52 + t) (f + 63) (f - 1) 64 (omega arith)) ∙ mul-mod-left ((2 ^ 52 + t) * 2 ^ (f - 1)) (2 ^ 64);
         room = omega arith;
         digits = λ _. record { lead = omega arith; top = omega arith; least = omega arith; room = omega arith };

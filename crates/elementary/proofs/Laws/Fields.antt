@@ -10,8 +10,8 @@ use lib.Ieee.{binary64, ofBits, nanBits}
 use lib.Ieee.Exact.{HasValue}
 use lib.Ieee.Bits.{is-true, is-false}
 use Rattle.elementary.proofs.Laws.Bits.{no-nan-pattern}
-use Rattle.elementary.proofs.Laws.Decode.{same-power, same-value}
-use Rattle.elementary.proofs.Laws.Values.{recast, value-mid}
+use Rattle.elementary.proofs.Laws.Decode.{same-power}
+use Rattle.elementary.proofs.Laws.Values.{revalue, recast, value-mid}
 
 -- the pattern as the program writes it
 abbrev pattern : ℕ → ℕ → ℕ → ℕ
@@ -42,6 +42,6 @@ module _ (s : Bool) (f t r : ℕ) (h : f < 2047) (k : t < 2 ^ 52) (e : r ≡ con
   pattern-value p =
       let b = pattern r f t in
       let v = reads s f t r h k e in
-      same-value (ofBits binary64 b) s ((2 ^ 52 + t) * 2 ^ (f - 1)) (2 ^ 1074) ((2 ^ 52 + t) * 2 ^ (f + 1329)) (2 ^ 2404) (pow-pos 1074)
+      revalue (ofBits binary64 b) s ((2 ^ 52 + t) * 2 ^ (f - 1)) (2 ^ 1074) ((2 ^ 52 + t) * 2 ^ (f + 1329)) (2 ^ 2404) (pow-pos 1074)
       (same-power (2 ^ 52 + t) (f - 1) 2404 (f + 1329) 1074 (omega arith))
       (recast (ofBits binary64 b) (2 ^ 1074) (v .sign) (ap (λ (z : ℕ). (2 ^ 52 + z) * 2 ^ (f - 1)) (v .digits)) (value-mid b (f - 1) (omega arith) (omega arith)))

@@ -12,10 +12,10 @@ use lib.ListN.{length}
 use lib.Pow.{pow-add, pow-pos, pow-mono}
 use lib.IntN.{ℤ, pos, negsuc, negℤ}
 use borrow.Author.Tests.{ltb-false, le-ltb}
-use lib.Ieee.{Float, nan, inf, fin, binary64, up, down, unlike, fits, round, sum, add, sub, mul, div, neg, lt, le, ofBits, ofInt, toSigned}
+use lib.Ieee.{Float, nan, inf, fin, binary64, up, down, unlike, fits, round, sum, add, sub, mul, div, neg, lt, le, eq, ofBits, ofInt, toSigned}
 use lib.Ieee.Fits.{up-pos, down-pos, and-l, and-r, mul-fits}
 use lib.Ieee.Exact.{HasValue, round-exact}
-use lib.Ieee.Scale.{round-same, round-val, grid}
+use lib.Ieee.Scale.{round-same, round-val, grid, finite}
 use lib.Ieee.Order.{round-mono, transfer}
 use lib.Ieee.Back.{round-whole}
 use Rattle.elementary.specs.Ops.{_⊕_, _⊖_, _⊗_, _⊘_, float, +0, half, one, two, H, L, four, sixteen}
@@ -24,7 +24,7 @@ use Rattle.elementary.specs.Exp.{LARGEST, LEAST, LOG2-E, expSum, scaled,
 use Rattle.elementary.specs.Cody.{THRESHOLD, FRAC-1-SQRT-PI, XBIG, erfcxAboveThreshold, erfcAbs, erfcOf, A, B, C, D, P, Q, dIntOf, tildeOf, smoothenedExponentialOfNegativeSquare, abOf, cdOf, pqOf}
 use Rattle.elementary.specs.Rules.{Rules}
 use Rattle.elementary.specs.Methods.{absOf}
-use Rattle.elementary.specs.NormalDistribution.{FRAC-1-SQRT-2, cdfOf}
+use Rattle.elementary.specs.NormalDistribution.{FRAC-1-SQRT-2, cdfOf, lowest, highest}
 use Rattle.elementary.proofs.Laws.Compare.{equal-itself}
 use Rattle.elementary.proofs.Laws.Order.{le→fractions}
 use Rattle.elementary.proofs.Laws.Powers.{pow-le-back, pow-split}
@@ -501,3 +501,19 @@ unfolding cdfOf
 cdf-at-most rules {y} h =
     mul-at-most (2 ^ 482) (pow-exact 482 (lit< tt)) (lit≤ tt) (unsigned half-side)
     (erfc-at-most rules (mul-fits binary64 (neg y) FRAC-1-SQRT-2) (mul-at-most 39 (small-exact 39 (lit≤ tt)) (lit≤ tt) (unsigned (neg-side (h .side))) (unsigned frac-2-side)))
+
+-- from −39 to 39
+range-39 : (y : Float) → T (le lowest y) → T (le y highest) → AtMost y 39
+unfolding le lt eq neg ofBits
+range-39 nan a b = absurd a
+range-39 (inf true) a b = absurd a
+range-39 (inf false) a b = absurd b
+range-39 (fin true m e) a b =
+    let l = le→fractions true true 39 (m * up e) 1 (down e) (lit< tt) (down-pos e) lowest (fin true m e) (refl, refl) (refl, refl) a in
+    unsigned {s = true} (record { sized = (refl, omega arith) })
+range-39 (fin false m e) a b =
+    let l = le→fractions false false (m * up e) 39 (down e) 1 (down-pos e) (lit< tt) (fin false m e) highest (refl, refl) (refl, refl) b in
+    unsigned {s = false} (record { sized = (refl, omega arith) })
+
+pub cdf-finite : (rules : Rules) (y : Float) → T (le lowest y) → T (le y highest) → T (finite (cdfOf rules y))
+cdf-finite rules y a b = side-finite (cdf-at-most rules (range-39 y a b) .side)

@@ -1,6 +1,6 @@
 -- `floorOf f x`, for a finite x of the format f, is exact, and is the greatest whole number not above x. Assumes nothing.
 use mathlib.Core.Path.{_≡_, refl, sym, _∙_}
-use mathlib.Core.Bool.{Bool, true, false}
+use mathlib.Core.Bool.{Bool, true, false, not}
 use Prim.Native.Nat.{ℕ, zero, suc, _+_, _-_, _*_, _/_, _^_, _≤_, _<_}
 use native.Mathlib.Nat.{le-refl, le-trans, le-antisymm, lt-of-le-of-lt, mul-assoc, mul-comm, mul-right-comm, mul-one, suc-mul, add-mul, mul-le-mul-right}
 use native.Mathlib.Nat.{mul-lt-mul-of-pos-right, le-of-mul-le-mul-right, lt-of-mul-lt-mul-right, le-mul-of-pos-right, div-mul-le-self, div-lt-iff-lt-mul}
@@ -9,7 +9,7 @@ use native.Mathlib.Omega.{arith}
 use lib.IntN.{ℤ, pos, negsuc}
 use lib.Dec.{T}
 use lib.Pow.{pow-add, pow-pos}
-use lib.Ieee.{Float, nan, inf, fin, Format, emax, low, up, down, round, fits, le}
+use lib.Ieee.{Float, nan, inf, fin, Format, emax, low, up, down, round, fits}
 use lib.Ieee.Fits.{down-pos, round-fits, nan-fits, inf-fits}
 use lib.Ieee.Exact.{HasValue, round-exact}
 use lib.Ieee.Back.{round-whole, whole-unique}
@@ -18,42 +18,32 @@ use Rattle.elementary.specs.Methods.{signOf}
 use Rattle.elementary.proofs.Laws.Order.{Le, le→fractions, fractions→le}
 use Rattle.elementary.proofs.Laws.Held.{holds}
 use Rattle.elementary.specs.Floor.{floorSize, floorOf}
-
--- y is a whole number: ±n / 1
-abbrev pub Whole : Float → Type 0
-Whole y = (s : Bool) × (n : ℕ) × HasValue y s n 1
-
--- r is a value of the format f, a whole number not above x, and no whole number between the two is greater. The sign is x's, which matters where r is a zero.
-pub record GreatestWhole (f : Format) (x r : Float) : Type 0 where
-  pub held : T (fits f r)
-  pub whole : Whole r
-  pub sign : signOf r ≡ signOf x
-  pub not-above : T (le r x)
-  pub greatest : (y : Float) → Whole y → T (le y x) → T (le y r)
+use Rattle.elementary.specs.Promises.{GreatestWhole}
+use Rattle.elementary.proofs.Laws.Places.{sign-of}
 
 -- ---- n is the size of the greatest whole number not above ±a / c
-abbrev pub Cut : Bool → ℕ → ℕ → ℕ → Type 0
-Cut false a c n = (n * c ≤ a) × (a < suc n * c)
-Cut true a c n = (a ≤ n * c) × (n * c < a + c)
+abbrev pub IsFloor : Bool → ℕ → ℕ → ℕ → Type 0
+IsFloor false a c n = (n * c ≤ a) × (a < suc n * c)
+IsFloor true a c n = (a ≤ n * c) × (n * c < a + c)
 
-pub cut-is : (s : Bool) (a c : ℕ) → 0 < c → Cut s a c (floorSize s a c)
-cut-is false a c p = (div-mul-le-self a c, div-lt-iff-lt-mul p .0 (le-refl (suc (a / c))))
-cut-is true a c p =
+pub size-floor : (s : Bool) (a c : ℕ) → 0 < c → IsFloor s a c (floorSize s a c)
+size-floor false a c p = (div-mul-le-self a c, div-lt-iff-lt-mul p .0 (le-refl (suc (a / c))))
+size-floor true a c p =
     let n = (a + (c - 1)) / c in
     let lo = div-mul-le-self (a + (c - 1)) c in
     let hi : a + (c - 1) < suc n * c = div-lt-iff-lt-mul p .0 (le-refl (suc n)) in
     (omega (arith, suc-mul n c), omega arith)
 
-cut-unique : (s : Bool) (a c n m : ℕ) → Cut s a c n → Cut s a c m → n ≡ m
-cut-unique s a c n m h k = le-antisymm (below s n m h k) (below s m n k h)
+floor-size-unique : (s : Bool) (a c n m : ℕ) → IsFloor s a c n → IsFloor s a c m → n ≡ m
+floor-size-unique s a c n m h k = le-antisymm (below s n m h k) (below s m n k h)
   where
-    below : (s : Bool) (n m : ℕ) → Cut s a c n → Cut s a c m → n ≤ m
+    below : (s : Bool) (n m : ℕ) → IsFloor s a c n → IsFloor s a c m → n ≤ m
     below false n m h k = omega (arith, lt-of-mul-lt-mul-right c {m = n} {n = suc m} (lt-of-le-of-lt (h .0) (k .1)))
     below true n m h k = omega (arith, lt-of-mul-lt-mul-right c {m = n} {n = suc m} (omega (arith, suc-mul m c)))
 
-pub cut-whole : (s : Bool) (a : ℕ) → Cut s a 1 a
-cut-whole false a = (omega arith, omega arith)
-cut-whole true a = (omega arith, omega arith)
+pub whole-floor : (s : Bool) (a : ℕ) → IsFloor s a 1 a
+whole-floor false a = (omega arith, omega arith)
+whole-floor true a = (omega arith, omega arith)
 
 -- another fraction of the same size
 module _ (p c d q r : ℕ) (c-pos : 0 < c) (d-pos : 0 < d) (e : q * d ≡ r * c) where
@@ -69,29 +59,29 @@ module _ (p c d q r : ℕ) (c-pos : 0 < c) (d-pos : 0 < d) (e : q * d ≡ r * c)
   lt-down : q < p * c → r < p * d
   lt-down h = lt-of-mul-lt-mul-right c (rw (mul-right-comm p d c, ← e) (mul-lt-mul-of-pos-right h d-pos))
 
-cut-same : (s : Bool) (a c b d n : ℕ) → 0 < c → 0 < d → a * d ≡ b * c → Cut s a c n → Cut s b d n
-cut-same false a c b d n c-pos d-pos e h = (le-up n c d a b c-pos d-pos e (h .0), lt-down (suc n) c d a b c-pos d-pos e (h .1))
-cut-same true a c b d n c-pos d-pos e h = (
+floor-size-same : (s : Bool) (a c b d n : ℕ) → 0 < c → 0 < d → a * d ≡ b * c → IsFloor s a c n → IsFloor s b d n
+floor-size-same false a c b d n c-pos d-pos e h = (le-up n c d a b c-pos d-pos e (h .0), lt-down (suc n) c d a b c-pos d-pos e (h .1))
+floor-size-same true a c b d n c-pos d-pos e h = (
   le-down n c d a b c-pos d-pos e (h .0),
   lt-up n c d (a + c) (b + d) c-pos d-pos (rw (add-mul a c d, add-mul b d c, mul-comm d c, e)) (h .1),
 )
 
 -- the size is at most a
-cut-le : (s : Bool) (a c n : ℕ) → 0 < c → Cut s a c n → n ≤ a
-cut-le false a c n p h = le-trans (le-mul-of-pos-right n p) (h .0)
-cut-le true a c n p h =
+floor-size-le : (s : Bool) (a c n : ℕ) → 0 < c → IsFloor s a c n → n ≤ a
+floor-size-le false a c n p h = le-trans (le-mul-of-pos-right n p) (h .0)
+floor-size-le true a c n p h =
     omega (arith, lt-of-not-le {n = suc a} {m = n} (λ (g : suc a ≤ n). omega (arith, mul-le-mul-right c g, suc-mul a c, le-mul-of-pos-right a p)))
 
 -- ---- `round` changes nothing
 module _ (f : Format) (s : Bool) where
   whole-size : (a : ℕ) → floorSize s a 1 ≡ a
-  whole-size a = cut-unique s a 1 (floorSize s a 1) a (cut-is s a 1 (omega arith)) (cut-whole s a)
+  whole-size a = floor-size-unique s a 1 (floorSize s a 1) a (size-floor s a 1 (omega arith)) (whole-floor s a)
 
   floor-exact : (m : ℕ) (e : ℤ) → T (fits f (fin s m e)) → HasValue (floorOf f (fin s m e)) s (floorSize s (m * up e) (down e)) 1
   unfolding floorOf
   floor-exact zero e h =
       let n = floorSize s (0 * up e) (down e) in
-      let l : n ≤ 0 * up e = cut-le s (0 * up e) (down e) n (down-pos e) (cut-is s (0 * up e) (down e) (down-pos e)) in
+      let l : n ≤ 0 * up e = floor-size-le s (0 * up e) (down e) n (down-pos e) (size-floor s (0 * up e) (down e) (down-pos e)) in
       round-whole f s n (omega arith)
   floor-exact (suc m) (pos i) h =
       let z = holds f s m (pos i) h in
@@ -103,15 +93,15 @@ module _ (f : Format) (s : Bool) where
   floor-exact (suc m) (negsuc i) h =
       let z = holds f s m (negsuc i) h in
       let n = floorSize s (suc m * 1) (2 ^ suc i) in
-      let l : n ≤ suc m * 1 = cut-le s (suc m * 1) (2 ^ suc i) n (pow-pos (suc i)) (cut-is s (suc m * 1) (2 ^ suc i) (pow-pos (suc i))) in
+      let l : n ≤ suc m * 1 = floor-size-le s (suc m * 1) (2 ^ suc i) n (pow-pos (suc i)) (size-floor s (suc m * 1) (2 ^ suc i) (pow-pos (suc i))) in
       round-whole f s n (omega arith)
 
 -- the same of any fraction that x equals
-pub floor-value : (f : Format) (x : Float) (s : Bool) (a c n : ℕ) → T (fits f x) → 0 < c → HasValue x s a c → Cut s a c n → HasValue (floorOf f x) s n 1
+pub floor-value : (f : Format) (x : Float) (s : Bool) (a c n : ℕ) → T (fits f x) → 0 < c → HasValue x s a c → IsFloor s a c n → HasValue (floorOf f x) s n 1
 floor-value f nan s a c n h p v k = absurd v
 floor-value f (inf t) s a c n h p v k = absurd v
 floor-value f (fin t m e) s a c n h p v k =
-    let same = cut-unique s (m * up e) (down e) (floorSize s (m * up e) (down e)) n (cut-is s (m * up e) (down e) (down-pos e)) (cut-same s a c (m * up e) (down e) n p (down-pos e) (sym (v .1)) k) in
+    let same = floor-size-unique s (m * up e) (down e) (floorSize s (m * up e) (down e)) n (size-floor s (m * up e) (down e) (down-pos e)) (floor-size-same s a c (m * up e) (down e) n p (down-pos e) (sym (v .1)) k) in
     rw (v .0, ← same) (floor-exact f s m e (rw (v .0) at h))
 
 pub floor-fits : (f : Format) (x : Float) → T (fits f (floorOf f x))
@@ -121,21 +111,15 @@ floor-fits f (inf s) = inf-fits f s
 floor-fits f (fin s m e) = round-fits f s (floorSize s (m * up e) (down e)) 1
 
 -- ---- the theorem
-sign-of : (r : Float) (s : Bool) (n c : ℕ) → HasValue r s n c → signOf r ≡ s
-unfolding signOf
-sign-of nan s n c v = absurd v
-sign-of (inf t) s n c v = absurd v
-sign-of (fin t m e) s n c v = v .0
+floor-size-below : (s : Bool) (a c n : ℕ) → IsFloor s a c n → Le s (n * c) s a
+floor-size-below false a c n h = h .0
+floor-size-below true a c n h = h .0
 
-cut-below : (s : Bool) (a c n : ℕ) → Cut s a c n → Le s (n * c) s a
-cut-below false a c n h = h .0
-cut-below true a c n h = h .0
-
-cut-greatest : (t s : Bool) (k a c n : ℕ) → 0 < c → Cut s a c n → Le t (k * c) s a → Le t k s n
-cut-greatest false false k a c n p h l = omega (arith, lt-of-mul-lt-mul-right c {m = k} {n = suc n} (lt-of-le-of-lt l (h .1)))
-cut-greatest false true k a c n p h l = (omega (arith, le-mul-of-pos-right k p), omega (arith, cut-le true a c n p h))
-cut-greatest true false k a c n p h l = tt
-cut-greatest true true k a c n p h l = omega (arith, lt-of-mul-lt-mul-right c {m = n} {n = suc k} (omega (arith, suc-mul k c)))
+floor-size-greatest : (t s : Bool) (k a c n : ℕ) → 0 < c → IsFloor s a c n → Le t (k * c) s a → Le t k s n
+floor-size-greatest false false k a c n p h l = omega (arith, lt-of-mul-lt-mul-right c {m = k} {n = suc n} (lt-of-le-of-lt l (h .1)))
+floor-size-greatest false true k a c n p h l = (omega (arith, le-mul-of-pos-right k p), omega (arith, floor-size-le true a c n p h))
+floor-size-greatest true false k a c n p h l = tt
+floor-size-greatest true true k a c n p h l = omega (arith, lt-of-mul-lt-mul-right c {m = n} {n = suc k} (omega (arith, suc-mul k c)))
 
 pub floor-greatest : (f : Format) (x : Float) → T (fits f x) → T (finite x) → GreatestWhole f x (floorOf f x)
 unfolding floorOf signOf
@@ -147,16 +131,16 @@ floor-greatest f (fin s m e) h t =
     let c = down e in
     let n = floorSize s a c in
     let r = round f s n 1 in
-    let k : Cut s a c n = cut-is s a c (down-pos e) in
+    let k : IsFloor s a c n = size-floor s a c (down-pos e) in
     let v : HasValue r s n 1 = floor-exact f s m e h in
     record {
-      held = floor-fits f x;
+      of-format = floor-fits f x;
       whole = (s, n, v);
       sign = sign-of r s n 1 v;
-      not-above = fractions→le s s n a 1 c (omega arith) (down-pos e) r x v (refl, refl) (rw (mul-one a) (cut-below s a c n k));
+      not-above = fractions→le s s n a 1 c (omega arith) (down-pos e) r x v (refl, refl) (rw (mul-one a) (floor-size-below s a c n k));
       greatest = λ y w l.
           fractions→le (w .0) s (w .1) n 1 1 (omega arith) (omega arith) y r (w .2) v
-          (rw (mul-one (w .1), mul-one n) (cut-greatest (w .0) s (w .1) a c n (down-pos e) k
+          (rw (mul-one (w .1), mul-one n) (floor-size-greatest (w .0) s (w .1) a c n (down-pos e) k
           (rw (mul-one a) at (le→fractions (w .0) s (w .1) a 1 c (omega arith) (down-pos e) y x (w .2) (refl, refl) l))));
     }
 
@@ -175,4 +159,10 @@ greatest-unique f x q r a b =
     let up = le→fractions _ _ _ _ 1 1 (omega arith) (omega arith) q r v w (b .greatest q (a .whole) (a .not-above)) in
     let down = le→fractions _ _ _ _ 1 1 (omega arith) (omega arith) r q w v (a .greatest r (b .whole) (b .not-above)) in
     let sizes = level _ _ _ _ signs up down in
-    whole-unique f q r (b .whole .0) (b .whole .1) (a .held) (b .held) (rw (← signs, ← sizes) v) w
+    whole-unique f q r (b .whole .0) (b .whole .1) (a .of-format) (b .of-format) (rw (← signs, ← sizes) v) w
+
+pub floor-other : (f : Format) (x : Float) → T (not (finite x)) → floorOf f x ≡ x
+unfolding floorOf
+floor-other f nan h = refl
+floor-other f (inf s) h = refl
+floor-other f (fin s m e) h = absurd h

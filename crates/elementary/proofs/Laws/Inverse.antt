@@ -14,13 +14,10 @@ use Rattle.elementary.specs.Exp.{expOf, expInner, expSum, scaled}
 use Rattle.elementary.specs.Cody.{erfcOf, erfcAbs, smoothenedExponentialOfNegativeSquare, tildeOf}
 use Rattle.elementary.specs.NormalDistribution.{cdfOf, midOf, bisected, lowest, highest, endsOf, inverseOf}
 use Rattle.elementary.proofs.Laws.Bounds.{side-finite, small-exact, half-at-most, add-at-most}
+use Rattle.elementary.specs.Promises.{Brackets}
 use Rattle.elementary.specs.Inside.Bounds.{AtMost}
 use Rattle.elementary.proofs.Laws.Compare.{lt-asym, le-of-not-lt, not-le-of-lt, not-lt-of-not-le, equal-itself}
 use Rattle.elementary.proofs.Laws.Finite.{cdf-at-most}
-
-pub record Brackets (cdf : Float → Float) (p lo hi : Float) : Type 0 where
-  pub under : lt (cdf lo) p ≡ true
-  pub over : le p (cdf hi) ≡ true
 
 -- a p strictly between 0 and 1 is finite, and no end of the inverse's range
 between-finite : (p : Float) → lt +0 p ≡ true → lt p one ≡ true → T (finite p)
@@ -31,7 +28,7 @@ between-finite (inf false) h k = absurd (true≢false (sym k))
 between-finite (fin s m e) h k = tt
 
 -- ---- the ends of the bisection, after any number of turns
-record Held (cdf : Float → Float) (p lo hi : Float) : Type 0 where
+record Around (cdf : Float → Float) (p lo hi : Float) : Type 0 where
   under : lt (cdf lo) p ≡ true
   over : lt (cdf hi) p ≡ false
   lo-range : AtMost lo 39
@@ -40,12 +37,12 @@ record Held (cdf : Float → Float) (p lo hi : Float) : Type 0 where
 mid-range : {lo hi : Float} → AtMost lo 39 → AtMost hi 39 → AtMost (midOf lo hi) 39
 mid-range h k = half-at-most 39 (small-exact 39 (lit≤ tt)) (add-at-most 78 (small-exact 78 (lit≤ tt)) (lit≤ tt) h k)
 
-held : (cdf : Float → Float) (n : ℕ) (p lo hi : Float) → Held cdf p lo hi → Held cdf p (bisected cdf n p lo hi .lo) (bisected cdf n p lo hi .hi)
+around : (cdf : Float → Float) (n : ℕ) (p lo hi : Float) → Around cdf p lo hi → Around cdf p (bisected cdf n p lo hi .lo) (bisected cdf n p lo hi .hi)
 unfolding bisected
-held cdf zero p lo hi h = h
-held cdf (suc n) p lo hi h = held cdf n p _ _ (go (lt (cdf (midOf lo hi)) p) refl)
+around cdf zero p lo hi h = h
+around cdf (suc n) p lo hi h = around cdf n p _ _ (go (lt (cdf (midOf lo hi)) p) refl)
   where
-    go : (b : Bool) → lt (cdf (midOf lo hi)) p ≡ b → Held cdf p (cond b (midOf lo hi) lo) (cond b hi (midOf lo hi))
+    go : (b : Bool) → lt (cdf (midOf lo hi)) p ≡ b → Around cdf p (cond b (midOf lo hi) lo) (cond b hi (midOf lo hi))
     go true t = record { under = t; over = h .over; lo-range = mid-range (h .lo-range) (h .hi-range); hi-range = h .hi-range }
     go false t = record { under = h .under; over = t; lo-range = h .lo-range; hi-range = mid-range (h .lo-range) (h .hi-range) }
 
@@ -93,19 +90,19 @@ pub highest-over : (rules : Rules) (p : Float) → le one p ≡ false → lt (cd
 highest-over rules p h = rw (at-highest rules) (not-lt-of-not-le one p h)
 
 -- ---- the theorem
-pub inverse-brackets : (rules : Rules) (p : Float) → lt +0 p ≡ true → lt p one ≡ true → Brackets (cdfOf rules) p (endsOf rules p .lo) (endsOf rules p .hi)
+inverse-is-hi : (rules : Rules) (p : Float) → lt +0 p ≡ true → lt p one ≡ true → inverseOf rules p ≡ endsOf rules p .hi
+unfolding inverseOf
+inverse-is-hi rules p above-0 below-1 = rw (equal-itself p (between-finite p above-0 below-1), not-le-of-lt +0 p above-0, not-le-of-lt p one below-1)
+
+pub inverse-brackets : (rules : Rules) (p : Float) → lt +0 p ≡ true → lt p one ≡ true → Brackets rules p (endsOf rules p .lo) (endsOf rules p .hi)
 unfolding endsOf
 inverse-brackets rules p above-0 below-1 =
-    let begun : Held (cdfOf rules) p lowest highest =
+    let begun : Around (cdfOf rules) p lowest highest =
     record { under = rw (at-lowest rules) above-0; over = rw (at-highest rules) (lt-asym p one below-1); lo-range = lowest-range; hi-range = highest-range } in
-    let h = held (cdfOf rules) 64 p lowest highest begun in
+    let h = around (cdfOf rules) 64 p lowest highest begun in
     let hi = bisected (cdfOf rules) 64 p lowest highest .hi in
     record {
       under = h .under;
       over = le-of-not-lt (cdfOf rules hi) p (side-finite (cdf-at-most rules (h .hi-range) .side)) (between-finite p above-0 below-1) (h .over);
+      inverse = inverse-is-hi rules p above-0 below-1;
     }
-
--- and there the inverse is the upper end
-pub inverse-is-hi : (rules : Rules) (p : Float) → lt +0 p ≡ true → lt p one ≡ true → inverseOf rules p ≡ endsOf rules p .hi
-unfolding inverseOf
-inverse-is-hi rules p above-0 below-1 = rw (equal-itself p (between-finite p above-0 below-1), not-le-of-lt +0 p above-0, not-le-of-lt p one below-1)

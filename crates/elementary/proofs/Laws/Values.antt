@@ -3,16 +3,16 @@ use mathlib.Core.Path.{_≡_, refl, sym, ap, _∙_}
 use mathlib.Core.Logic.{_⊎_, inl, inr}
 use mathlib.Core.Bool.{Bool, true, false, cond}
 use Prim.Native.Nat.{ℕ, suc, _+_, _-_, _*_, _/_, _%_, _^_, _≤_, _<_}
-use native.Mathlib.Nat.{mul-one, zero-add, pow-suc, mul-div-cancel, mul-right-comm, eq-of-mul-eq-mul-right, eq-or-lt-of-le, eq-zero-or-pos}
+use native.Mathlib.Nat.{mul-one, zero-add, pow-suc, mul-right-comm, eq-of-mul-eq-mul-right, eq-or-lt-of-le, eq-zero-or-pos}
 use native.Mathlib.Omega.{arith}
 use lib.Dec.{T, leb, eqb, eqb→eq, le→leb, not-T}
 use lib.Arith.{lt→nleb}
-use lib.Ieee.{Float, nan, inf, fin, binary64, up, down, size, odd, fits, ofFields, ofBits, toBits, ofInt}
-use lib.Ieee.Fits.{down-pos}
+use lib.Ieee.{Float, nan, inf, fin, binary64, up, down, odd, fits, ofFields, ofBits, ofInt}
 use lib.Ieee.Back.{round-whole}
 use lib.Ieee.Exact.{HasValue, odd-sign}
-use lib.Ieee.Bits.{is-true, is-false, cond-no, ofBits-toBits}
+use lib.Ieee.Bits.{is-true, is-false, cond-no}
 use Rattle.elementary.specs.Ops.{float}
+use Rattle.elementary.proofs.Laws.Places.{place-of, sign-of, is-number, same-value}
 
 -- the same value said otherwise
 pub recast : (x : Float) (c : ℕ) {s t : Bool} {a b : ℕ} → s ≡ t → a ≡ b → HasValue x s a c → HasValue x t b c
@@ -100,11 +100,6 @@ value-packed s k q lo hi small = by-lead (eq-zero-or-pos (2 ^ 52 - q))
         recast (ofBits binary64 b) (2 ^ 1074) (parts .0) (parts .1 ∙ ap (λ (z : ℕ). z * 2 ^ 52 + q) zero ∙ zero-add q ∙ sym none) (value-low b (omega (arith, parts .1)))
 
 -- ---- a float by its value
-pub value-bits : (x : Float) (s : Bool) (a : ℕ) → HasValue x s a (2 ^ 1074) → toBits binary64 x ≡ cond s (2 ^ 63) 0 + (size a - 53) * 2 ^ 52 + a / 2 ^ (size a - 53)
-unfolding toBits
-value-bits nan s a h = absurd h
-value-bits (inf t) s a h = absurd h
-value-bits (fin t m e) s a h = rw (h .0, h .1, mul-div-cancel a (down-pos e))
-
 pub value-unique : (x y : Float) (s : Bool) (a : ℕ) → T (fits binary64 x) → T (fits binary64 y) → HasValue x s a (2 ^ 1074) → HasValue y s a (2 ^ 1074) → x ≡ y
-value-unique x y s a f g h i = sym (ofBits-toBits binary64 x f) ∙ ap (ofBits binary64) (value-bits x s a h ∙ sym (value-bits y s a i)) ∙ ofBits-toBits binary64 y g
+value-unique x y s a f g h i =
+    same-value binary64 x y f g (is-number x s _ _ h) (is-number y s _ _ i) (sign-of x s _ _ h ∙ sym (sign-of y s _ _ i)) (place-of binary64 x s a h ∙ sym (place-of binary64 y s a i))

@@ -14,7 +14,8 @@ use lib.Ieee.Exact.{HasValue}
 use lib.Ieee.Positive.{first-pos}
 use lib.Ieee.Scale.{round-same, finite}
 use Rattle.elementary.specs.Exp.{scaled}
-use Rattle.elementary.proofs.Laws.Decode.{same-power, same-value}
+use Rattle.elementary.proofs.Laws.Decode.{same-power}
+use Rattle.elementary.proofs.Laws.Values.{revalue}
 
 -- 2 ^ (e - l) as a fraction
 power : (e l : ℕ) → up (minus e l) * 2 ^ l ≡ 2 ^ e * down (minus e l)
@@ -84,5 +85,5 @@ mul-power f (fin s m g) (fin t n d) e l h =
 -- a normal float's field says which power of two it is
 pub field-power : (x : Float) (e : ℕ) → 1026 ≤ e → HasValue x false ((2 ^ 52 + 0) * 2 ^ (e - 1025 + 1329)) (2 ^ 2404) → HasValue x false (2 ^ e) (2 ^ 2048)
 field-power x e h v =
-    same-value x false ((2 ^ 52 + 0) * 2 ^ (e - 1025 + 1329)) (2 ^ 2404) (2 ^ e) (2 ^ 2048) (pow-pos 2404)
+    revalue x false ((2 ^ 52 + 0) * 2 ^ (e - 1025 + 1329)) (2 ^ 2404) (2 ^ e) (2 ^ 2048) (pow-pos 2404)
     (same-power (2 ^ 52) (e - 1025 + 1329) 2048 e 2352 (omega arith) ∙ ap (λ (z : ℕ). z * 2 ^ 2352) (mul-comm (2 ^ 52) (2 ^ e)) ∙ mul-assoc (2 ^ e) (2 ^ 52) (2 ^ 2352)) v

@@ -16,12 +16,12 @@ use lib.Ieee.Back.{whole-unique}
 use lib.Ieee.Bits.{is-true, is-false, ofBits-fits}
 use Rattle.elementary.proofs.Laws.Powers.{pow-split}
 use Rattle.elementary.specs.Floor.{floorSize, floorOf}
-use Rattle.elementary.proofs.Laws.Greatest.{Cut, cut-is, cut-whole, floor-value, floor-fits}
+use Rattle.elementary.proofs.Laws.Greatest.{IsFloor, size-floor, whole-floor, floor-value, floor-fits}
 use Rattle.elementary.proofs.Laws.Bits.{nan-pattern, no-nan-pattern}
 use Rattle.elementary.proofs.Laws.Values.{recast, revalue, value-low, value-mid, value-inf, signed-parts, packed, value-packed}
 
 -- what has the value is the floor
-found : (b : ℕ) (r : Float) (s : Bool) (a c n : ℕ) → T (fits binary64 r) → 0 < c → HasValue (ofBits binary64 b) s a c → Cut s a c n → HasValue r s n 1
+found : (b : ℕ) (r : Float) (s : Bool) (a c n : ℕ) → T (fits binary64 r) → 0 < c → HasValue (ofBits binary64 b) s a c → IsFloor s a c n → HasValue r s n 1
     → r ≡ floorOf binary64 (ofBits binary64 b)
 found b r s a c n f p v k w =
     let x = ofBits binary64 b in
@@ -46,7 +46,7 @@ floor-large b l = by-field (decLe (2047 * 2 ^ 52) (b % 2 ^ 63))
         let m = 2 ^ 52 + b % 2 ^ 52 in
         let v = value-mid b (j + 1074) (omega arith) (omega arith) in
         let w = revalue x (leb (2 ^ 63) b) (m * 2 ^ (j + 1074)) (2 ^ 1074) (m * 2 ^ j) 1 (pow-pos 1074) (rw (pow-add 2 j 1074, mul-one) (sym (mul-assoc m (2 ^ j) (2 ^ 1074)))) v in
-        found b x (leb (2 ^ 63) b) (m * 2 ^ j) 1 (m * 2 ^ j) (ofBits-fits binary64 b) (omega arith) w (cut-whole (leb (2 ^ 63) b) (m * 2 ^ j)) w
+        found b x (leb (2 ^ 63) b) (m * 2 ^ j) 1 (m * 2 ^ j) (ofBits-fits binary64 b) (omega arith) w (whole-floor (leb (2 ^ 63) b) (m * 2 ^ j)) w
 
 -- ---- below 1
 size-below : (b : ℕ) → b % 2 ^ 63 < 1023 * 2 ^ 52 → (a : ℕ) × (a < 2 ^ 1074) × (0 < b % 2 ^ 63 → 0 < a) × HasValue (ofBits binary64 b) (leb (2 ^ 63) b) a (2 ^ 1074)
@@ -59,11 +59,11 @@ size-below b l = by-field (decLe (2 ^ 52) (b % 2 ^ 63))
         let m = 2 ^ 52 + b % 2 ^ 52 in
         (m * 2 ^ k, lt-of-lt-of-le (shl-lt {a = m} 53 k (omega arith)) (pow-mono {i = 53 + k} {j = 1074} (omega arith)), (λ p. mul-pos {m = m} (omega arith) (pow-pos k)), value-mid b k (omega arith) (omega arith))
 
-cut-none : (a c : ℕ) → a < c → Cut false a c 0
-cut-none a c l = (omega arith, omega arith)
+floor-none : (a c : ℕ) → a < c → IsFloor false a c 0
+floor-none a c l = (omega arith, omega arith)
 
-cut-one : (a c : ℕ) → 0 < a → a < c → Cut true a c 1
-cut-one a c p l = (omega arith, omega arith)
+floor-one : (a c : ℕ) → 0 < a → a < c → IsFloor true a c 1
+floor-one a c p l = (omega arith, omega arith)
 
 zero-value : HasValue (ofBits binary64 0) false 0 1
 unfolding ofBits
@@ -77,14 +77,14 @@ pub floor-small : (b : ℕ) → b < 2 ^ 63 → b % 2 ^ 63 < 1023 * 2 ^ 52 → of
 floor-small b plus l =
     let z = size-below b l in
     let v = recast (ofBits binary64 b) (2 ^ 1074) (is-false _ (lt→nleb (2 ^ 63) b plus)) refl (z .3) in
-    found b (ofBits binary64 0) false (z .0) (2 ^ 1074) 0 (ofBits-fits binary64 0) (pow-pos 1074) v (cut-none (z .0) (2 ^ 1074) (z .1)) zero-value
+    found b (ofBits binary64 0) false (z .0) (2 ^ 1074) 0 (ofBits-fits binary64 0) (pow-pos 1074) v (floor-none (z .0) (2 ^ 1074) (z .1)) zero-value
 
 pub floor-small-negative : (b : ℕ) → 2 ^ 63 < b → b < 2 ^ 64 → b % 2 ^ 63 < 1023 * 2 ^ 52 → neg (ofBits binary64 0x3ff0_0000_0000_0000) ≡ floorOf binary64 (ofBits binary64 b)
 floor-small-negative b minus w l =
     let z = size-below b l in
     let v = recast (ofBits binary64 b) (2 ^ 1074) (is-true _ (le→leb (2 ^ 63) b (omega arith))) refl (z .3) in
     found b _ true (z .0) (2 ^ 1074) 1 (neg-fits binary64 _ (ofBits-fits binary64 0x3ff0_0000_0000_0000)) (pow-pos 1074) v
-    (cut-one (z .0) (2 ^ 1074) (z .2 (omega arith)) (z .1)) minus-one-value
+    (floor-one (z .0) (2 ^ 1074) (z .2 (omega arith)) (z .1)) minus-one-value
 
 pub floor-minus-zero : neg (ofBits binary64 0) ≡ floorOf binary64 (ofBits binary64 (2 ^ 63))
 unfolding neg ofBits floorOf
@@ -97,7 +97,7 @@ cut-off P Q q u c e h =
     omega (arith, div-add-mod' q u)
 
 -- cut or brought up, the digits stay between 2 ^ 52 and 2 ^ 53, which are both multiples of the unit
-kept-by : (s : Bool) (m u Q n : ℕ) → 2 ^ 52 ≤ m → m < 2 ^ 53 → 2 ^ 52 ≡ Q * u → Cut s m u n → (2 ^ 52 ≤ n * u) × (n * u ≤ 2 ^ 53)
+kept-by : (s : Bool) (m u Q n : ℕ) → 2 ^ 52 ≤ m → m < 2 ^ 53 → 2 ^ 52 ≡ Q * u → IsFloor s m u n → (2 ^ 52 ≤ n * u) × (n * u ≤ 2 ^ 53)
 kept-by false m u Q n lo hi e k =
     let l = lt-of-mul-lt-mul-right u {m = Q} {n = suc n} (omega arith) in
     (omega (arith, mul-le-mul-right {m = Q} {n = n} u (omega arith)), omega arith)
@@ -129,7 +129,7 @@ module _ (b d : ℕ) (lo : 1 ≤ d) (hi : d ≤ 52) (width : b < 2 ^ 64) (field 
   exponents = omega arith
 
   kept : (2 ^ 52 ≤ n * 2 ^ d) × (n * 2 ^ d ≤ 2 ^ 53)
-  kept = kept-by s m (2 ^ d) (2 ^ (52 - d)) n (omega arith) (omega arith) (pow-split d 52 hi) (cut-is s m (2 ^ d) (pow-pos d))
+  kept = kept-by s m (2 ^ d) (2 ^ (52 - d)) n (omega arith) (omega arith) (pow-split d 52 hi) (size-floor s m (2 ^ d) (pow-pos d))
 
   value : HasValue (ofBits binary64 b) s m (2 ^ d)
   value =
@@ -158,7 +158,7 @@ module _ (b d : ℕ) (lo : 1 ≤ d) (hi : d ≤ 52) (width : b < 2 ^ 64) (field 
         let v = value-packed s k (n * 2 ^ d) (λ _. kept .0) (kept .1) (omega (arith, kept)) in
         let e : n * 2 ^ d * 2 ^ k * 1 ≡ n * 2 ^ 1074 = rw (mul-one, mul-assoc n (2 ^ d) (2 ^ k), mul-comm (2 ^ d) (2 ^ k), ← pow-add 2 k d, exponents) refl in
         ap (ofBits binary64) pattern
-        ∙ found b r s m (2 ^ d) n (ofBits-fits binary64 (packed s k (n * 2 ^ d))) (pow-pos d) value (cut-is s m (2 ^ d) (pow-pos d))
+        ∙ found b r s m (2 ^ d) n (ofBits-fits binary64 (packed s k (n * 2 ^ d))) (pow-pos d) value (size-floor s m (2 ^ d) (pow-pos d))
         (revalue r s (n * 2 ^ d * 2 ^ k) (2 ^ 1074) n 1 (pow-pos 1074) e v)
 
     pub floor-cut-no-nan : T (not (nanBits binary64 (c - c % 2 ^ d)))

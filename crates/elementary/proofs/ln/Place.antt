@@ -15,15 +15,16 @@ use Rattle.elementary.specs.Ops.{_⊗_, half}
 use Rattle.elementary.specs.Ln.{SQRT-2, placeOf, significandOf, exponentAt, lnAt, lnInner}
 use Rattle.elementary.specs.Inside.Round.{Decoded, Digits}
 use Rattle.elementary.proofs.Laws.Leaf.{size-of}
-use Rattle.elementary.proofs.Laws.Decode.{units-of, same-power, same-value}
-use Rattle.elementary.proofs.Laws.Values.{value-unique}
+use Rattle.elementary.proofs.Laws.Decode.{same-power}
+use Rattle.elementary.proofs.Laws.Places.{units-of}
+use Rattle.elementary.proofs.Laws.Values.{revalue, value-unique}
 
 module _ (y : Float) (s : Bool) (m i : ℕ) (D : Decoded y s m i) (G : Digits m i) where
   abbrev u : ℕ
   u = inUnits binary64 y
 
   units-are : u ≡ m * 2 ^ i / 2 ^ 64
-  units-are = units-of y s (m * 2 ^ i) (2 ^ 1138) (pow-pos 1138) (D .value) ∙ mul-div-mul-right (m * 2 ^ i) (2 ^ 64) (pow-pos 1074)
+  units-are = units-of binary64 y s (m * 2 ^ i) (2 ^ 1138) (pow-pos 1138) (D .value) ∙ mul-div-mul-right (m * 2 ^ i) (2 ^ 64) (pow-pos 1074)
 
   -- y is u of the smallest values, and its digits stand at m
   raised : u * 2 ^ 64 ≡ m * 2 ^ i
@@ -58,14 +59,14 @@ module _ (y : Float) (s : Bool) (m i : ℕ) (D : Decoded y s m i) (G : Digits m 
   exact : HasValue (round binary64 false u (2 ^ (i - 12))) false (m * 2 ^ 1022) (2 ^ 1074)
   exact =
       let e = further 1022 1010 (i - 12) (omega arith) in
-      same-value (round binary64 false u (2 ^ (i - 12))) false u (2 ^ (i - 12)) (m * 2 ^ 1022) (2 ^ 1074) (pow-pos (i - 12)) e
+      revalue (round binary64 false u (2 ^ (i - 12))) false u (2 ^ (i - 12)) (m * 2 ^ 1022) (2 ^ 1074) (pow-pos (i - 12)) e
       (round-exact binary64 false u (2 ^ (i - 12)) m 1022 (pow-pos (i - 12)) (G .top) (lt-of-lt-of-le (shl-lt 53 1022 (G .top)) (pow-mono {i = 1075} {j = 2098} (omega arith))) e)
 
   pub significand-is : (r : Float) → T (fits binary64 r) → HasValue r false (m * 2 ^ 2352) (2 ^ 2404) → r ≡ significandOf y
   unfolding significandOf
   significand-is r F v =
       value-unique r (round binary64 false u (2 ^ (i - 12))) false (m * 2 ^ 1022) F (round-fits binary64 false u (2 ^ (i - 12)))
-      (same-value r false (m * 2 ^ 2352) (2 ^ 2404) (m * 2 ^ 1022) (2 ^ 1074) (pow-pos 2404) (same-power m 2352 1074 1022 2404 refl) v) exact
+      (revalue r false (m * 2 ^ 2352) (2 ^ 2404) (m * 2 ^ 1022) (2 ^ 1074) (pow-pos 2404) (same-power m 2352 1074 1022 2404 refl) v) exact
       ∙ ap (λ (z : ℕ). round binary64 false u (2 ^ z)) place-is
 
 -- ---- the significand is halved where it is above √2

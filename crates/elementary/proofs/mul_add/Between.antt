@@ -21,7 +21,7 @@ use Rattle.elementary.proofs.Laws.Leaf.{zero-of-mul}
 use Rattle.elementary.proofs.Laws.Values.{recast, value-unique}
 use Rattle.elementary.proofs.mul_add.Nearest.{ex, dist, Short, near, near-mono}
 use Rattle.elementary.proofs.mul_add.TwoSum.{dist-comm, near-part}
-use Rattle.elementary.proofs.mul_add.Pairs.{Is, Rounded, round-units, round-value, near-zero}
+use Rattle.elementary.proofs.mul_add.Pairs.{Is, NearPair, round-units, round-value, near-zero}
 
 -- ---- the order of two floats as that of their differences
 signs-le : (s t : Bool) (p q a b c d : ℕ) → a + cond s p 0 ≡ b + cond s 0 p → c + cond t q 0 ≡ d + cond t 0 q → a + d ≤ c + b → Le s (p * 2 ^ 1074) t (q * 2 ^ 1074)
@@ -207,7 +207,7 @@ module _ (s : Bool) (a b x : ℕ) where
   between-down (inl (e, k)) l g = level k (le-antisymm (le-trans (le-of-eq e) g) l)
   between-down (inr (k, k')) l g = overflows s a k ∙ sym (overflows s x (le-trans k' g))
 
-module _ {r r' f : Float} {n m n1 m1 n2 m2 : ℕ} (R : Rounded r n1 m1) (R' : Rounded r' n2 m2) (F : Rounded f n m) (lo : n1 + m ≤ n + m1) (hi : n + m2 ≤ n2 + m) (h : eq r r' ≡ true) (z : ne r (ofBits binary64 0) ≡ true) where
+module _ {r r' f : Float} {n m n1 m1 n2 m2 : ℕ} (R : NearPair r n1 m1) (R' : NearPair r' n2 m2) (F : NearPair f n m) (lo : n1 + m ≤ n + m1) (hi : n + m2 ≤ n2 + m) (h : eq r r' ≡ true) (z : ne r (ofBits binary64 0) ≡ true) where
   h' : eq (round binary64 (R .neg) (dist n1 m1) (2 ^ 1074)) (round binary64 (R' .neg) (dist n2 m2) (2 ^ 1074)) ≡ true
   h' = rw (← R .is, ← R' .is) h
 

@@ -21,14 +21,14 @@ use Rattle.elementary.proofs.Laws.Adding.{sum-value}
 use Rattle.elementary.proofs.Laws.Decode.{finite-field}
 use Rattle.elementary.proofs.mul_add.Exactly.{fma-at}
 use Rattle.elementary.proofs.mul_add.Nearest.{dist, Short, short-of, near, near-short}
-use Rattle.elementary.proofs.mul_add.Pairs.{bound, Is, Rounded, sum-is, dist-add, add-near, add-rounds}
+use Rattle.elementary.proofs.mul_add.Pairs.{bound, Is, NearPair, sum-is, dist-add, add-near, add-rounds}
 use Rattle.elementary.proofs.mul_add.TwoSum as two-sum
 use Rattle.elementary.proofs.mul_add.TwoProduct as two-product
 use Rattle.elementary.proofs.mul_add.TwoProduct.{Rel, plain, Cuts}
 use Rattle.elementary.proofs.mul_add.Between.{from-below, from-above, squeezed, equal-values}
 
 -- ---- a finite float as a whole number of units
-record Held (x : Float) (e : ℕ) : Type 0 where
+record AsUnits (x : Float) (e : ℕ) : Type 0 where
   sign : Bool
   size : ℕ
   value : HasValue x sign size (2 ^ 1074)
@@ -43,7 +43,7 @@ module _ (x : Float) (F : T (fits binary64 x)) where
   abbrev b : ℕ
   b = toBits binary64 x
 
-  by-field : (e : ℕ) → b % 2 ^ 63 / 2 ^ 52 < 2047 → b % 2 ^ 63 / 2 ^ 52 + 52 ≤ e + 2080 → Held x e
+  by-field : (e : ℕ) → b % 2 ^ 63 / 2 ^ 52 < 2047 → b % 2 ^ 63 / 2 ^ 52 + 52 ≤ e + 2080 → AsUnits x e
   by-field e h top = elim (eq-zero-or-pos (b % 2 ^ 63 / 2 ^ 52)) [
     | inl z ↦
         record {
@@ -71,8 +71,8 @@ module _ (x : Float) (F : T (fits binary64 x)) where
       full : (b : ℕ) → 2 ^ 52 + b % 2 ^ 52 < 2 ^ 53
       full b = omega arith
 
-  held : T (finite x) → Held x 18
-  held f = by-field 18 (finite-field x F f) (omega (arith, finite-field x F f))
+  as-units : T (finite x) → AsUnits x 18
+  as-units f = by-field 18 (finite-field x F f) (omega (arith, finite-field x F f))
 
 -- ---- a middling float and its leading digits
 module _ (x : Float) (F : T (fits binary64 x)) (lo : 768 ≤ toBits binary64 x % 2 ^ 63 / 2 ^ 52) (hi : toBits binary64 x % 2 ^ 63 / 2 ^ 52 < 1280) where
@@ -162,11 +162,11 @@ finite-value (fin _ m e) s v p = tt
 
 -- ---- a float whose bits are those of a number that is not 0
 module _ (r : Float) (F : T (fits binary64 r)) (some : 0 < toBits binary64 r % 2 ^ 63) (small : toBits binary64 r % 2 ^ 63 < 0x7ff0_0000_0000_0000) where
-  r-held : Held r 18
-  r-held = by-field r F 18 (omega arith) (omega arith)
+  r-units : AsUnits r 18
+  r-units = by-field r F 18 (omega arith) (omega arith)
 
   r-finite : T (finite r)
-  r-finite = finite-value r (r-held .sign) (r-held .size) (r-held .value)
+  r-finite = finite-value r (r-units .sign) (r-units .size) (r-units .value)
 
   r-some : (v : ℕ) × (HasValue r (leb (2 ^ 63) (toBits binary64 r)) v (2 ^ 1074) × (0 < v))
   r-some = elim (eq-zero-or-pos (toBits binary64 r % 2 ^ 63 / 2 ^ 52)) [
@@ -196,11 +196,11 @@ pair-size false v = omega arith
 pair-is : (n : Bool) (v : ℕ) → cond n 0 v + cond n v 0 ≡ cond n v 0 + cond n 0 v
 pair-is n v = add-comm (cond n 0 v) (cond n v 0)
 
-held-is : {x : Float} {e : ℕ} (X : Held x e) → Is x (cond (X .sign) 0 (X .size)) (cond (X .sign) (X .size) 0) (2 ^ e)
-held-is X = record { sign = X .sign; size = X .size; value = X .value; pair = pair-is (X .sign) (X .size); small = le-trans (le-of-eq (pair-size (X .sign) (X .size))) (X .small) }
+as-units-is : {x : Float} {e : ℕ} (X : AsUnits x e) → Is x (cond (X .sign) 0 (X .size)) (cond (X .sign) (X .size) 0) (2 ^ e)
+as-units-is X = record { sign = X .sign; size = X .size; value = X .value; pair = pair-is (X .sign) (X .size); small = le-trans (le-of-eq (pair-size (X .sign) (X .size))) (X .small) }
 
-held-short : {x : Float} {e : ℕ} (X : Held x e) → Short (dist (cond (X .sign) 0 (X .size)) (cond (X .sign) (X .size) 0))
-held-short X = subst Short (sym (pair-size (X .sign) (X .size))) (X .short)
+as-units-short : {x : Float} {e : ℕ} (X : AsUnits x e) → Short (dist (cond (X .sign) 0 (X .size)) (cond (X .sign) (X .size) 0))
+as-units-short X = subst Short (sym (pair-size (X .sign) (X .size))) (X .short)
 
 -- ---- p and e are a product, c is added
 module _ (n v : Bool) {p e c : Float} (x y k : ℕ) (P : Rel n p y 0 1) (Y : Short y) (E : Rel n e x y 6) (C : Rel v c k 0 1) (K : Short k) where
@@ -249,24 +249,24 @@ module _ (n v : Bool) {p e c : Float} (x y k : ℕ) (P : Rel n p y 0 1) (Y : Sho
       go (inf _) u m p = absurd p
       go (fin _ _ _) u m p = tt
 
-  module _ (r f : Float) (R : Pinned s w r) (G : Rounded f (cond n 0 x + cond v 0 k) (cond n x 0 + cond v k 0)) where
+  module _ (r f : Float) (R : Pinned s w r) (G : NearPair f (cond n 0 x + cond v 0 k) (cond n x 0 + cond v k 0)) where
     r-fits : T (fits binary64 r)
     r-fits = subst (λ (z : Float). T (fits binary64 z)) (sym (R .low)) (add-fits binary64 s (R .lo))
 
     fin-r : T (finite r)
     fin-r = r-finite r r-fits (R .some) (R .finite)
 
-    L : Held (R .lo) 18
-    L = held (R .lo) (R .lo-fits) (finite-right s (R .lo) (subst (λ (z : Float). T (finite z)) (R .low) fin-r))
+    L : AsUnits (R .lo) 18
+    L = as-units (R .lo) (R .lo-fits) (finite-right s (R .lo) (subst (λ (z : Float). T (finite z)) (R .low) fin-r))
 
-    H : Held (R .hi) 18
-    H = held (R .hi) (R .hi-fits) (finite-right s (R .hi) (finite-equal r (add binary64 s (R .hi)) (R .high) fin-r))
+    H : AsUnits (R .hi) 18
+    H = as-units (R .hi) (R .hi-fits) (finite-right s (R .hi) (finite-equal r (add binary64 s (R .hi)) (R .high) fin-r))
 
     pub pinned-is : r ≡ f
     pinned-is =
-        squeezed (subst (λ (z : Float). Rounded z (q + cond (L .sign) 0 (L .size)) (q' + cond (L .sign) (L .size) 0)) (sym (R .low)) (add-rounds s-is (held-is L))) (add-rounds s-is (held-is H)) G
-        (low n (cond (L .sign) 0 (L .size)) (cond (L .sign) (L .size) 0) (cond v 0 k) (cond v k 0) q q' (from-below (a + q' + cond n y x) (b' + q + cond n x y) (held-is L) (held-short L) w-is (R .above)))
-        (high n (cond (H .sign) 0 (H .size)) (cond (H .sign) (H .size) 0) (cond v 0 k) (cond v k 0) q q' (from-above (a + q' + cond n y x) (b' + q + cond n x y) (held-is H) (held-short H) w-is (R .under)))
+        squeezed (subst (λ (z : Float). NearPair z (q + cond (L .sign) 0 (L .size)) (q' + cond (L .sign) (L .size) 0)) (sym (R .low)) (add-rounds s-is (as-units-is L))) (add-rounds s-is (as-units-is H)) G
+        (low n (cond (L .sign) 0 (L .size)) (cond (L .sign) (L .size) 0) (cond v 0 k) (cond v k 0) q q' (from-below (a + q' + cond n y x) (b' + q + cond n x y) (as-units-is L) (as-units-short L) w-is (R .above)))
+        (high n (cond (H .sign) 0 (H .size)) (cond (H .sign) (H .size) 0) (cond v 0 k) (cond v k 0) q q' (from-above (a + q' + cond n y x) (b' + q + cond n x y) (as-units-is H) (as-units-short H) w-is (R .under)))
         (R .high) (r-nonzero r r-fits (R .some) (R .finite))
       where
         low : (n : Bool) (u u' c c' q q' : ℕ) → u + (cond n y 0 + c' + q + cond n x y) ≤ cond n 0 y + c + q' + cond n y x + u' → q + u + (cond n x 0 + c') ≤ cond n 0 x + c + (q' + u')
@@ -372,7 +372,7 @@ module _ (x y z : Float) (FX : T (fits binary64 x)) (FY : T (fits binary64 y)) (
       two-product.error-is xh xl xm yh yl cuts xn yn xi yi unit units-is units-top (whole x FX (O .first-low) (O .first-high)) (high x FX (O .first-low) (O .first-high)) (middle x FX (O .first-low) (O .first-high))
       (whole-low y FY (O .second-low) (O .second-high)) (high y FY (O .second-low) (O .second-high))
 
-  Z : Held z 0
+  Z : AsUnits z 0
   Z = by-field z FZ 0 (omega (arith, O .addend)) (omega (arith, O .addend))
 
   z-is : Rel (Z .sign) z (Z .size) 0 1
@@ -381,13 +381,13 @@ module _ (x y z : Float) (FX : T (fits binary64 x)) (FY : T (fits binary64 y)) (
   pub sum-number : T (not (isNan (add binary64 back e)))
   sum-number = w-number v (Z .sign) prod (near prod) (Z .size) p-is (near-short prod) e-is z-is (Z .short)
 
-  fma-rounds : Rounded (fma binary64 x y z) (cond v 0 prod + cond (Z .sign) 0 (Z .size)) (cond v prod 0 + cond (Z .sign) (Z .size) 0)
+  fma-rounds : NearPair (fma binary64 x y z) (cond v 0 prod + cond (Z .sign) 0 (Z .size)) (cond v prod 0 + cond (Z .sign) (Z .size) 0)
   fma-rounds =
       let U = 2 ^ 1074 in
       let X = (xh * 2 ^ 27 + (xl * 2 ^ 14 + xm)) * 2 ^ xi in
       let Y = (yh * 2 ^ 27 + yl) * 2 ^ yi in
       let K = Z .size in
-      subst (λ (f : Float). Rounded f (cond v 0 prod + cond (Z .sign) 0 K) (cond v prod 0 + cond (Z .sign) K 0))
+      subst (λ (f : Float). NearPair f (cond v 0 prod + cond (Z .sign) 0 K) (cond v prod 0 + cond (Z .sign) K 0))
       (sym (fma-at binary64 x y z xn yn (Z .sign) X Y K U 1 (pow-pos 1074) (zero-lt-suc 0) (value x FX (O .first-low) (O .first-high)) (value-cut y FY (O .second-low) (O .second-high)) (Z .value)
       ∙ sum-value binary64 (X * Y * 1) (K * (1 * U)) (1 * (U * U)) prod K U (mul-pos (zero-lt-suc 0) (mul-pos (pow-pos 1074) (pow-pos 1074))) (pow-pos 1074) (first (xh * 2 ^ 27 + (xl * 2 ^ 14 + xm)) (yh * 2 ^ 27 + yl)) (second K U) v (Z .sign)))
       (sum-is v (Z .sign) prod K (cond v 0 prod) (cond v prod 0) (cond (Z .sign) 0 K) (cond (Z .sign) K 0) (pair-is v prod) (pair-is (Z .sign) K))

@@ -11,7 +11,8 @@ use lib.Ieee.{Float, nan, inf, fin, binary64, toBits, fits, isNan, eq, add, sub,
 use lib.Ieee.Exact.{HasValue, round-exact}
 use Rattle.elementary.specs.Inside.Round.{wide, Decoded}
 use Rattle.elementary.specs.Inside.MulAdd.{Marked, Middling, Opened, Apart}
-use Rattle.elementary.proofs.Laws.Decode.{split-power, same-power, same-value, normal-value}
+use Rattle.elementary.proofs.Laws.Decode.{split-power, same-power, normal-value}
+use Rattle.elementary.proofs.Laws.Values.{revalue}
 use Rattle.elementary.proofs.mul_add.Sums.{sum-same, sum-more}
 use Rattle.elementary.proofs.Laws.Adding.{sub-mul, add-at, sub-at}
 use Rattle.elementary.specs.MulAdd.{fma}
@@ -276,7 +277,7 @@ module _ (f h : ℕ) (l : f < h + 1075) where
   as-shifted = omega arith
 
   pub addend-value : (x : Float) (s : Bool) (m : ℕ) → Decoded x s m (h + 63) → HasValue x s (m * 2 ^ spot) (2 ^ 2404)
-  addend-value x s m A = same-value x s (m * 2 ^ (h + 63)) (2 ^ 1138) (m * 2 ^ spot) (2 ^ 2404) (pow-pos 1138) (same-power m (h + 63) 2404 spot 1138 (omega arith)) (A .value)
+  addend-value x s m A = revalue x s (m * 2 ^ (h + 63)) (2 ^ 1138) (m * 2 ^ spot) (2 ^ 2404) (pow-pos 1138) (same-power m (h + 63) 2404 spot 1138 (omega arith)) (A .value)
 
   addend-is : (m : ℕ) → m * 2 ^ spot ≡ m * 2 ^ (h + 63) * (2 ^ 128 * 2 ^ 1138)
   addend-is m = split-power m spot (h + 63) 1266 as-shifted

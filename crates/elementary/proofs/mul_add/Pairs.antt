@@ -92,8 +92,8 @@ relabel {x} {a} {b} {k} c d e X = record {
     same : dist c d ≡ dist a b
     same = omega arith
 
--- ---- a sum of two fractions, as one rounding
-pub record Rounded (r : Float) (n m : ℕ) : Type 0 where
+-- ---- a sum of two fractions, as one rounding: r is n - m of the smallest values, rounded
+pub record NearPair (r : Float) (n m : ℕ) : Type 0 where
   pub neg : Bool
   pub is : r ≡ round binary64 neg (dist n m) (2 ^ 1074)
   pub up : neg ≡ false → m ≤ n
@@ -102,7 +102,7 @@ pub record Rounded (r : Float) (n m : ℕ) : Type 0 where
 zero-of : (a : ℕ) → ltb 0 a ≡ false → a ≤ 0
 zero-of a h = nltb→le 0 a (subst (λ (z : Bool). T (not z)) (sym h) tt)
 
-pub sum-is : (s t : Bool) (p q a b c d : ℕ) → a + cond s p 0 ≡ b + cond s 0 p → c + cond t q 0 ≡ d + cond t 0 q → Rounded (sum binary64 s p t q (2 ^ 1074)) (a + c) (b + d)
+pub sum-is : (s t : Bool) (p q a b c d : ℕ) → a + cond s p 0 ≡ b + cond s 0 p → c + cond t q 0 ≡ d + cond t 0 q → NearPair (sum binary64 s p t q (2 ^ 1074)) (a + c) (b + d)
 sum-is false false p q a b c d e f = record {
   neg = false;
   is = sum-same binary64 false false p q (2 ^ 1074) refl ∙ ap (λ (z : ℕ). round binary64 false z (2 ^ 1074)) (omega arith);
@@ -117,7 +117,7 @@ sum-is true true p q a b c d e f = record {
 }
 sum-is false true p q a b c d e f = go (decLe p q)
   where
-    go : Dec (p ≤ q) → Rounded (sum binary64 false p true q (2 ^ 1074)) (a + c) (b + d)
+    go : Dec (p ≤ q) → NearPair (sum binary64 false p true q (2 ^ 1074)) (a + c) (b + d)
     go (yes h) = record {
       neg = true && ltb 0 (q - p);
       is = sum-less binary64 false true p q (2 ^ 1074) refl h ∙ ap (λ (z : ℕ). round binary64 (true && ltb 0 (q - p)) z (2 ^ 1074)) (omega arith);
@@ -132,7 +132,7 @@ sum-is false true p q a b c d e f = go (decLe p q)
     }
 sum-is true false p q a b c d e f = go (decLe p q)
   where
-    go : Dec (p ≤ q) → Rounded (sum binary64 true p false q (2 ^ 1074)) (a + c) (b + d)
+    go : Dec (p ≤ q) → NearPair (sum binary64 true p false q (2 ^ 1074)) (a + c) (b + d)
     go (yes h) = record {
       neg = false;
       is = sum-less binary64 true false p q (2 ^ 1074) refl h ∙ ap (λ (z : ℕ). round binary64 false z (2 ^ 1074)) (omega arith);
@@ -169,9 +169,9 @@ near-dist n m = go (decLe n m)
     go (no h) = let l = lt-of-not-le h in let z = no-rest m n (le-of-lt l) in let e : near (dist n m) ≡ near (n - m) = ap near (omega arith) in omega arith
 
 module _ {x y : Float} {a b c d i j : ℕ} (X : Is x a b i) (Y : Is y c d j) where
-  pub add-rounds : Rounded (add binary64 x y) (a + c) (b + d)
+  pub add-rounds : NearPair (add binary64 x y) (a + c) (b + d)
   add-rounds =
-      subst (λ (z : Float). Rounded z (a + c) (b + d)) (sym (add-at x y (X .sign) (Y .sign) (X .size) (Y .size) (2 ^ 1074) (pow-pos 1074) (X .value) (Y .value)))
+      subst (λ (z : Float). NearPair z (a + c) (b + d)) (sym (add-at x y (X .sign) (Y .sign) (X .size) (Y .size) (2 ^ 1074) (pow-pos 1074) (X .value) (Y .value)))
       (sum-is (X .sign) (Y .sign) (X .size) (Y .size) a b c d (X .pair) (Y .pair))
 
   both-small : dist (a + c) (b + d) ≤ (i + j) * bound
@@ -187,7 +187,7 @@ module _ {x y : Float} {a b c d i j : ℕ} (X : Is x a b i) (Y : Is y c d j) whe
     small = both-small;
   }
     where
-      R : Rounded (add binary64 x y) (a + c) (b + d)
+      R : NearPair (add binary64 x y) (a + c) (b + d)
       R = add-rounds
 
       e : near (dist (a + c) (b + d)) ≡ dist (a + c) (b + d)
@@ -203,7 +203,7 @@ module _ {x y : Float} {a b c d i j : ℕ} (X : Is x a b i) (Y : Is y c d j) whe
     small = le-trans (le-of-eq (near-dist (a + c) (b + d))) top;
   }
     where
-      R : Rounded (add binary64 x y) (a + c) (b + d)
+      R : NearPair (add binary64 x y) (a + c) (b + d)
       R = add-rounds
 
       top : near (dist (a + c) (b + d)) ≤ 2 ^ l * bound

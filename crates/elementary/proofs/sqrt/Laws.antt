@@ -3,7 +3,7 @@ use mathlib.Core.Path.{_≡_, refl, sym, ap, _∙_, subst}
 use mathlib.Core.Logic.{_⊎_, inl, inr}
 use mathlib.Core.Bool.{true, false, not, true≢false}
 use Prim.Native.Nat.{ℕ, zero, suc, _+_, _-_, _*_, _/_, _%_, _^_, _≤_, _<_, compare, Ordering, Ordering·lt, Ordering·eq, Ordering·gt}
-use native.Mathlib.Nat.{le-trans, lt-of-not-le, not-le-of-lt, lt-of-lt-of-le, le-antisymm, eq-or-lt-of-le, mul-assoc, mul-comm, mul-left-comm, suc-mul, pow-suc}
+use native.Mathlib.Nat.{le-trans, lt-of-not-le, not-le-of-lt, lt-of-lt-of-le, eq-or-lt-of-le, mul-assoc, mul-comm, mul-left-comm, suc-mul, pow-suc}
 use native.Mathlib.Nat.{mul-le-mul-right, mul-lt-mul-of-pos-right, mul-pos, zero-mul, div-eq-of-lt-le, div-div-eq-div-mul}
 use native.Mathlib.Decide.{decLe}
 use native.Mathlib.Numerals.{add-one}
@@ -13,13 +13,14 @@ use lib.Arith.{lt→nleb}
 use lib.Pow.{pow-add, pow-pos, pow-mono, shl-lt, shl-exact}
 use lib.Count.{leadingZeros, leading-top}
 use lib.Ieee.{Float, nan, inf, fin, binary64, up, down, size, nearest, units, ofBits, nanBits}
-use lib.Ieee.Digits.{size-lt, size-le}
 use lib.Ieee.Fits.{down-pos}
 use lib.Ieee.Exact.{HasValue, units-val}
 use lib.Ieee.Bits.{is-false, ofBits-fits}
 use Rattle.elementary.specs.Sqrt.{isqrt, roundRoot, sqrtOf}
 use Rattle.elementary.proofs.Laws.Ordering.{Cmp, cmp}
-use Rattle.elementary.proofs.Laws.SqrtNearest.{units-of, units-fits}
+use Rattle.elementary.proofs.Laws.Leaf.{size-of}
+use Rattle.elementary.proofs.Laws.Places.{whole-units}
+use Rattle.elementary.proofs.Laws.Nearest.{units-fits}
 use Rattle.elementary.proofs.Laws.Isqrt.{sq-lt, sq-suc, sq-twice, isqrt-root}
 use Rattle.elementary.specs.Inside.Sqrt.{Root}
 use Rattle.elementary.proofs.Laws.Bits.{nan-pattern, no-nan-pattern}
@@ -33,10 +34,6 @@ by-order q r a b x y z = go (compare a b) (cmp a b)
     go Ordering·lt c = x c
     go Ordering·eq c = absurd (z c)
     go Ordering·gt c = y c
-
--- the size of a number between two powers
-size-is : (n j : ℕ) → 2 ^ j ≤ n → n < 2 ^ suc j → size n ≡ suc j
-size-is n j a b = le-antisymm (size-le n (suc j) b) (lt-of-not-le (λ (g : size n ≤ j). not-le-of-lt (lt-of-lt-of-le (size-lt n) (pow-mono g)) a))
 
 -- ---- a root of 54 digits: the last digit says which way to round, since n is even and so no odd square
 -- twice the middle between w / 2 and the next number up
@@ -111,7 +108,7 @@ module _ (a w h : ℕ) (lo : 2 ^ 62 ≤ a) (hi : a + 2 ^ 11 ≤ 2 ^ 64) (root : 
       let l : 2 ^ (53 + h) ≤ isqrt n = rw pow-add (le-trans (mul-le-mul-right (2 ^ h) w-lo) v-lo) in
       let u : isqrt n < 2 ^ (54 + h) = rw pow-add (lt-of-lt-of-le v-hi (mul-le-mul-right (2 ^ h) (omega (arith, w-hi)))) in
       let e : suc (53 + h) ≡ 54 + h = omega arith in
-      size-is (isqrt n) (53 + h) l (rw e u) ∙ e
+      size-of (isqrt n) (53 + h) l (rw e u) ∙ e
 
   first-digits : isqrt n / 2 ^ suc h ≡ w / 2
   first-digits = ap (λ (z : ℕ). isqrt n / z) (pow-suc 2 h) ∙ sym (div-div-eq-div-mul (isqrt n) (2 ^ h) 2) ∙ ap (λ (z : ℕ). z / 2) (div-eq-of-lt-le (2 ^ h) v-lo (rw add-one v-hi))
@@ -128,7 +125,7 @@ pub written : (r k : ℕ) → 2 ^ 52 ≤ r → r < 2 ^ 53 → k < 2000 → ofBit
 written r k lo hi small =
     let room : r * 2 ^ k < 2 ^ 2098 = lt-of-lt-of-le (shl-lt 53 k hi) (pow-mono {i = 53 + k} {j = 2098} (omega arith)) in
     value-unique (ofBits binary64 (k * 2 ^ 52 + r)) (units binary64 false r k) false (r * 2 ^ k)
-    (ofBits-fits binary64 (k * 2 ^ 52 + r)) (units-fits binary64 r k (omega arith) room)
+    (ofBits-fits binary64 (k * 2 ^ 52 + r)) (units-fits binary64 false r k (omega arith) room)
     (value-packed false k r (λ _. lo) (omega arith) (omega arith)) (units-val binary64 false r k room)
 
 -- ---- `sqrtOf` at a finite value that is not 0
@@ -141,7 +138,7 @@ sqrt-positive nan a h p = absurd h
 sqrt-positive (inf t) a h p = absurd h
 sqrt-positive (fin t zero e) a h p = absurd (no-zero (up e) (2 ^ 1074) a (down e) (h .1) p (down-pos e))
 sqrt-positive (fin true (suc m) e) a h p = absurd (true≢false (h .0))
-sqrt-positive (fin false (suc m) e) a h p = ap (λ (z : ℕ). roundRoot binary64 (z * 2 ^ 1074)) (units-of binary64 (fin false (suc m) e) false a h)
+sqrt-positive (fin false (suc m) e) a h p = ap (λ (z : ℕ). roundRoot binary64 (z * 2 ^ 1074)) (whole-units binary64 (fin false (suc m) e) false a h)
 
 -- ---- the shift that normalises m
 module _ (m e : ℕ) (m-pos : 0 < m) (m-lt : m < 2 ^ 53) (e-lo : 1 ≤ e) (e-hi : e < 2047) where

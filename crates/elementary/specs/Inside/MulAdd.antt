@@ -20,6 +20,7 @@ pub record Near (lh ll sh sl d e : ℕ) : Type 0 where
   pub low : 64 ≤ e
   pub high : e < 2 ^ 30
 
+-- the same for a d above 20, up to e
 pub record Far (lh ll sh sl d e : ℕ) : Type 0 where
   pub large : Placed lh ll
   pub small : Placed sh sl
@@ -62,6 +63,7 @@ pub record Middling (k : ℕ) : Type 0 where
   pub low : 1536 ≤ k
   pub high : k < 2559
 
+-- the high word and the exponents leave room
 pub record Clear (hi k : ℕ) : Type 0 where
   pub top : hi < 2 ^ 52
   pub apart : Apart hi

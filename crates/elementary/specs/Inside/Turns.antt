@@ -6,6 +6,7 @@ use lib.Ieee.{Float, lt}
 use Rattle.elementary.specs.Rules.{rules-0}
 use Rattle.elementary.specs.NormalDistribution.{cdfOf, bisected, endsOf}
 
+-- the ends stand on both sides of p, and the turns that are left lead to the result
 pub record After (p lo hi : Float) (i : ℕ) : Type 0 where
   pub bound : i ≤ 64
   pub under : lt (cdfOf rules-0 lo) p ≡ true
