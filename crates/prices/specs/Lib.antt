@@ -4,5 +4,6 @@ pub mod Answers
 pub mod Intrinsic
 pub mod Vega
 pub mod Black
-pub mod Point
 pub mod RationalCubic
+-- Words of private contracts: what functions inside the build say of each other.
+pub mod Inside

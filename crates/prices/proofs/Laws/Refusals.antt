@@ -16,7 +16,7 @@ use Rattle.prices.specs.declared.answer.Answer.the-variants.{Value, Refu
 use Rattle.prices.specs.Inputs.{negated, times}
 use Rattle.prices.specs.Answers.{numberOf}
 use Rattle.prices.specs.Intrinsic.{intrinsicOf}
-use Rattle.prices.specs.Black.{SMALL-T, smallTOf, asymptoticOf, codysWith, isOutside, isAsymptotic, regionWith, outOfTheMoneyWith, outOfTheMoney, added, callAt, callOf, normalisedBlackOf, isPositiveNormal, isFinite, scaledUp, priceOf, blackAt, blackOf}
+use Rattle.prices.specs.Black.{SMALL-T, smallTOf, asymptoticOf, codysOf, isOutside, isAsymptotic, regionOf, outOfTheMoney, added, callAt, callOf, normalisedBlackOf, isPositiveNormal, isFinite, scaledUp, priceOf, blackAt, blackOf}
 
 -- the answers of normalised_black_call
 pub data CallAnswer : Answer → Type 0 where
@@ -43,26 +43,26 @@ small-t-answer : (h t : Float) → lt t SMALL-T ≡ true → CallAnswer (smallTO
 unfolding smallTOf
 small-t-answer h t l = rw (not-le-of-lt t SMALL-T l) price
 
-region-answer : (rules : Rules) (up down x s : Float) → CallAnswer (regionWith rules up down x s)
-unfolding regionWith
-region-answer rules up down x s = either (isAsymptotic x s) (asymptotic-answer (x ⊘ s) (half ⊗ s)) (go (lt (half ⊗ s) SMALL-T) refl)
+-- whatever Cody's price is
+pub region-answer : (x s codys : Float) → CallAnswer (cond (isAsymptotic x s) (asymptoticOf (x ⊘ s) (half ⊗ s)) (cond (lt (half ⊗ s) SMALL-T) (smallTOf (x ⊘ s) (half ⊗ s)) (Value codys)))
+region-answer x s codys = either (isAsymptotic x s) (asymptotic-answer (x ⊘ s) (half ⊗ s)) (go (lt (half ⊗ s) SMALL-T) refl)
   where
-    go : (b : Bool) → lt (half ⊗ s) SMALL-T ≡ b → CallAnswer (cond b (smallTOf (x ⊘ s) (half ⊗ s)) (Value (codysWith rules up down x s)))
+    go : (b : Bool) → lt (half ⊗ s) SMALL-T ≡ b → CallAnswer (cond b (smallTOf (x ⊘ s) (half ⊗ s)) (Value codys))
     go true l = small-t-answer (x ⊘ s) (half ⊗ s) l
     go false l = price
 
-pub out-answer : (rules : Rules) (up down x s : Float) → CallAnswer (outOfTheMoneyWith rules up down x s)
-unfolding outOfTheMoneyWith
-out-answer rules up down x s = either (le s (absOf x ⊗ +0)) price (region-answer rules up down x s)
+out-answer : (rules : Rules) (x s : Float) → CallAnswer (outOfTheMoney rules x s)
+unfolding outOfTheMoney regionOf
+out-answer rules x s = either (le s (absOf x ⊗ +0)) price (region-answer x s (codysOf rules x s))
 
 added-answer : (v : Float) (a : Answer) → CallAnswer a → CallAnswer (added v a)
 added-answer v (Value b) h = price
 added-answer v (Refused n) h = h
 
 pub call-answer : (depth : ℕ) (rules : Rules) (x s : Float) → CallAnswer (callAt depth rules x s)
-unfolding callAt outOfTheMoney
-call-answer zero rules x s = out-answer rules _ _ x s
-call-answer (suc d) rules x s = either (lt +0 x) (added-answer (intrinsicOf x Call) (callAt d rules (neg x) s) (call-answer d rules (neg x) s)) (out-answer rules _ _ x s)
+unfolding callAt
+call-answer zero rules x s = out-answer rules x s
+call-answer (suc d) rules x s = either (lt +0 x) (added-answer (intrinsicOf x Call) (callAt d rules (neg x) s) (call-answer d rules (neg x) s)) (out-answer rules x s)
 
 scaled-answer : (v f : Float) (a : Answer) → CallAnswer a → CallAnswer (scaledUp v f a)
 scaled-answer v f (Value b) h = price
