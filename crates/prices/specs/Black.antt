@@ -56,22 +56,14 @@ codysOf rules x s =
 -- The terms of the Taylor sum: each is a Horner sum in h² with coefficients a × p − q, all fused.
 
 -- the innermost of a sum: a × (h² + c) − 1
-abbrev pub firstBy : Float → Float → Float → Float
-firstBy a h2 c = mulAdd a (h2 ⊕ c) (neg one)
-
--- one turn further out: h² × sum + (a × p + q)
-abbrev pub turnBy : Float → Float → Float → Float → Float → Float
-turnBy a h2 sum p q = mulAdd h2 sum (mulAdd a p q)
-
--- the same with a whole number
 abbrev pub first : Float → Float → ℕ → Float
-first a h2 c = firstBy a h2 (float c)
+first a h2 c = mulAdd a (h2 ⊕ float c) (neg one)
 
--- the same with whole numbers, q taken off
+-- one turn further out: h² × sum + (a × p − q)
 abbrev pub turn : Float → Float → Float → ℕ → ℕ → Float
-turn a h2 sum p q = turnBy a h2 sum (float p) (neg (float q))
+turn a h2 sum p q = mulAdd h2 sum (mulAdd a (float p) (neg (float q)))
 
--- the six terms, in the order of their powers of t²
+-- term1 to term6, with which t², t⁴ .. t¹² are multiplied
 unfoldable pub term1 : Float → Float → Float
 term1 a h2 = first a h2 3 ⊘ float 6
 
@@ -100,11 +92,7 @@ taylorOf a h2 t2 =
     let t10 = t6 ⊗ t4 in
     let t12 = t6 ⊗ t6 in
     mulAdd a one
-    (mulAdd (term1 a h2) t2
-    (mulAdd (term2 a h2) t4
-    (mulAdd (term3 a h2) t6
-    (mulAdd (term4 a h2) t8
-    (mulAdd (term5 a h2) t10 (term6 a h2 ⊗ t12))))))
+    (mulAdd (term1 a h2) t2 (mulAdd (term2 a h2) t4 (mulAdd (term3 a h2) t6 (mulAdd (term4 a h2) t8 (mulAdd (term5 a h2) t10 (term6 a h2 ⊗ t12))))))
 
 -- the expansion for a small t, with no test of t
 unfoldable pub smallTInner : Float → Float → Float

@@ -20,7 +20,7 @@ ghost use Rattle.elementary.specs.Rules.{rules-0};
 ghost use Rattle.elementary.specs.Ops.{_⊗_, _⊘_, half};
 ghost use Rattle.prices.specs.declared.answer.Answer.the-variants.{Value};
 ghost use Rattle.prices.specs.Vega.{vegaOf};
-ghost use Rattle.prices.specs.Black.{bell as bellOf, asymptoticOf, callOf};
+ghost use Rattle.prices.specs.Black.{bell as bellOf, asymptoticOf};
 ghost use Rattle.prices.specs.Inside.Exponentials.{regionWith, outOfTheMoneyWith, callWith};
 ghost use Rattle.prices.specs.Inside.Point.{priceAndVega};
 

@@ -13,10 +13,11 @@ use Rattle.prices.specs.declared.answer.Answer.the-variants.{Value}
 use Rattle.prices.specs.Intrinsic.{intrinsicOf}
 use Rattle.prices.specs.Black.{SMALL-T, CODYS-THRESHOLD, MINUS-FRAC, bell, smallTOf, asymptoticOf, isAsymptotic, callOf}
 
--- the exponentials of x
+-- exp(x / 2)
 abbrev pub upOf : Float → Float
 upOf x = expOf (half ⊗ x)
 
+-- exp(−x / 2)
 abbrev pub downOf : Float → Float
 downOf x = expOf (neg half ⊗ x)
 
