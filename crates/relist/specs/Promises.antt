@@ -5,10 +5,10 @@ use Prim.Native.Nat.{ℕ}
 use lib.ListN.{length}
 use Rattle.relist.specs.Lines.{linesOf, linesOfBlocks}
 
--- the bytes of all blocks
-unfoldable pub joined : List (List ℕ) → List ℕ
-joined [] = []
-joined (block ∷ blocks) = block ++ joined blocks
+-- the input whose blocks these are
+unfoldable pub inputOf : List (List ℕ) → List ℕ
+inputOf [] = []
+inputOf (block ∷ blocks) = block ++ inputOf blocks
 
 -- every block but the last has 65,536 bytes
 pub data Full-but-last : List (List ℕ) → Type 0 where
@@ -18,4 +18,4 @@ pub data Full-but-last : List (List ℕ) → Type 0 where
 
 -- An input in blocks that are full but for the last has the lines of the whole input, numbered from 0.
 abbrev pub Blocks-join : Type 0
-Blocks-join = (blocks : List (List ℕ)) → Full-but-last blocks → linesOfBlocks 0 blocks ≡ linesOf 0 (joined blocks)
+Blocks-join = (blocks : List (List ℕ)) → Full-but-last blocks → linesOfBlocks 0 blocks ≡ linesOf 0 (inputOf blocks)

@@ -10,7 +10,7 @@ ghost use Rattle.solver.specs.RuleSets.{rule-set-0};
 ghost use Rattle.solver.specs.Trail.{laid};
 ghost use Rattle.solver.specs.Listing.{lineOf};
 ghost use Rattle.relist.specs.Lines.{linesOf, stepOf};
-ghost use Rattle.relist.specs.Inside.Steps.{After, Ended};
+ghost use Rattle.relist.specs.Inside.Steps.{After, End};
 
 const RECORD_BYTES: usize = 64;
 
@@ -46,7 +46,7 @@ fn main() {
 fn relist(block: &mut [u8], lines: &mut [u8]) -> Step
     requires { ⌜ length (now block) ≡ 65536 ⌝ }
     requires { ⌜ 131200 ≤ length (now lines) ⌝ }
-    ensures { λ r. ⌜ Ended r ⌝ }
+    ensures { λ r. ⌜ End r ⌝ }
 {
     let mut index: u64 = 0;
     while index < INDEX_END {

@@ -6,7 +6,7 @@ use native.Mathlib.Omega.{arith}
 use lib.ListN.{length, take}
 use lib.Seq.{length-take-le}
 use Rattle.relist.specs.Lines.{linesOf}
-use Rattle.relist.specs.Inside.Steps.{failed, listed}
+use Rattle.relist.specs.Inside.Steps.{failure, listing}
 use Rattle.relist.proofs.Laws.Listed.{laid-within}
 use borrow.Author.Needs.{needs}
 use Rattle.relist.proofs.relist_block.Statement.{statement}
@@ -29,7 +29,7 @@ same-length : tie.Need-same-length
 same-length c = search needs
 
 returns : tie.Need-returns
-returns c = failed refl
+returns c = failure refl
 
 slice-reshare-prefix-list : tie.Need-slice-reshare-prefix-list
 slice-reshare-prefix-list c = search needs
@@ -72,7 +72,7 @@ same-length-3 : tie.Need-same-length-3
 same-length-3 c = search needs
 
 returns-2 : tie.Need-returns-2
-returns-2 c = failed refl
+returns-2 c = failure refl
 
 step-after-requires : tie.Need-step-after-requires
 step-after-requires c κs = search needs
@@ -87,7 +87,7 @@ returns-3 : tie.Need-returns-3
 returns-3 c =
     let l = c .before .before .before .before .before .before in
     let f = l .before .before .before .before .before .before .before in
-    listed (f .fill .result .count) (f .fill .ensures) (l .list .ensures .1) (c .step-after .ensures)
+    listing (f .fill .result .count) (f .fill .ensures) (l .list .ensures .1) (c .step-after .ensures)
 
 pub relist-block-spec : {M : Type 1} → statement M
 relist-block-spec =
