@@ -4,6 +4,7 @@ use lib.Ieee.{Float, nan}
 use Rattle.prices.specs.declared.answer.Answer.{Answer}
 use Rattle.prices.specs.declared.answer.Answer.the-variants.{Value, Refused}
 
+-- document 01's number
 abbrev pub numberOf : Answer → ℕ
 numberOf (Value v) = 0
 numberOf (Refused n) = n

@@ -39,49 +39,31 @@ MINUS-FRAC = bits 0xbfe6_a09e_667f_3bcd  -- −0.7071067811865476
 abbrev pub bell : Float → Float → Float
 bell h t = expOf (neg half ⊗ (h ⊗ h ⊕ t ⊗ t))
 
--- (0.5 × x).exp() and (−0.5 × x).exp()
-abbrev pub upOf : Float → Float
-upOf x = expOf (half ⊗ x)
-
-abbrev pub downOf : Float → Float
-downOf x = expOf (neg half ⊗ x)
-
--- What ends in With is a formula over given exponentials: up stands for (0.5 × x).exp(), down for (−0.5 × x).exp(), exp-term for the bell of h and t.
-
--- twice the price, with erfcx in place of erfc from Cody's threshold on
-unfoldable pub twoBWith : Rules → Float → Float → Float → Float → Float → Float
-twoBWith rules up down exp-term q1 q2 =
-    let both-erfc = up ⊗ erfcOf rules q1 ⊖ down ⊗ erfcOf rules q2 in
-    let second-erfcx = up ⊗ erfcOf rules q1 ⊖ exp-term ⊗ erfcxOf q2 in
-    let first-erfcx = exp-term ⊗ erfcxOf q1 ⊖ down ⊗ erfcOf rules q2 in
-    let both-erfcx = exp-term ⊗ (erfcxOf q1 ⊖ erfcxOf q2) in
-    cond (lt q1 CODYS-THRESHOLD) (cond (lt q2 CODYS-THRESHOLD) both-erfc second-erfcx) (cond (lt q2 CODYS-THRESHOLD) first-erfcx both-erfcx)
-
--- optimal use of Cody's functions
-unfoldable pub codysWith : Rules → Float → Float → Float → Float → Float
-codysWith rules up down x s =
+-- optimal use of Cody's functions: erfcx stands for erfc from the threshold on
+unfoldable pub codysOf : Rules → Float → Float → Float
+codysOf rules x s =
     let h = x ⊘ s in
     let t = half ⊗ s in
-    maxOf (half ⊗ twoBWith rules up down (bell h t) (MINUS-FRAC ⊗ (h ⊕ t)) (MINUS-FRAC ⊗ (h ⊖ t))) +0
+    let q1 = MINUS-FRAC ⊗ (h ⊕ t) in
+    let q2 = MINUS-FRAC ⊗ (h ⊖ t) in
+    let both-erfc = expOf (half ⊗ x) ⊗ erfcOf rules q1 ⊖ expOf (neg half ⊗ x) ⊗ erfcOf rules q2 in
+    let second-erfcx = expOf (half ⊗ x) ⊗ erfcOf rules q1 ⊖ bell h t ⊗ erfcxOf q2 in
+    let first-erfcx = bell h t ⊗ erfcxOf q1 ⊖ expOf (neg half ⊗ x) ⊗ erfcOf rules q2 in
+    let both-erfcx = bell h t ⊗ (erfcxOf q1 ⊖ erfcxOf q2) in
+    let two-b = cond (lt q1 CODYS-THRESHOLD) (cond (lt q2 CODYS-THRESHOLD) both-erfc second-erfcx) (cond (lt q2 CODYS-THRESHOLD) first-erfcx both-erfcx) in
+    maxOf (half ⊗ two-b) +0
 
--- the same at the exponentials of x
-unfoldable pub codysOf : Rules → Float → Float → Float
-codysOf rules x s = codysWith rules (upOf x) (downOf x) x s
+-- The terms of the Taylor sum: each is a Horner sum in h² with coefficients a × p − q, all fused.
 
--- The terms of the Taylor sum. Each is a Horner sum in h² whose coefficients are themselves a × p + q, all fused.
-abbrev pub firstBy : Float → Float → Float → Float
-firstBy a h2 c = mulAdd a (h2 ⊕ c) (neg one)
-
-abbrev pub turnBy : Float → Float → Float → Float → Float → Float
-turnBy a h2 sum p q = mulAdd h2 sum (mulAdd a p q)
-
+-- the innermost of a sum: a × (h² + c) − 1
 abbrev pub first : Float → Float → ℕ → Float
-first a h2 c = firstBy a h2 (float c)
+first a h2 c = mulAdd a (h2 ⊕ float c) (neg one)
 
--- q is taken off
+-- one turn further out: h² × sum + (a × p − q)
 abbrev pub turn : Float → Float → Float → ℕ → ℕ → Float
-turn a h2 sum p q = turnBy a h2 sum (float p) (neg (float q))
+turn a h2 sum p q = mulAdd h2 sum (mulAdd a (float p) (neg (float q)))
 
+-- term1 to term6, with which t², t⁴ .. t¹² are multiplied
 unfoldable pub term1 : Float → Float → Float
 term1 a h2 = first a h2 3 ⊘ float 6
 
@@ -110,12 +92,9 @@ taylorOf a h2 t2 =
     let t10 = t6 ⊗ t4 in
     let t12 = t6 ⊗ t6 in
     mulAdd a one
-    (mulAdd (term1 a h2) t2
-    (mulAdd (term2 a h2) t4
-    (mulAdd (term3 a h2) t6
-    (mulAdd (term4 a h2) t8
-    (mulAdd (term5 a h2) t10 (term6 a h2 ⊗ t12))))))
+    (mulAdd (term1 a h2) t2 (mulAdd (term2 a h2) t4 (mulAdd (term3 a h2) t6 (mulAdd (term4 a h2) t8 (mulAdd (term5 a h2) t10 (term6 a h2 ⊗ t12))))))
 
+-- the expansion for a small t, with no test of t
 unfoldable pub smallTInner : Float → Float → Float
 smallTInner h t =
     let t2 = t ⊗ t in
@@ -125,6 +104,7 @@ smallTInner h t =
     let exp-term = expOf (neg half ⊗ (h2 ⊕ t2)) in
     maxOf (ONE-OVER-SQRT-TWO-PI ⊗ exp-term ⊗ y-diff) +0
 
+-- small_t_expansion_of_normalised_black_call: 8 from the bound on
 unfoldable pub smallTOf : Float → Float → Answer
 smallTOf h t = let inner = smallTInner h t in cond (le SMALL-T t) (Refused 8) (Value inner)
 
@@ -144,6 +124,7 @@ seriesOf z =
     let term = one ⊘ (float 15 ⊗ z2 ⊗ z2 ⊗ z) in
     seriesTurns 15 3 z2 y (neg one) term
 
+-- the asymptotic expansion, with no test of its region
 unfoldable pub asymptoticInner : Float → Float → Float
 asymptoticInner h t =
     let exp-term = expOf (mulAdd (neg half) (h ⊗ h) (neg half ⊗ t ⊗ t)) in
@@ -153,9 +134,11 @@ asymptoticInner h t =
 abbrev pub isOutside : Float → Float → Bool
 isOutside h t = lt H-LARGE h || le (absOf h ⊖ absOf H-LARGE ⊕ SMALL-T) t
 
+-- asymptotic_expansion_of_normalised_black_call: 7 outside of its region
 unfoldable pub asymptoticOf : Float → Float → Answer
 asymptoticOf h t = let inner = asymptoticInner h t in cond (isOutside h t) (Refused 7) (Value inner)
 
+-- normalised_black_call_using_erfcx
 unfoldable pub usingErfcxOf : Float → Float → Float
 usingErfcxOf h t = maxOf (half ⊗ bell h t ⊗ (erfcxOf (MINUS-FRAC ⊗ (h ⊕ t)) ⊖ erfcxOf (MINUS-FRAC ⊗ (h ⊖ t)))) +0
 
@@ -165,24 +148,20 @@ usingErfcxOf h t = maxOf (half ⊗ bell h t ⊗ (erfcxOf (MINUS-FRAC ⊗ (h ⊕ 
 abbrev pub isAsymptotic : Float → Float → Bool
 isAsymptotic x s = lt x (s ⊗ H-LARGE) && lt (half ⊗ s ⊗ s ⊕ x) (s ⊗ (SMALL-T ⊕ H-LARGE))
 
--- the region of x and s
-unfoldable pub regionWith : Rules → Float → Float → Float → Float → Answer
-regionWith rules up down x s =
+-- the price in the region of x and s
+unfoldable pub regionOf : Rules → Float → Float → Answer
+regionOf rules x s =
     let asymptotic = asymptoticOf (x ⊘ s) (half ⊗ s) in
     let small-t = smallTOf (x ⊘ s) (half ⊗ s) in
-    let codys = Value (codysWith rules up down x s) in
+    let codys = Value (codysOf rules x s) in
     cond (isAsymptotic x s) asymptotic (cond (lt (half ⊗ s) SMALL-T) small-t codys)
 
 -- out of the money. DENORMALISATION_CUTOFF is 0, and stands where the Rust has it
-unfoldable pub outOfTheMoneyWith : Rules → Float → Float → Float → Float → Answer
-outOfTheMoneyWith rules up down x s =
-    let region = regionWith rules up down x s in
-    let intrinsic = Value (intrinsicOf x Call) in
-    cond (le s (absOf x ⊗ +0)) intrinsic region
-
--- the same at the exponentials of x
 unfoldable pub outOfTheMoney : Rules → Float → Float → Answer
-outOfTheMoney rules x s = outOfTheMoneyWith rules (upOf x) (downOf x) x s
+outOfTheMoney rules x s =
+    let intrinsic = Value (intrinsicOf x Call) in
+    let region = regionOf rules x s in
+    cond (le s (absOf x ⊗ +0)) intrinsic region
 
 -- a value with an amount added; a refusal passes up
 abbrev pub added : Float → Answer → Answer
@@ -197,16 +176,11 @@ callAt (suc depth) rules x s =
     let direct = outOfTheMoney rules x s in
     cond (lt +0 x) mapped direct
 
+-- normalised_black_call
 abbrev pub callOf : Rules → Float → Float → Answer
 callOf = callAt 1
 
--- the same where the exponentials of x are given; in the money they are not asked for
-abbrev pub callWith : Rules → Float → Float → Float → Float → Answer
-callWith rules up down x s =
-    let mapped = callOf rules x s in
-    let direct = outOfTheMoneyWith rules up down x s in
-    cond (lt +0 x) mapped direct
-
+-- normalised_black: a put at x is a call at −x
 unfoldable pub normalisedBlackOf : Rules → Float → Float → OptionType → Answer
 normalisedBlackOf rules x s kind = callOf rules (times kind x) s
 
@@ -216,6 +190,7 @@ normalisedBlackOf rules x s kind = callOf rules (times kind x) s
 abbrev pub isPositiveNormal : Float → Bool
 isPositiveNormal x = le MIN-POSITIVE x && le x MAX
 
+-- neither infinite nor NaN
 abbrev pub isFinite : Float → Bool
 isFinite x = le (neg MAX) x && le x MAX
 
@@ -224,14 +199,14 @@ abbrev pub scaledUp : Float → Float → Answer → Answer
 scaledUp amount factor (Value b) = Value (maxOf amount (factor ⊗ b))
 scaledUp amount factor (Refused n) = Refused n
 
--- `black` after its refusals, out of the money
+-- black's price out of the money, of an accepted input
 unfoldable pub priceOf : Rules → Float → Float → Float → Float → OptionType → Answer
 priceOf rules forward strike sigma expiry kind =
     let intrinsic = maxOf (times kind (forward ⊖ strike)) +0 in
     let factor = sqrtOf binary64 forward ⊗ sqrtOf binary64 strike in
     scaledUp intrinsic factor (normalisedBlackOf rules (lnOf (forward ⊘ strike)) (sigma ⊗ sqrtOf binary64 expiry) kind)
 
--- in the money mapped to out of the money, once
+-- black's price of an accepted input: in the money mapped to out of the money, once
 unfoldable pub blackAt : ℕ → Rules → Float → Float → Float → Float → OptionType → Answer
 blackAt zero rules forward strike sigma expiry kind = priceOf rules forward strike sigma expiry kind
 blackAt (suc depth) rules forward strike sigma expiry kind =
@@ -240,6 +215,7 @@ blackAt (suc depth) rules forward strike sigma expiry kind =
     let direct = priceOf rules forward strike sigma expiry kind in
     cond (lt +0 signed-diff) mapped direct
 
+-- black, with its refusals
 unfoldable pub blackOf : Rules → Float → Float → Float → Float → OptionType → Answer
 blackOf rules forward strike sigma expiry kind =
     let price = blackAt 1 rules forward strike sigma expiry kind in

@@ -17,11 +17,13 @@ nearIntrinsic x kind =
     let x2 = x ⊗ x in
     maxOf (times kind x ⊗ (one ⊕ x2 ⊗ (one ⊘ float 24 ⊕ x2 ⊗ (one ⊘ float 1920 ⊕ x2 ⊗ (one ⊘ float 322560 ⊕ one ⊘ float 92897280 ⊗ x2))))) +0
 
+-- elsewhere, exp(x / 2) less its reciprocal
 abbrev pub farIntrinsic : Float → OptionType → Float
 farIntrinsic x kind =
     let b-max = expOf (half ⊗ x) in
     maxOf (times kind (b-max ⊖ one ⊘ b-max)) +0
 
+-- normalised_intrinsic: 0 where the kind is not in the money
 unfoldable pub intrinsicOf : Float → OptionType → Float
 intrinsicOf x kind =
     let near = nearIntrinsic x kind in

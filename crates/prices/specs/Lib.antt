@@ -4,5 +4,8 @@ pub mod Answers
 pub mod Intrinsic
 pub mod Vega
 pub mod Black
-pub mod Point
 pub mod RationalCubic
+-- Promises: statements alone, no proof.
+pub mod Promises
+-- Words of private contracts: what functions inside the build say of each other.
+pub mod Inside

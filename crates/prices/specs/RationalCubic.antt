@@ -8,17 +8,19 @@ use Rattle.prices.specs.declared.rational_cubic.Side.the-variants.{Left,
 use Rattle.prices.specs.declared.answer.Answer.{Answer}
 use Rattle.prices.specs.declared.answer.Answer.the-variants.{Value, Refused}
 
--- the least and the largest control parameter: −(1 − √EPSILON) and 2 / EPSILON²
+-- the least control parameter, −(1 − √EPSILON)
 abbrev pub MINIMUM : Float
 MINIMUM = bits 0xbfef_ffff_f800_0000  -- −0.9999999850988388
 
+-- the largest, 2 / EPSILON²: from it on the curve is a straight line
 abbrev pub MAXIMUM : Float
 MAXIMUM = bits 0x4680_0000_0000_0000  -- 4.056481920730334e+31
 
+-- an infinity of either sign
 abbrev pub isInfinite : Float → Bool
 isInfinite x = eq (absOf x) (inf false)
 
--- ---- the interpolation
+-- the value at t, from 0 at the left place to 1 at the right one, which are h apart
 unfoldable pub curveOf : Float → Float → Float → Float → Float → Float → Float → Float
 curveOf h t y-l y-r d-l d-r r =
     let omt = one ⊖ t in
@@ -30,6 +32,7 @@ curveOf h t y-l y-r d-l d-r r =
     let curved = numerator ⊘ denominator in
     cond (lt r MAXIMUM) curved straight
 
+-- rational_cubic_interpolation: 6 for an infinite place, the middle of both values where the places coincide
 unfoldable pub interpolationOf : Float → Float → Float → Float → Float → Float → Float → Float → Answer
 interpolationOf x x-l x-r y-l y-r d-l d-r r =
     let h = x-r ⊖ x-l in
@@ -37,22 +40,24 @@ interpolationOf x x-l x-r y-l y-r d-l d-r r =
     let middle = half ⊗ (y-l ⊕ y-r) in
     cond (isInfinite x || (isInfinite x-l || isInfinite x-r)) (Refused 6) (cond (le (absOf h) EPSILON) (Value middle) (Value curve))
 
--- ---- the control parameters
+-- both slopes have the secant's sign, or are 0
 abbrev pub isMonotonic : Float → Float → Float → Bool
 isMonotonic d-l d-r s = le +0 (d-l ⊗ s) && le +0 (d-r ⊗ s)
 
+-- the slope grows from left to right
 abbrev pub isConvex : Float → Float → Float → Bool
 isConvex d-l d-r s = le d-l s && le s d-r
 
+-- the slope falls from left to right
 abbrev pub isConcave : Float → Float → Float → Bool
 isConcave d-l d-r s = le s d-l && le d-r s
 
--- r1, by what was found of the slopes
+-- r1: the least parameter that keeps the curve monotonic
 abbrev pub monotonicParameter : Bool → Float → Float → Float → Bool → Float
 monotonicParameter monotonic d-l d-r s prefer =
     cond monotonic (cond (isZero s) (cond prefer MAXIMUM MIN) ((d-r ⊕ d-l) ⊘ s)) MIN
 
--- r2
+-- r2: the least parameter that keeps it convex or concave
 abbrev pub shapeParameter : Bool → Bool → Float → Float → Float → Bool → Float
 shapeParameter curved monotonic d-l d-r s prefer =
     let width = d-r ⊖ d-l in
@@ -61,16 +66,19 @@ shapeParameter curved monotonic d-l d-r s prefer =
     cond (curved && (not (isZero left) && not (isZero right))) (maxOf (absOf (width ⊘ right)) (absOf (width ⊘ left)))
     (cond (monotonic && prefer) MAXIMUM MIN)
 
+-- minimum_rational_cubic_control_parameter
 unfoldable pub minimumParameterOf : Float → Float → Float → Bool → Float
 minimumParameterOf d-l d-r s prefer =
     let monotonic = isMonotonic d-l d-r s in
     let curved = isConvex d-l d-r s || isConcave d-l d-r s in
     cond (monotonic || curved) (maxOf MINIMUM (maxOf (monotonicParameter monotonic d-l d-r s prefer) (shapeParameter curved monotonic d-l d-r s prefer))) MINIMUM
 
+-- what the second derivative is divided by, at either side
 abbrev pub sideOf : Side → Float → Float → Float → Float
 sideOf Left slope d-l d-r = slope ⊖ d-l
 sideOf Right slope d-l d-r = d-r ⊖ slope
 
+-- rational_cubic_control_parameter: the parameter that fits the second derivative at one side
 unfoldable pub controlParameterOf : Float → Float → Float → Float → Float → Float → Float → Side → Float
 controlParameterOf x-l x-r y-l y-r d-l d-r second-derivative side =
     let h = x-r ⊖ x-l in
@@ -79,6 +87,7 @@ controlParameterOf x-l x-r y-l y-r d-l d-r second-derivative side =
     cond (isZero numerator) +0
     (cond (isZero denominator || isInfinite denominator) (cond (lt +0 numerator) MAXIMUM MINIMUM) (numerator ⊘ denominator))
 
+-- convex_rational_cubic_control_parameter: the same, and not below the minimum
 unfoldable pub convexParameterOf : Float → Float → Float → Float → Float → Float → Float → Bool → Side → Float
 convexParameterOf x-l x-r y-l y-r d-l d-r second-derivative prefer side =
     maxOf (controlParameterOf x-l x-r y-l y-r d-l d-r second-derivative side) (minimumParameterOf d-l d-r ((y-r ⊖ y-l) ⊘ (x-r ⊖ x-l)) prefer)

@@ -13,19 +13,20 @@ use elementary::mul_add::mul_add_whole;
 use elementary::sqrt::sqrt;
 ghost use mathlib.Core.Path.{_≡_};
 ghost use mathlib.Core.Bool.{not, cond, _&&_};
-ghost use Prim.Native.Nat.{ℕ, _≤_};
 ghost use lib.Ieee.{neg};
 ghost use Rattle.elementary.specs.Rules.{rules-0};
-ghost use Rattle.elementary.specs.Ops.{_⊗_, +0, half, one};
+ghost use Rattle.elementary.specs.Ops.{_⊕_, _⊗_, +0, half, one, mulAdd};
 ghost use Rattle.elementary.specs.Methods.{maxOf};
 ghost use Rattle.elementary.specs.Exp.{expOf};
-ghost use Rattle.prices.specs.Black.{bell as bellOf, turn as turnOf, firstBy, term1 as term1Of, term2 as term2Of, term3 as term3Of, term4 as term4Of, term5 as term5Of, term6 as term6Of, taylorOf, smallTInner, smallTOf, seriesTurns, seriesOf, asymptoticInner, asymptoticOf, usingErfcxOf, upOf, downOf, twoBWith, codysOf, isOutside, isAsymptotic, regionWith, outOfTheMoney, added, callAt, callOf, normalisedBlackOf, isPositiveNormal, isFinite, scaledUp, priceOf, blackAt, blackOf};
+ghost use Rattle.prices.specs.Black.{bell as bellOf, turn as turnOf, term1 as term1Of, term2 as term2Of, term3 as term3Of, term4 as term4Of, term5 as term5Of, term6 as term6Of, taylorOf, smallTInner, smallTOf, seriesTurns, seriesOf, asymptoticInner, asymptoticOf, usingErfcxOf, codysOf, isOutside, isAsymptotic, regionOf, outOfTheMoney, added, callAt, callOf, normalisedBlackOf, isPositiveNormal, isFinite, scaledUp, priceOf, blackAt, blackOf};
+ghost use Rattle.prices.specs.Inside.Exponentials.{twoBWith};
 
 // The threshold of the asymptotic expansion, and H_LARGE.
 const H_LARGE: f64 = -10.0;
 
 const CODYS_THRESHOLD: f64 = 0.46875;
-// Twice the sixteenth root of f64::EPSILON.
+// 2 × 0.10566243270259357, a bound on t: (1 − 1/√3) / 2. The Rust calls its half the sixteenth root of
+// f64::EPSILON, which is 0.105112..
 pub(crate) const SMALL_T: f64 = 0.21132486540518713;
 
 pub(crate) const MINUS_FRAC_1_SQRT_2: f64 = -0.7071067811865476;
@@ -99,7 +100,7 @@ pub fn normalised_black_call_with_optimal_use_of_codys_functions(x: f64, s: f64)
 // ---- the Taylor sum for a small t
 
 fn first(a: f64, h2: f64, c: f64) -> f64
-    ensures { λ r. ⌜ r ≡ firstBy a h2 c ⌝ }
+    ensures { λ r. ⌜ r ≡ mulAdd a (h2 ⊕ c) (neg one) ⌝ }
 {
     mul_add(a, h2 + c, -1.0)
 }
@@ -272,7 +273,7 @@ pub(crate) fn is_asymptotic(x: f64, s: f64) -> bool
 }
 
 fn region(x: f64, s: f64) -> Answer
-    ensures { λ r. ⌜ r ≡ regionWith rules-0 (upOf x) (downOf x) x s ⌝ }
+    ensures { λ r. ⌜ r ≡ regionOf rules-0 x s ⌝ }
 {
     if is_asymptotic(x, s) {
         return asymptotic_expansion_of_normalised_black_call(x / s, 0.5 * s);

@@ -20,8 +20,9 @@ ghost use Rattle.elementary.specs.Rules.{rules-0};
 ghost use Rattle.elementary.specs.Ops.{_⊗_, _⊘_, half};
 ghost use Rattle.prices.specs.declared.answer.Answer.the-variants.{Value};
 ghost use Rattle.prices.specs.Vega.{vegaOf};
-ghost use Rattle.prices.specs.Black.{bell as bellOf, asymptoticOf, regionWith, outOfTheMoneyWith, callOf, callWith};
-ghost use Rattle.prices.specs.Point.{told as toldOf};
+ghost use Rattle.prices.specs.Black.{bell as bellOf, asymptoticOf};
+ghost use Rattle.prices.specs.Inside.Exponentials.{regionWith, outOfTheMoneyWith, callWith};
+ghost use Rattle.prices.specs.Inside.Point.{priceAndVega};
 
 // Document 01's number, 0 where there is a price.
 pub struct PriceAndVega {
@@ -32,7 +33,7 @@ pub struct PriceAndVega {
 
 // A price, with no number.
 fn priced(price: f64, vega: f64) -> PriceAndVega
-    ensures { λ r. ⌜ r ≡ toldOf (Value price) vega ⌝ }
+    ensures { λ r. ⌜ r ≡ priceAndVega (Value price) vega ⌝ }
 {
     PriceAndVega {
         number: 0,
@@ -43,7 +44,7 @@ fn priced(price: f64, vega: f64) -> PriceAndVega
 
 // What an answer says, beside a vega.
 fn told(answer: Answer, vega: f64) -> PriceAndVega
-    ensures { λ r. ⌜ r ≡ toldOf answer vega ⌝ }
+    ensures { λ r. ⌜ r ≡ priceAndVega answer vega ⌝ }
 {
     match answer {
         Answer::Value(b) => priced(b, vega),
@@ -57,7 +58,7 @@ fn told(answer: Answer, vega: f64) -> PriceAndVega
 
 // Outside of the expansion's own region 7.
 fn in_asymptotic_region(h: f64, t: f64, vega: f64) -> PriceAndVega
-    ensures { λ r. ⌜ r ≡ toldOf (asymptoticOf h t) vega ⌝ }
+    ensures { λ r. ⌜ r ≡ priceAndVega (asymptoticOf h t) vega ⌝ }
 {
     if is_outside(h, t) {
         return PriceAndVega {
@@ -72,7 +73,7 @@ fn in_asymptotic_region(h: f64, t: f64, vega: f64) -> PriceAndVega
 // The three regions of normalised_black_call.
 fn in_region(x: f64, s: f64, up: f64, down: f64, exp_term: f64, vega: f64) -> PriceAndVega
     requires { ⌜ «exp_term» ≡ bellOf (x ⊘ s) (half ⊗ s) ⌝ }
-    ensures { λ r. ⌜ r ≡ toldOf (regionWith rules-0 up down x s) vega ⌝ }
+    ensures { λ r. ⌜ r ≡ priceAndVega (regionWith rules-0 up down x s) vega ⌝ }
 {
     let h = x / s;
     let t = 0.5 * s;
@@ -90,7 +91,7 @@ fn in_region(x: f64, s: f64, up: f64, down: f64, exp_term: f64, vega: f64) -> Pr
 // Where sigma is 0 or below, the intrinsic value.
 fn out_of_the_money(x: f64, s: f64, up: f64, down: f64, exp_term: f64, vega: f64) -> PriceAndVega
     requires { ⌜ «exp_term» ≡ bellOf (x ⊘ s) (half ⊗ s) ⌝ }
-    ensures { λ r. ⌜ r ≡ toldOf (outOfTheMoneyWith rules-0 up down x s) vega ⌝ }
+    ensures { λ r. ⌜ r ≡ priceAndVega (outOfTheMoneyWith rules-0 up down x s) vega ⌝ }
 {
     if s <= abs(x) * 0.0 {
         return priced(normalised_intrinsic(x, OptionType::Call), vega);
@@ -100,7 +101,7 @@ fn out_of_the_money(x: f64, s: f64, up: f64, down: f64, exp_term: f64, vega: f64
 
 // `up` is exp(x / 2) and `down` exp(−x / 2), which the caller has for every s.
 pub fn price_and_vega(x: f64, s: f64, up: f64, down: f64) -> PriceAndVega
-    ensures { λ r. ⌜ r ≡ toldOf (callWith rules-0 up down x s) (vegaOf x s) ⌝ }
+    ensures { λ r. ⌜ r ≡ priceAndVega (callWith rules-0 up down x s) (vegaOf x s) ⌝ }
 {
     if x > 0.0 {
         return told(normalised_black_call(x, s), normalised_vega(x, s));

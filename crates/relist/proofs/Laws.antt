@@ -2,3 +2,4 @@
 pub mod Blocks
 pub mod Listed
 pub mod Parts
+pub mod Steps

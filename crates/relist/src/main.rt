@@ -9,7 +9,8 @@ ghost use lib.ListN.{length};
 ghost use Rattle.solver.specs.RuleSets.{rule-set-0};
 ghost use Rattle.solver.specs.Trail.{laid};
 ghost use Rattle.solver.specs.Listing.{lineOf};
-ghost use Rattle.relist.specs.Lines.{linesOf};
+ghost use Rattle.relist.specs.Lines.{linesOf, stepOf};
+ghost use Rattle.relist.specs.Inside.Steps.{After, End};
 
 const RECORD_BYTES: usize = 64;
 
@@ -29,40 +30,81 @@ struct Filled {
     is_read: bool,
 }
 
+// Where a block leaves the run: whether it goes on, and the next record's number.
+struct Step {
+    more: bool,
+    next: u64,
+}
+
 fn main() {
     let mut block: [u8; BLOCK_BYTES] = [0; BLOCK_BYTES];
     let mut lines: [u8; LINES_BYTES] = [0; LINES_BYTES];
     relist(&mut block, &mut lines);
 }
 
-fn relist(block: &mut [u8], lines: &mut [u8])
+// Block after block, up to one that says that the run ends; the last step is answered.
+fn relist(block: &mut [u8], lines: &mut [u8]) -> Step
     requires { ⌜ length (now block) ≡ 65536 ⌝ }
     requires { ⌜ 131200 ≤ length (now lines) ⌝ }
+    ensures { λ r. ⌜ End r ⌝ }
 {
     let mut index: u64 = 0;
-    while index < INDEX_END && relist_block(index, block, lines) {
-        index += BLOCK_RECORDS;
+    while index < INDEX_END {
+        let step = relist_block(index, block, lines);
+        if !step.more {
+            return step;
+        }
+        index = step.next;
+    }
+    Step {
+        more: true,
+        next: index,
     }
 }
 
-// Reads a block, writes its lines, and answers whether to go on: a block that is not full is the last.
-fn relist_block(index: u64, block: &mut [u8], lines: &mut [u8]) -> bool
+// Reads a block and writes its lines.
+fn relist_block(index: u64, block: &mut [u8], lines: &mut [u8]) -> Step
     requires { ⌜ index < 9223372036854775808 ⌝ }
     requires { ⌜ length (now block) ≡ 65536 ⌝ }
     requires { ⌜ 131200 ≤ length (now lines) ⌝ }
+    ensures { λ r. ⌜ After index (now (block .exit)) (now (lines .entry)) (now (lines .exit)) r ⌝ }
 {
     let filled = fill(block);
     if !filled.is_read {
         os::fail(b"relist: read");
-        return false;
+        return Step {
+            more: false,
+            next: index,
+        };
     }
     let n = filled.count;
     let used = list(index, &block[..n], lines);
     if !io::write_all(STDOUT_FILENO, &lines[..used]) {
         os::fail(b"relist: write");
-        return false;
+        return Step {
+            more: false,
+            next: index,
+        };
     }
-    n == block.len()
+    step_after(index, n)
+}
+
+// A block that is not full is the last; behind a full one the numbers go on by its records.
+fn step_after(first: u64, n: usize) -> Step
+    requires { ⌜ first < 9223372036854775808 ⌝ }
+    requires { ⌜ n ≤ 65536 ⌝ }
+    ensures { λ r. ⌜ r ≡ stepOf first n ⌝ }
+{
+    if n < BLOCK_BYTES {
+        return Step {
+            more: false,
+            next: first,
+        };
+    }
+    Step {
+        more: true,
+        next: first + BLOCK_RECORDS,
+    }
 }
 
 // Reads until the block is full, the input ends or a read fails.

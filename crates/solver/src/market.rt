@@ -5,7 +5,7 @@ ghost use mathlib.Core.Path.{_≡_};
 ghost use Rattle.elementary.specs.Rules.{rules-0};
 ghost use Rattle.prices.specs.Vega.{vegaOf};
 ghost use Rattle.prices.specs.Black.{callOf};
-ghost use Rattle.prices.specs.Point.{told};
+ghost use Rattle.prices.specs.Inside.Point.{priceAndVega};
 ghost use Rattle.solver.specs.Inside.Market.{Shared};
 
 // x and the target after all mapping, b_max, which is exp(x / 2), and exp(−x / 2).
@@ -19,7 +19,7 @@ pub struct Market {
 // The price and the vega at s.
 pub(crate) fn priced(m: Market, s: f64) -> PriceAndVega
     requires { ⌜ Shared m ⌝ }
-    ensures { λ r. ⌜ r ≡ told (callOf rules-0 (m .x) s) (vegaOf (m .x) s) ⌝ }
+    ensures { λ r. ⌜ r ≡ priceAndVega (callOf rules-0 (m .x) s) (vegaOf (m .x) s) ⌝ }
 {
     price_and_vega(m.x, s, m.b_max, m.down)
 }

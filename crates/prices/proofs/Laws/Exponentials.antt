@@ -1,46 +1,62 @@
--- A price over given exponentials: at those of x it is normalised_black_call's, and its number is 0 where there is a price and nowhere else. Assumes nothing.
+-- A price over given exponentials: at those of x it is the plain one, and its number is 0 where there is a price and nowhere else. Assumes nothing.
 use mathlib.Core.Path.{_≡_, refl}
 use mathlib.Core.Bool.{Bool, true, false, cond}
 use Prim.Native.Nat.{ℕ}
 use native.Mathlib.Omega.{arith}
-use lib.Ieee.{Float, lt}
-use Rattle.elementary.specs.Ops.{+0}
+use lib.Ieee.{Float, lt, le}
+use Rattle.elementary.specs.Ops.{_⊗_, +0}
 use Rattle.elementary.specs.Rules.{Rules}
+use Rattle.elementary.specs.Methods.{absOf}
 use Rattle.prices.specs.declared.answer.Answer.{Answer}
 use Rattle.prices.specs.declared.answer.Answer.the-variants.{Value, Refused}
-use Rattle.prices.specs.Black.{upOf, downOf, outOfTheMoneyWith, outOfTheMoney, callAt, callOf, callWith}
+use Rattle.prices.specs.Black.{codysOf, regionOf, outOfTheMoney, callAt, callOf}
 use Rattle.prices.specs.declared.point.PriceAndVega.{PriceAndVega}
-use Rattle.prices.specs.Point.{told}
-use Rattle.prices.proofs.Laws.Refusals.{CallAnswer, price, outside-the-region, either, out-answer, call-answer}
+use Rattle.prices.specs.Inside.Exponentials.{upOf, downOf, twoBWith, codysWith, regionWith, outOfTheMoneyWith, callWith}
+use Rattle.prices.specs.Inside.Point.{priceAndVega}
+use Rattle.prices.proofs.Laws.Refusals.{CallAnswer, price, outside-the-region, either, region-answer, call-answer}
 
 -- at exp(x / 2) and exp(−x / 2)
+module _ (rules : Rules) (x s : Float) where
+  pub codys-own : codysWith rules (upOf x) (downOf x) x s ≡ codysOf rules x s
+  unfolding codysWith twoBWith codysOf
+  codys-own = refl
+
+  region-own : regionWith rules (upOf x) (downOf x) x s ≡ regionOf rules x s
+  unfolding regionWith regionOf
+  region-own = rw codys-own
+
+  out-own : outOfTheMoneyWith rules (upOf x) (downOf x) x s ≡ outOfTheMoney rules x s
+  unfolding outOfTheMoneyWith outOfTheMoney
+  out-own = rw region-own
+
 pub at-own-exponentials : (rules : Rules) (x s : Float) → callWith rules (upOf x) (downOf x) x s ≡ callOf rules x s
-unfolding callAt outOfTheMoney
+unfolding callAt
 at-own-exponentials rules x s = go (lt +0 x) refl
   where
     go : (b : Bool) → lt +0 x ≡ b → cond b (callOf rules x s) (outOfTheMoneyWith rules (upOf x) (downOf x) x s) ≡ callOf rules x s
     go true e = refl
-    go false e = rw e refl
+    go false e = rw (e, out-own rules x s)
 
 with-answer : (rules : Rules) (up down x s : Float) → CallAnswer (callWith rules up down x s)
-with-answer rules up down x s = either (lt +0 x) (call-answer 1 rules x s) (out-answer rules up down x s)
+unfolding outOfTheMoneyWith regionWith
+with-answer rules up down x s = either (lt +0 x) (call-answer 1 rules x s) (either (le s (absOf x ⊗ +0)) price (region-answer x s (codysWith rules up down x s)))
 
 not-0 : _≡_ {A = ℕ} 7 0 → ⊥
 not-0 e = omega arith
 
 -- number 0 tells a price, and any other a refusal
-pub price-told : (a : Answer) → CallAnswer a → (v : Float) (p : PriceAndVega) → p ≡ told a v → p .number ≡ 0 → a ≡ Value (p .price)
+pub price-told : (a : Answer) → CallAnswer a → (v : Float) (p : PriceAndVega) → p ≡ priceAndVega a v → p .number ≡ 0 → a ≡ Value (p .price)
 price-told (Value b) h v p e n = rw e refl
 price-told (Refused k) outside-the-region v p e n = absurd (not-0 (rw e at n))
 
-pub refusal-told : (a : Answer) (v : Float) (p : PriceAndVega) → p ≡ told a v → (p .number ≡ 0 → ⊥) → a ≡ Refused (p .number)
+pub refusal-told : (a : Answer) (v : Float) (p : PriceAndVega) → p ≡ priceAndVega a v → (p .number ≡ 0 → ⊥) → a ≡ Refused (p .number)
 refusal-told (Value b) v p e n = absurd (n (rw e refl))
 refusal-told (Refused k) v p e n = rw e refl
 
-pub vega-told : (a : Answer) (v : Float) (p : PriceAndVega) → p ≡ told a v → v ≡ p .vega
+pub vega-told : (a : Answer) (v : Float) (p : PriceAndVega) → p ≡ priceAndVega a v → v ≡ p .vega
 vega-told (Value b) v p e = rw e refl
 vega-told (Refused k) v p e = rw e refl
 
 -- so number 0 from price_and_vega tells the price, whatever exponentials it is given
-pub with-price-told : (rules : Rules) (up down x s v : Float) (p : PriceAndVega) → p ≡ told (callWith rules up down x s) v → p .number ≡ 0 → callWith rules up down x s ≡ Value (p .price)
+pub with-price-told : (rules : Rules) (up down x s v : Float) (p : PriceAndVega) → p ≡ priceAndVega (callWith rules up down x s) v → p .number ≡ 0 → callWith rules up down x s ≡ Value (p .price)
 with-price-told rules up down x s v p e n = price-told _ (with-answer rules up down x s) v p e n

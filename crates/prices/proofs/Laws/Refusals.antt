@@ -1,9 +1,9 @@
--- Which numbers come out of the Black price: of `normalised_black_call` none but 7, of `black` 2, 3, 4, 5 and 7. So small t's 8 never passes up: where the
--- price asks for that expansion, the test before it is the one that the expansion makes. Assumes nothing.
+-- No number but 7 comes out of the Black price of an accepted input. Small t's 8 never passes up: where the price asks for that expansion, the test before it is
+-- the one that the expansion makes. Assumes nothing.
 use mathlib.Core.Path.{_≡_, refl}
+use mathlib.Core.Logic.{inl, inr}
 use mathlib.Core.Bool.{Bool, true, false, cond}
 use Prim.Native.Nat.{ℕ, zero, suc}
-use native.Mathlib.Omega.{arith}
 use lib.Ieee.{Float, neg, lt, le}
 use Rattle.elementary.specs.Ops.{_⊖_, _⊗_, _⊘_, +0, half}
 use Rattle.elementary.specs.Rules.{Rules}
@@ -16,20 +16,13 @@ use Rattle.prices.specs.declared.answer.Answer.the-variants.{Value, Refu
 use Rattle.prices.specs.Inputs.{negated, times}
 use Rattle.prices.specs.Answers.{numberOf}
 use Rattle.prices.specs.Intrinsic.{intrinsicOf}
-use Rattle.prices.specs.Black.{SMALL-T, smallTOf, asymptoticOf, codysWith, isOutside, isAsymptotic, regionWith, outOfTheMoneyWith, outOfTheMoney, added, callAt, callOf, normalisedBlackOf, isPositiveNormal, isFinite, scaledUp, priceOf, blackAt, blackOf}
+use Rattle.prices.specs.Black.{SMALL-T, smallTOf, asymptoticOf, codysOf, isOutside, isAsymptotic, regionOf, outOfTheMoney, added, callAt, callOf, normalisedBlackOf, scaledUp, priceOf, blackAt}
+use Rattle.prices.specs.Promises.{Is-0-or-7}
 
 -- the answers of normalised_black_call
 pub data CallAnswer : Answer → Type 0 where
   price : {v : Float} → CallAnswer (Value v)
   outside-the-region : CallAnswer (Refused 7)
-
--- the answers of black
-pub data BlackAnswer : Answer → Type 0 where
-  forward : BlackAnswer (Refused 2)
-  strike : BlackAnswer (Refused 3)
-  expiry : BlackAnswer (Refused 4)
-  sigma : BlackAnswer (Refused 5)
-  called : {a : Answer} → CallAnswer a → BlackAnswer a
 
 pub either : (b : Bool) {x y : Answer} → CallAnswer x → CallAnswer y → CallAnswer (cond b x y)
 either true h k = h
@@ -43,26 +36,26 @@ small-t-answer : (h t : Float) → lt t SMALL-T ≡ true → CallAnswer (smallTO
 unfolding smallTOf
 small-t-answer h t l = rw (not-le-of-lt t SMALL-T l) price
 
-region-answer : (rules : Rules) (up down x s : Float) → CallAnswer (regionWith rules up down x s)
-unfolding regionWith
-region-answer rules up down x s = either (isAsymptotic x s) (asymptotic-answer (x ⊘ s) (half ⊗ s)) (go (lt (half ⊗ s) SMALL-T) refl)
+-- whatever Cody's price is
+pub region-answer : (x s codys : Float) → CallAnswer (cond (isAsymptotic x s) (asymptoticOf (x ⊘ s) (half ⊗ s)) (cond (lt (half ⊗ s) SMALL-T) (smallTOf (x ⊘ s) (half ⊗ s)) (Value codys)))
+region-answer x s codys = either (isAsymptotic x s) (asymptotic-answer (x ⊘ s) (half ⊗ s)) (go (lt (half ⊗ s) SMALL-T) refl)
   where
-    go : (b : Bool) → lt (half ⊗ s) SMALL-T ≡ b → CallAnswer (cond b (smallTOf (x ⊘ s) (half ⊗ s)) (Value (codysWith rules up down x s)))
+    go : (b : Bool) → lt (half ⊗ s) SMALL-T ≡ b → CallAnswer (cond b (smallTOf (x ⊘ s) (half ⊗ s)) (Value codys))
     go true l = small-t-answer (x ⊘ s) (half ⊗ s) l
     go false l = price
 
-pub out-answer : (rules : Rules) (up down x s : Float) → CallAnswer (outOfTheMoneyWith rules up down x s)
-unfolding outOfTheMoneyWith
-out-answer rules up down x s = either (le s (absOf x ⊗ +0)) price (region-answer rules up down x s)
+out-answer : (rules : Rules) (x s : Float) → CallAnswer (outOfTheMoney rules x s)
+unfolding outOfTheMoney regionOf
+out-answer rules x s = either (le s (absOf x ⊗ +0)) price (region-answer x s (codysOf rules x s))
 
 added-answer : (v : Float) (a : Answer) → CallAnswer a → CallAnswer (added v a)
 added-answer v (Value b) h = price
 added-answer v (Refused n) h = h
 
 pub call-answer : (depth : ℕ) (rules : Rules) (x s : Float) → CallAnswer (callAt depth rules x s)
-unfolding callAt outOfTheMoney
-call-answer zero rules x s = out-answer rules _ _ x s
-call-answer (suc d) rules x s = either (lt +0 x) (added-answer (intrinsicOf x Call) (callAt d rules (neg x) s) (call-answer d rules (neg x) s)) (out-answer rules _ _ x s)
+unfolding callAt
+call-answer zero rules x s = out-answer rules x s
+call-answer (suc d) rules x s = either (lt +0 x) (added-answer (intrinsicOf x Call) (callAt d rules (neg x) s) (call-answer d rules (neg x) s)) (out-answer rules x s)
 
 scaled-answer : (v f : Float) (a : Answer) → CallAnswer a → CallAnswer (scaledUp v f a)
 scaled-answer v f (Value b) h = price
@@ -72,31 +65,13 @@ price-answer : (rules : Rules) (f k s e : Float) (kind : OptionType) → CallAns
 unfolding priceOf normalisedBlackOf
 price-answer rules f k s e kind = scaled-answer _ _ (callOf rules _ _) (call-answer 1 rules _ _)
 
-at-answer : (depth : ℕ) (rules : Rules) (f k s e : Float) (kind : OptionType) → CallAnswer (blackAt depth rules f k s e kind)
+pub at-answer : (depth : ℕ) (rules : Rules) (f k s e : Float) (kind : OptionType) → CallAnswer (blackAt depth rules f k s e kind)
 unfolding blackAt
 at-answer zero rules f k s e kind = price-answer rules f k s e kind
 at-answer (suc d) rules f k s e kind =
     either (lt +0 (times kind (f ⊖ k))) (added-answer _ (blackAt d rules f k s e (negated kind)) (at-answer d rules f k s e (negated kind))) (price-answer rules f k s e kind)
 
-pub black-answer : (rules : Rules) (f k s e : Float) (kind : OptionType) → BlackAnswer (blackOf rules f k s e kind)
-unfolding blackOf
-black-answer rules f k s e kind = go (isPositiveNormal f) (isPositiveNormal k) (isFinite s) (isPositiveNormal e)
-  where
-    go : (a b c d : Bool) → BlackAnswer (cond a (cond b (cond c (cond d (blackAt 1 rules f k s e kind) (Refused 4)) (Refused 5)) (Refused 3)) (Refused 2))
-    go true true true true = called (at-answer 1 rules f k s e kind)
-    go true true true false = expiry
-    go true true false d = sigma
-    go true false c d = strike
-    go false b c d = forward
-
--- 8 is none of them
-pub no-8-from-call : {a : Answer} → CallAnswer a → numberOf a ≡ 8 → ⊥
-no-8-from-call price e = omega arith
-no-8-from-call outside-the-region e = omega arith
-
-pub no-8-from-black : {a : Answer} → BlackAnswer a → numberOf a ≡ 8 → ⊥
-no-8-from-black forward e = omega arith
-no-8-from-black strike e = omega arith
-no-8-from-black expiry e = omega arith
-no-8-from-black sigma e = omega arith
-no-8-from-black (called c) e = no-8-from-call c e
+-- as numbers
+pub call-number : {a : Answer} → CallAnswer a → Is-0-or-7 (numberOf a)
+call-number price = inl refl
+call-number outside-the-region = inr refl

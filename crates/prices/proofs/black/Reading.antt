@@ -4,7 +4,8 @@ use mathlib.Core.Bool.{Bool, true, false, not, cond, _&&_}
 use lib.Ieee.{Float, lt}
 use Rattle.elementary.specs.Ops.{+0}
 use Rattle.elementary.specs.Rules.{Rules}
-use Rattle.prices.specs.Black.{CODYS-THRESHOLD, twoBWith}
+use Rattle.prices.specs.Black.{CODYS-THRESHOLD}
+use Rattle.prices.specs.Inside.Exponentials.{twoBWith}
 
 module _ (rules : Rules) (up down exp-term q1 q2 : Float) where
   pub as-read : twoBWith rules (cond (lt q1 CODYS-THRESHOLD) up +0) (cond (lt q2 CODYS-THRESHOLD) down +0) (cond (not (lt q1 CODYS-THRESHOLD && lt q2 CODYS-THRESHOLD)) exp-term +0) q1 q2 ≡ twoBWith rules up down exp-term q1 q2

@@ -1,11 +1,12 @@
--- `relist_block` is safe: a block has 65,536 bytes, whose lines have room. Assumes nothing.
-use mathlib.Core.Path.{_≡_, sym}
+-- `relist_block` meets its contract: a block has 65,536 bytes, whose lines have room, and the step is that of the bytes that came. Assumes nothing.
+use mathlib.Core.Path.{_≡_, refl, sym}
 use mathlib.Core.List.{List}
 use Prim.Native.Nat.{ℕ, _+_, _*_, _≤_, _<_}
 use native.Mathlib.Omega.{arith}
 use lib.ListN.{length, take}
 use lib.Seq.{length-take-le}
 use Rattle.relist.specs.Lines.{linesOf}
+use Rattle.relist.specs.Inside.Steps.{failure, listing}
 use Rattle.relist.proofs.Laws.Listed.{laid-within}
 use borrow.Author.Needs.{needs}
 use Rattle.relist.proofs.relist_block.Statement.{statement}
@@ -28,7 +29,7 @@ same-length : tie.Need-same-length
 same-length c = search needs
 
 returns : tie.Need-returns
-returns c = search needs
+returns c = failure refl
 
 slice-reshare-prefix-list : tie.Need-slice-reshare-prefix-list
 slice-reshare-prefix-list c = search needs
@@ -71,7 +72,10 @@ same-length-3 : tie.Need-same-length-3
 same-length-3 c = search needs
 
 returns-2 : tie.Need-returns-2
-returns-2 c = search needs
+returns-2 c = failure refl
+
+step-after-requires : tie.Need-step-after-requires
+step-after-requires c κs = search needs
 
 same-length-4 : tie.Need-same-length-4
 same-length-4 c = search needs
@@ -80,7 +84,10 @@ same-length-5 : tie.Need-same-length-5
 same-length-5 c = search needs
 
 returns-3 : tie.Need-returns-3
-returns-3 c = search needs
+returns-3 c =
+    let l = c .before .before .before .before .before .before in
+    let f = l .before .before .before .before .before .before .before in
+    listing (f .fill .result .count) (f .fill .ensures) (l .list .ensures .1) (c .step-after .ensures)
 
 pub relist-block-spec : {M : Type 1} → statement M
 relist-block-spec =
@@ -102,6 +109,7 @@ relist-block-spec =
     same-length-2
     same-length-3
     returns-2
+    step-after-requires
     same-length-4
     same-length-5
     returns-3)

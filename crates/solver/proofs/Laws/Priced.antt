@@ -6,11 +6,11 @@ use Rattle.prices.specs.declared.answer.Answer.the-variants.{Value, Refused}
 use Rattle.prices.specs.declared.point.PriceAndVega.{PriceAndVega}
 use Rattle.prices.specs.Vega.{vegaOf}
 use Rattle.prices.specs.Black.{callOf}
-use Rattle.prices.specs.Point.{told}
+use Rattle.prices.specs.Inside.Point.{priceAndVega}
 use Rattle.prices.proofs.Laws.Refusals.{call-answer}
 use Rattle.prices.proofs.Laws.Exponentials.{price-told, refusal-told, vega-told}
 
-module _ (x s : Float) (p : PriceAndVega) (e : p ≡ told (callOf rules-0 x s) (vegaOf x s)) where
+module _ (x s : Float) (p : PriceAndVega) (e : p ≡ priceAndVega (callOf rules-0 x s) (vegaOf x s)) where
   pub price-is : p .number ≡ 0 → callOf rules-0 x s ≡ Value (p .price)
   price-is n = price-told _ (call-answer 1 rules-0 x s) (vegaOf x s) p e n
 

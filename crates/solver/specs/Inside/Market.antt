@@ -1,7 +1,7 @@
 -- The exponentials that the code hands along with x, and what it yields where a run begins. Definitions only.
 use mathlib.Core.Path.{_≡_}
 use Rattle.elementary.specs.Rules.{Rules}
-use Rattle.prices.specs.Black.{upOf, downOf}
+use Rattle.prices.specs.Inside.Exponentials.{upOf, downOf}
 use Rattle.solver.specs.declared.market.Market.{Market}
 use Rattle.solver.specs.declared.state.Start.{Start}
 use Rattle.solver.specs.declared.state.Start.the-variants.{Answered, Stopped, Looping}

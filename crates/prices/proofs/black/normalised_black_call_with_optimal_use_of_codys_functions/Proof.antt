@@ -1,6 +1,8 @@
 -- `black::normalised_black_call_with_optimal_use_of_codys_functions` meets its contract: what is not computed is not read. Assumes nothing.
 use mathlib.Core.Path.{_∙_}
-use Rattle.prices.specs.Black.{codysWith, codysOf}
+use Rattle.elementary.specs.Rules.{rules-0}
+use Rattle.prices.specs.Inside.Exponentials.{codysWith}
+use Rattle.prices.proofs.Laws.Exponentials.{codys-own}
 use Rattle.prices.proofs.black.Reading.{as-read}
 use borrow.Author.Needs.{needs}
 use Rattle.prices.proofs.black.normalised_black_call_with_optimal_use_of_codys_functions.Statement.{
@@ -24,14 +26,14 @@ codys-requires : tie.Need-codys-requires
 codys-requires c κs = search needs
 
 returns : tie.Need-returns
-unfolding codysOf codysWith
+unfolding codysWith
 returns c =
     let exp-term = c .before in
     let asked = exp-term .before in
     let down = asked .before in
     let up = down .before in
     c .codys .ensures
-    ∙ rw (exp-term .exp-where3 .ensures, asked .not-both .ensures, down .exp-where2 .ensures, up .exp-where .ensures, as-read)
+    ∙ rw (exp-term .exp-where3 .ensures, asked .not-both .ensures, down .exp-where2 .ensures, up .exp-where .ensures, as-read) (codys-own rules-0 _ _)
 
 pub normalised-black-call-with-optimal-use-of-codys-functions-spec : {M : Type 1} → statement M
 normalised-black-call-with-optimal-use-of-codys-functions-spec =

@@ -1,5 +1,5 @@
 -- `black::region` meets its contract: each way out is the arm that the tests before it leave. Assumes nothing.
-use Rattle.prices.specs.Black.{codysOf, regionWith}
+use Rattle.prices.specs.Black.{regionOf}
 use borrow.Author.Needs.{needs}
 use Rattle.prices.proofs.black.region.Statement.{statement}
 use Rattle.prices.proofs.black.region.Tie as tie
@@ -12,7 +12,7 @@ asymptotic-expansion-of-normalised-black-call-requires :
 asymptotic-expansion-of-normalised-black-call-requires c κs = search needs
 
 returns : tie.Need-returns
-unfolding regionWith
+unfolding regionOf
 returns c = rw (rw (c .before .before .is-asymptotic .ensures) at (c .before .if1 .taken)) (c .asymptotic-expansion-of-normalised-black-call .ensures)
 
 small-t-expansion-of-normalised-black-call-requires :
@@ -20,7 +20,7 @@ small-t-expansion-of-normalised-black-call-requires :
 small-t-expansion-of-normalised-black-call-requires c κs = search needs
 
 returns-2 : tie.Need-returns-2
-unfolding regionWith
+unfolding regionOf
 returns-2 c = rw (rw (c .before .before .before .is-asymptotic .ensures) at (c .before .before .if1 .left), c .before .if2 .taken) (c .small-t-expansion-of-normalised-black-call .ensures)
 
 normalised-black-call-with-optimal-use-of-codys-functions-requires :
@@ -28,7 +28,7 @@ normalised-black-call-with-optimal-use-of-codys-functions-requires :
 normalised-black-call-with-optimal-use-of-codys-functions-requires c κs = search needs
 
 returns-3 : tie.Need-returns-3
-unfolding codysOf regionWith
+unfolding regionOf
 returns-3 c = rw (c .normalised-black-call-with-optimal-use-of-codys-functions .ensures, rw (c .before .before .before .is-asymptotic .ensures) at (c .before .before .if1 .left), c .before .if2 .left)
 
 pub region-spec : {M : Type 1} → statement M

@@ -1,5 +1,5 @@
 -- `black::two_b` meets its contract: each way out is the arm that the tests before it leave. Assumes nothing.
-use Rattle.prices.specs.Black.{twoBWith}
+use Rattle.prices.specs.Inside.Exponentials.{twoBWith}
 use borrow.Author.Needs.{needs}
 use Rattle.prices.proofs.black.two_b.Statement.{statement}
 use Rattle.prices.proofs.black.two_b.Tie as tie

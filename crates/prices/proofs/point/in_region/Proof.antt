@@ -1,6 +1,7 @@
 -- `point::in_region` meets its contract: each way out is the arm that the tests before it leave. Assumes nothing.
 use Rattle.elementary.proofs.Laws.Compare.{not-le-of-lt}
-use Rattle.prices.specs.Black.{SMALL-T, smallTOf, codysWith, regionWith}
+use Rattle.prices.specs.Black.{SMALL-T, smallTOf}
+use Rattle.prices.specs.Inside.Exponentials.{codysWith, regionWith}
 use borrow.Author.Needs.{needs}
 use Rattle.prices.proofs.point.in_region.Statement.{statement}
 use Rattle.prices.proofs.point.in_region.Tie as tie

@@ -1,5 +1,5 @@
 -- `point::out_of_the_money` meets its contract: each way out is the arm that the tests before it leave. Assumes nothing.
-use Rattle.prices.specs.Black.{outOfTheMoneyWith}
+use Rattle.prices.specs.Inside.Exponentials.{outOfTheMoneyWith}
 use borrow.Author.Needs.{needs}
 use Rattle.prices.proofs.point.out_of_the_money.Statement.{statement}
 use Rattle.prices.proofs.point.out_of_the_money.Tie as tie

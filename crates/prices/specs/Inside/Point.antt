@@ -5,7 +5,7 @@ use Rattle.prices.specs.declared.answer.Answer.{Answer}
 use Rattle.prices.specs.declared.answer.Answer.the-variants.{Value, Refused}
 use Rattle.prices.specs.declared.point.PriceAndVega.{PriceAndVega}
 
--- number 0 tells a price; a refusal has none, and +0 stands for it
-abbrev pub told : Answer → Float → PriceAndVega
-told (Value b) v = record { number = 0; price = b; vega = v }
-told (Refused n) v = record { number = n; price = +0; vega = v }
+-- Number 0 says that there is a price. A refusal has none: the code writes +0, which nobody reads; a NaN, as in Answers, would cost it a division.
+abbrev pub priceAndVega : Answer → Float → PriceAndVega
+priceAndVega (Value b) v = record { number = 0; price = b; vega = v }
+priceAndVega (Refused n) v = record { number = n; price = +0; vega = v }

@@ -1,0 +1,93 @@
+-- The promises of specs/Promises, each under its name: what a rule's tests leave, and the laws. Assumes nothing.
+use mathlib.Core.Path.{_≡_, refl, _∙_}
+use mathlib.Core.Logic.{_⊎_, inl, inr}
+use mathlib.Core.Bool.{Bool, true, false, cond, _&&_, _||_}
+use Prim.Native.Nat.{ℕ}
+use lib.Ieee.{Float, le}
+use Rattle.elementary.specs.Ops.{_⊖_, EPSILON}
+use Rattle.elementary.specs.Methods.{absOf}
+use Rattle.prices.specs.declared.answer.Answer.{Answer}
+use Rattle.prices.specs.declared.answer.Answer.the-variants.{Value, Refused}
+use Rattle.prices.specs.Answers.{numberOf}
+use Rattle.prices.specs.Black.{SMALL-T, smallTInner, smallTOf, isOutside, asymptoticInner, asymptoticOf, added, isPositiveNormal, isFinite, blackAt, blackOf}
+use Rattle.prices.specs.RationalCubic.{isInfinite, interpolationOf}
+use Rattle.prices.specs.Promises.{Small-t-number, Asymptotic-number, Cubic-number, Is-0-or-7, Call-numbers, Black-numbers, Black-order, Call-recursion, Black-recursion}
+use Rattle.prices.proofs.Laws.Refusals.{call-answer, at-answer, call-number}
+use Rattle.prices.proofs.Laws.Recursion.{other-kind-out, call-turns, in-turns, out-stays}
+
+-- a refusal n where b holds, else a value
+refused : (b : Bool) (n : ℕ) (v : Float) → numberOf (cond b (Refused n) (Value v)) ≡ cond b n 0
+refused true n v = refl
+refused false n v = refl
+
+pub small-t-number : Small-t-number
+unfolding smallTOf
+small-t-number h t = refused (le SMALL-T t) 8 (smallTInner h t)
+
+pub asymptotic-number : Asymptotic-number
+unfolding asymptoticOf
+asymptotic-number h t = refused (isOutside h t) 7 (asymptoticInner h t)
+
+pub cubic-number : Cubic-number
+unfolding interpolationOf
+cubic-number x x-l x-r y-l y-r d-l d-r r = go (isInfinite x || (isInfinite x-l || isInfinite x-r)) (le (absOf (x-r ⊖ x-l)) EPSILON) _ _
+  where
+    go : (a b : Bool) (v w : Float) → numberOf (cond a (Refused 6) (cond b (Value v) (Value w))) ≡ cond a 6 0
+    go true b v w = refl
+    go false true v w = refl
+    go false false v w = refl
+
+pub call-numbers : Call-numbers
+call-numbers rules x s = call-number (call-answer 1 rules x s)
+
+-- black after its four tests, with p for an accepted input
+abbrev tested : Bool → Bool → Bool → Bool → Answer → Answer
+tested a b c d p = cond a (cond b (cond c (cond d p (Refused 4)) (Refused 5)) (Refused 3)) (Refused 2)
+
+pub black-numbers : Black-numbers
+unfolding blackOf
+black-numbers rules f k s e kind = go (isPositiveNormal f) (isPositiveNormal k) (isFinite s) (isPositiveNormal e) (blackAt 1 rules f k s e kind) (call-number (at-answer 1 rules f k s e kind))
+  where
+    go : (a b c d : Bool) (p : Answer) → Is-0-or-7 (numberOf p)
+        → let n = numberOf (tested a b c d p) in Is-0-or-7 n ⊎ ((n ≡ 2) ⊎ ((n ≡ 3) ⊎ ((n ≡ 4) ⊎ (n ≡ 5))))
+    go true true true true p h = inl h
+    go true true true false p h = inr (inr (inr (inl refl)))
+    go true true false d p h = inr (inr (inr (inr refl)))
+    go true false c d p h = inr (inr (inl refl))
+    go false b c d p h = inr (inl refl)
+
+pub black-order : Black-order
+unfolding blackOf
+black-order = record {
+  forward-first = λ rules f k s e kind a. rw a;
+  then-strike = λ rules f k s e kind a b. rw (a, b);
+  then-sigma = λ rules f k s e kind a b c. rw (a, b, c);
+  then-expiry = λ rules f k s e kind a b c d. rw (a, b, c, d);
+  else-priced = λ rules f k s e kind a b c d. rw (a, b, c, d) (call-number (at-answer 1 rules f k s e kind));
+}
+
+pub call-recursion : Call-recursion
+call-recursion = call-turns
+
+-- an amount added passes through the tests
+added-inside : (a b c d : Bool) (v : Float) (p : Answer) → tested a b c d (added v p) ≡ added v (tested a b c d p)
+added-inside true true true true v p = refl
+added-inside true true true false v p = refl
+added-inside true true false d v p = refl
+added-inside true false c d v p = refl
+added-inside false b c d v p = refl
+
+accepted : (a b c d : Bool) (p : Answer) → (a && (b && (c && d))) ≡ true → tested a b c d p ≡ p
+accepted true true true true p h = refl
+accepted true true true false p h = cc
+accepted true true false d p h = cc
+accepted true false c d p h = cc
+accepted false b c d p h = cc
+
+pub black-recursion : Black-recursion
+unfolding blackOf
+black-recursion = record {
+  in-the-money = λ rules f k s e kind h. rw (in-turns rules f k s e kind h) (added-inside (isPositiveNormal f) (isPositiveNormal k) (isFinite s) (isPositiveNormal e) _ _);
+  ends = λ f k kind h. other-kind-out kind (f ⊖ k) h;
+  elsewhere = λ rules f k s e kind h a. accepted (isPositiveNormal f) (isPositiveNormal k) (isFinite s) (isPositiveNormal e) _ a ∙ out-stays rules f k s e kind h;
+}

@@ -1,0 +1,2 @@
+-- Words that only the contracts of private functions use; no promise leans on them.
+pub mod Steps
