@@ -284,7 +284,8 @@ fn region(x: f64, s: f64) -> Answer
     Answer::Value(normalised_black_call_with_optimal_use_of_codys_functions(x, s))
 }
 
-// Where sigma is 0 or below, the intrinsic value.
+// Where s is 0 or below and x is finite, the intrinsic value; at an infinite x the product is NaN and
+// the test fails.
 fn out_of_the_money(x: f64, s: f64) -> Answer
     ensures { λ r. ⌜ r ≡ outOfTheMoney rules-0 x s ⌝ }
 {

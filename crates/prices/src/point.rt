@@ -88,7 +88,8 @@ fn in_region(x: f64, s: f64, up: f64, down: f64, exp_term: f64, vega: f64) -> Pr
     priced(codys(up, down, exp_term, q1, q2), vega)
 }
 
-// Where sigma is 0 or below, the intrinsic value.
+// Where s is 0 or below and x is finite, the intrinsic value; at an infinite x the product is NaN and
+// the test fails.
 fn out_of_the_money(x: f64, s: f64, up: f64, down: f64, exp_term: f64, vega: f64) -> PriceAndVega
     requires { ⌜ «exp_term» ≡ bellOf (x ⊘ s) (half ⊗ s) ⌝ }
     ensures { λ r. ⌜ r ≡ priceAndVega (outOfTheMoneyWith rules-0 up down x s) vega ⌝ }
