@@ -22,10 +22,8 @@ use Rattle.prices.specs.Black.{callOf}
 use Rattle.prices.specs.RationalCubic.{interpolationOf, convexParameterOf}
 use Rattle.solver.specs.declared.state.State.{State}
 use Rattle.solver.specs.declared.state.Mapped.{Mapped}
-use Rattle.solver.specs.declared.state.Start.{Start}
-use Rattle.solver.specs.declared.state.Start.the-variants.{Answered, Stopped, Looping}
 use Rattle.solver.specs.declared.state.Stepped.{Stepped}
-use Rattle.solver.specs.Step.{lowerStep, upperStep, generalStep, branchStep}
+use Rattle.solver.specs.Step.{lowerStep, upperStep, generalStep}
 
 -- The Rust's constants, as it rounds them.
 abbrev pub SQRT-DBL-MAX : Float
@@ -129,12 +127,6 @@ pub data Begun : Type 0 where
   stopped : ℕ → Begun
   -- the branch, the target, the loop's step and the state before the first one
   looping : ℕ → Float → (State → Stepped) → State → Begun
-
--- what the code's three cases say; the branch tells the loop's step
-abbrev pub begunFrom : Rules → Start → Begun
-begunFrom rules (Answered v) = answered v
-begunFrom rules (Stopped n) = stopped n
-begunFrom rules (Looping branch m st) = looping branch (m .beta) (branchStep rules branch (m .«b_max») (m .x) (m .beta)) st
 
 unfoldable pub withValue : Answer → (Float → Begun) → Begun
 withValue (Value b) f = f b

@@ -1,7 +1,5 @@
 -- The three steps of so_rational.rs, operation by operation. Definitions only.
 use mathlib.Core.Bool.{Bool, cond, _&&_, _||_}
-use Prim.Native.Nat.{ℕ}
-use lib.Dec.{eqb}
 use lib.Ieee.{Float, neg, lt, le}
 use Rattle.elementary.specs.Ops.{_⊕_, _⊖_, _⊗_, _⊘_, bits, float, +0, half, one, two, EPSILON, MIN, quarter}
 use Rattle.elementary.specs.Rules.{Rules}
@@ -123,21 +121,6 @@ upperStep rules b-max x beta st = stepBy (upperDs b-max x beta) halved rules x b
 
 unfoldable pub generalStep : Rules → Float → Float → State → Stepped
 generalStep rules x beta st = stepBy (generalDs x beta) plain rules x beta st
-
--- ---- the branch's own: branch 1 has the lower loop, branch 4 the upper one, every other branch the general one
-
-abbrev pub branchDs : ℕ → Float → Float → Float → Float → Float → Float → Ends → Float
-branchDs branch b-max x beta s b bp bracket =
-    let lower = lowerDs x beta s b bp bracket in
-    let upper = upperDs b-max x beta s b bp bracket in
-    let general = generalDs x beta s b bp bracket in
-    cond (eqb branch 1) lower (cond (eqb branch 4) upper general)
-
-abbrev pub branchAfter : ℕ → Float → Float → Float
-branchAfter branch s ds = cond (eqb branch 1) (halved s ds) (cond (eqb branch 4) (halved s ds) (plain s ds))
-
-abbrev pub branchStep : Rules → ℕ → Float → Float → Float → State → Stepped
-branchStep rules branch b-max x beta = stepBy (branchDs branch b-max x beta) (branchAfter branch) rules x beta
 
 -- ---- what a state leads to
 

@@ -1,5 +1,4 @@
 -- Numbers as little-endian bytes, and the bytes of the trail: 48 for each record, six floats as bits, and then what stood there before. Definitions only.
-use mathlib.Core.Bool.{Bool, cond}
 use mathlib.Core.List.{List, [], _∷_, _++_}
 use Prim.Native.Nat.{ℕ, zero, suc, _+_, _*_, _/_, _%_}
 use lib.ListN.{length, take, drop}
@@ -46,7 +45,3 @@ allBytes (r ∷ rs) = recordBytes r ++ allBytes rs
 -- the trail after a run: record i at byte 48 × i, and the old bytes after the last record
 unfoldable pub trailAfter : List Record → List ℕ → List ℕ
 trailAfter rs old = allBytes rs ++ drop (48 * length rs) old
-
--- the same where a trail is kept, and the old bytes where none is
-abbrev pub keptAfter : Bool → List Record → List ℕ → List ℕ
-keptAfter keep rs old = cond keep (trailAfter rs old) old

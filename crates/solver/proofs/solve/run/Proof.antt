@@ -12,7 +12,8 @@ use Rattle.elementary.specs.Rules.{rules-0}
 use Rattle.solver.specs.declared.state.State.{State}
 use Rattle.solver.specs.declared.state.Stepped.{Stepped}
 use Rattle.solver.specs.Loop.{tested, limited, refused, run}
-use Rattle.solver.specs.Step.{nextBy, branchStep}
+use Rattle.solver.specs.Step.{nextBy}
+use Rattle.solver.specs.Inside.Branch.{branchStep}
 use Rattle.solver.specs.Trail.{recordBytes}
 use Rattle.solver.proofs.solve.run.Statement.{statement}
 use Rattle.solver.proofs.solve.run.Tie as tie
