@@ -1,7 +1,6 @@
 -- What a case of an answer says: document 01's number, 0 where there is none, and its values. Definitions only.
 use mathlib.Core.Bool.{Bool, true, false}
 use Prim.Native.Nat.{ℕ}
-use lib.Dec.{eqb}
 use lib.Ieee.{Float, nan}
 use Rattle.solver.specs.declared.state.Solution.{Solution}
 use Rattle.solver.specs.declared.state.Solution.the-variants.{Solved, Refused}
@@ -34,11 +33,6 @@ endingIn (Refused number steps) = 0
 abbrev pub stepsIn : Solution → ℕ
 stepsIn (Solved v branch ending steps) = steps
 stepsIn (Refused number steps) = steps
-
--- the run ended for its limit: ending 2
-abbrev pub endedByLimit : Solution → Bool
-endedByLimit (Solved v branch ending steps) = eqb ending 2
-endedByLimit (Refused number steps) = false
 
 -- ---- file's
 
