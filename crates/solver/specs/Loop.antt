@@ -23,6 +23,7 @@ module _ {S R : Type 0} where
   abbrev pub after : List R → Run S R → Run S R
   after rs w = record { records = rs ++ w .records; ending = w .ending }
 
+  -- a step's record and then the rest, or the ending
   abbrev pub follow : Turn S R → (S → Run S R) → Run S R
   follow (goes r s) rest = after (r ∷ []) (rest s)
   follow (ends e) rest = record { records = []; ending = e }

@@ -16,6 +16,7 @@ use Rattle.solver.specs.declared.state.Stepped.{Stepped}
 use Rattle.solver.specs.declared.state.Stepped.the-variants.{Went, Refused}
 use Rattle.solver.specs.Loop.{Turn, goes, ends, tested, refused}
 
+-- the factor that a third-order step puts on Newton's
 unfoldable pub householderFactor : Float → Float → Float → Float
 householderFactor newton halley hh3 = (one ⊕ half ⊗ halley ⊗ newton) ⊘ (one ⊕ newton ⊗ (halley ⊕ hh3 ⊗ newton ⊘ float 6))
 
@@ -34,10 +35,11 @@ toMiddle bracket s = half ⊗ (bracket .left ⊕ bracket .right) ⊖ s
 
 -- ---- ds of each loop
 
--- (x / s)² / s − s / 4, and the third-order term that goes with it
+-- (x / s)² / s − s / 4
 abbrev pub halleyOf : Float → Float → Float
 halleyOf x s = squareOf (x ⊘ s) ⊘ s ⊖ s ⊘ float 4
 
+-- halley² − 3 (x / s²)² − 1/4
 abbrev pub hh3Of : Float → Float → Float → Float
 hh3Of halley x s = halley ⊗ halley ⊖ float 3 ⊗ squareOf (x ⊘ (s ⊗ s)) ⊖ quarter
 
@@ -86,6 +88,7 @@ generalDs x beta s b bp bracket =
 abbrev pub halved : Float → Float → Float
 halved s ds = s ⊕ maxOf ds (neg half ⊗ s)
 
+-- general loop: the whole step
 abbrev pub plain : Float → Float → Float
 plain s ds = s ⊕ ds
 
@@ -96,12 +99,15 @@ module _ (dsOf : Float → Float → Float → Ends → Float) (afterOf : Float 
   abbrev pub bracketOf : Ends
   bracketOf = endsAfter b beta (st .s) (st .left) (st .right)
 
+  -- the step's ds
   abbrev pub dsAt : Float
   dsAt = dsOf (st .s) b vega bracketOf
 
+  -- the step's record
   abbrev pub recordOf : Record
   recordOf = record { s = st .s; b = b; vega = vega; left = bracketOf .left; right = bracketOf .right; after = afterOf (st .s) dsAt }
 
+  -- the state after it
   abbrev pub stateAfter : State
   stateAfter = record { s = afterOf (st .s) dsAt; ds = dsAt; previous = st .ds; left = bracketOf .left; right = bracketOf .right }
 
@@ -110,15 +116,19 @@ abbrev pub withPrice : Answer → (Float → Stepped) → Stepped
 withPrice (Value b) f = f b
 withPrice (Number n) f = Refused n
 
+-- a step with these formulas of ds and of s after
 abbrev pub stepBy : (Float → Float → Float → Ends → Float) → (Float → Float → Float) → Rules → Float → Float → State → Stepped
 stepBy dsOf afterOf rules x beta st = withPrice (callOf rules x (st .s)) (λ b. Went (stateAfter dsOf afterOf beta st b (vegaOf x (st .s))) (recordOf dsOf afterOf beta st b (vegaOf x (st .s))))
 
+-- branch 1
 unfoldable pub lowerStep : Rules → Float → Float → State → Stepped
 lowerStep rules x beta st = stepBy (lowerDs x beta) halved rules x beta st
 
+-- branch 4
 unfoldable pub upperStep : Rules → Float → Float → Float → State → Stepped
 upperStep rules b-max x beta st = stepBy (upperDs b-max x beta) halved rules x beta st
 
+-- branches 2, 3 and 5
 unfoldable pub generalStep : Rules → Float → Float → State → Stepped
 generalStep rules x beta st = stepBy (generalDs x beta) plain rules x beta st
 
@@ -128,6 +138,7 @@ generalStep rules x beta st = stepBy (generalDs x beta) plain rules x beta st
 unfoldable pub isClose : State → Bool
 isClose st = le (absOf (st .ds)) (EPSILON ⊗ st .s)
 
+-- a completed step goes on, a refused one ends the run
 abbrev pub turnOf : Stepped → Turn State Record
 turnOf (Went st r) = goes r st
 turnOf (Refused n) = ends (refused n)

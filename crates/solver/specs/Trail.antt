@@ -10,6 +10,7 @@ abbrev pub bytesOf : ℕ → ℕ → List ℕ
 bytesOf zero n = []
 bytesOf (suc k) n = n % 256 ∷ bytesOf k (n / 256)
 
+-- a float's bits as 8 bytes
 abbrev pub floatBytes : Float → List ℕ
 floatBytes x = bytesOf 8 (toBits binary64 x)
 
@@ -18,12 +19,15 @@ abbrev pub numberFrom : List ℕ → ℕ
 numberFrom [] = 0
 numberFrom (b ∷ bs) = b + 256 * numberFrom bs
 
+-- so many bytes from a place on
 abbrev pub part : ℕ → ℕ → List ℕ → List ℕ
 part at size bytes = take size (drop at bytes)
 
+-- the number that stands there
 abbrev pub numberAt : ℕ → ℕ → List ℕ → ℕ
 numberAt at size bytes = numberFrom (part at size bytes)
 
+-- the float that stands there
 abbrev pub floatAt : ℕ → List ℕ → Float
 floatAt at bytes = ofBits binary64 (numberAt at 8 bytes)
 
@@ -38,6 +42,7 @@ unfoldable pub recordBytes : Record → List ℕ
 recordBytes r =
     floatBytes (r .s) ++ floatBytes (r .b) ++ floatBytes (r .vega) ++ floatBytes (r .left) ++ floatBytes (r .right) ++ floatBytes (r .after)
 
+-- the records' bytes, one after another
 abbrev pub allBytes : List Record → List ℕ
 allBytes [] = []
 allBytes (r ∷ rs) = recordBytes r ++ allBytes rs

@@ -67,9 +67,9 @@ loop-less c = search needs
 loop-again : tie.Need-loop-again Inv-loop μ-loop
 unfolding recordBytes
 loop-again c =
-    let told = c .before in
-    let next = told .before .next .given in
-    let step = told .before .before .before in
+    let ahead = c .before in
+    let next = ahead .before .next .given in
+    let step = ahead .before .before .before in
     let test = step .before in
     let room = test .before .before in
     let at = room .before in
