@@ -55,7 +55,7 @@ module _ (set : RuleSet) (price forward strike expiry : Float) (kind : OptionTyp
   formed : (n : ℤ) (t : Trail) → Formed (isShort n t) (begun (isShort n t))
   formed n t = begun-formed set (isShort n t) price forward strike expiry kind
 
-  kept : (n : ℤ) (t : Trail) → Kept (begin n t) (run n t)
+  kept : (n : ℤ) (t : Trail) → Kept (stepsOf n) (begin n t) (run n t)
   kept n t = rw (begin-is n t, run-is n t) (run-kept _ (formed n t) expiry (stepsOf n))
 
   sentences : Sentences begin run
@@ -63,7 +63,7 @@ module _ (set : RuleSet) (price forward strike expiry : Float) (kind : OptionTyp
     longer = λ n m t t′ l a b. rw (long-run-is n t a, long-run-is m t′ b) (longer-run (begun false) expiry (stepsOf n) (stepsOf m) l);
     steps = λ n t. rw (run-is n t) (run-steps _ expiry (stepsOf n));
     each-run = kept;
-    half-step = λ n t. answer-half (begin n t) (run n t) (kept n t);
+    half-step = λ n t. answer-half (stepsOf n) (begin n t) (run n t) (kept n t);
     without-trail = λ n t l.
         let e = long-run-is n none tt ∙ sym (long-run-is n t l) in
         (ap (λ w. w .records) e, ap (λ w. w .answer) e);

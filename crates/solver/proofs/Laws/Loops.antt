@@ -1,7 +1,7 @@
 -- What solve's run is, by what it begins with: the sentences of demand 3 for `solvingOf`, with a short limit and a long one, and of every record of a loop. Assumes
 -- nothing.
 use mathlib.Core.Path.{_≡_, refl, sym, ap, _∙_, subst}
-use mathlib.Core.Bool.{Bool, true, false, true≢false}
+use mathlib.Core.Bool.{Bool, true, false, cond, true≢false}
 use mathlib.Core.Logic.{_⊎_, inl, inr}
 use mathlib.Core.List.{List, [], _∷_, List·Memᴰ as OneOf, List·Memᴰ·head as first, List·Memᴰ·tail as next}
 use Prim.Native.Nat.{ℕ, _≤_, _<_, zero-le}
@@ -17,16 +17,17 @@ use Rattle.solver.specs.declared.state.State.{State}
 use Rattle.solver.specs.declared.state.Record.{Record}
 use Rattle.solver.specs.declared.state.Ends.{Ends}
 use Rattle.solver.specs.declared.state.Stepped.{Stepped}
+use Rattle.solver.specs.declared.state.Stepped.the-variants.{Went, Refused as NoStep}
 use Rattle.solver.specs.declared.state.Solution.{Solution}
 use Rattle.solver.specs.declared.state.Solution.the-variants.{Solved, Refused}
-use Rattle.solver.specs.Loop.{Ending, tested, limited, refused, Run, run, goes}
-use Rattle.solver.specs.Step.{lowerDs, upperDs, generalDs, halved, plain, stepBy, lowerStep, upperStep, generalStep, nextBy}
+use Rattle.solver.specs.Loop.{Ending, tested, limited, refused, Run, run, goes, ends}
+use Rattle.solver.specs.Step.{lowerDs, upperDs, generalDs, halved, plain, stepBy, lowerStep, upperStep, generalStep, isClose, turnOf, nextBy}
 use Rattle.solver.specs.Guess.{Begun, answered, stopped, looping}
 use Rattle.solver.specs.Answers.{numberIn, branchIn, endingIn, stepsIn}
 use Rattle.solver.specs.Solve.{Solving, answerOf, ran, solvingOf}
 use Rattle.solver.specs.Promises.Demand3.{At, here, there, LeavesHalf, Longer, InLoop, FromLoop, Kept}
 use Rattle.solver.specs.Promises.Answers.{Numbers}
-use Rattle.solver.proofs.Laws.Runs.{byLimit, begins, same, steps, trace, every}
+use Rattle.solver.proofs.Laws.Runs.{byLimit, Counts, counts, begins, same, steps, trace, every}
 use Rattle.solver.proofs.Laws.Bracket.{Moved, completed, left-never-falls, right-never-grows, left-stays, right-stays, left-from, right-from}
 use Rattle.solver.proofs.Laws.Half.{leaves-half}
 use Rattle.solver.proofs.Laws.Numbers.{Refusal, price-number, forward-number, strike-number, expiry-number, trail-number, cubic-number, region-number, OnlySeven, loop-ends}
@@ -73,13 +74,24 @@ run-steps (looping branch beta step st) expiry n =
     (rw e (steps (nextBy step) n st), sym e)
 
 -- ---- the records of a loop, and what it answers
-from-loop : (branch : ℕ) → (1 ≤ branch) × (branch ≤ 5) → (root : Float) (w : Run State Record) → OnlySeven (w .ending) → FromLoop branch (ran branch root w)
-from-loop branch range root w = go (w .ending)
+-- no state leads to the limit
+not-limited : (step : State → Stepped) (st : State) (e : Ending State) → nextBy step st ≡ ends e → byLimit e ≡ false
+not-limited step st (tested q) h = refl
+not-limited step st (refused k) h = refl
+not-limited step st (limited q) h = go (isClose st) (step st) h
   where
-    go : (e : Ending State) → OnlySeven e → FromLoop branch (record { records = w .records; answer = answerOf branch root e (length (w .records)) })
-    go (tested st) h = record { a-loop = range; number = inl refl; answer = λ z. (refl, inl refl) }
-    go (limited st) h = record { a-loop = range; number = inl refl; answer = λ z. (refl, inr refl) }
-    go (refused k) h = record { a-loop = range; number = inr h; answer = λ z. absurd (omega arith) }
+    go : (c : Bool) (w : Stepped) → cond c (ends (tested st)) (turnOf w) ≡ ends (limited q) → true ≡ false
+    go true w e = cc
+    go false (Went q′ r) e = cc
+    go false (NoStep k) e = cc
+
+from-loop : (branch : ℕ) → (1 ≤ branch) × (branch ≤ 5) → (root : Float) (n : ℕ) (w : Run State Record) → OnlySeven (w .ending) → Counts n w → FromLoop n branch (ran branch root w .answer)
+from-loop branch range root n w = go (w .ending)
+  where
+    go : (e : Ending State) → OnlySeven e → (byLimit e ≡ true → length (w .records) ≡ n) × (byLimit e ≡ false → length (w .records) < n) → FromLoop n branch (answerOf branch root e (length (w .records)))
+    go (tested st) h c = record { a-loop = range; number = inl refl; branch-is = λ z. refl; ending-is = λ z. inl (refl, c .1 refl) }
+    go (limited st) h c = record { a-loop = range; number = inl refl; branch-is = λ z. refl; ending-is = λ z. inr (refl, c .0 refl) }
+    go (refused k) h c = record { a-loop = range; number = inr h; branch-is = λ z. absurd (omega arith); ending-is = λ z. absurd (omega arith) }
 
 half-from : (r : Record) (s ds : Float) → r .s ≡ s → r .after ≡ halved s ds → T (fits binary64 s) → LeavesHalf r
 half-from r s ds a b f = rw (a, b) (leaves-half s ds f)
@@ -98,7 +110,7 @@ module _ (dsOf : Float → Float → Float → Ends → Float) (afterOf : Float 
   move : (q q′ : State) (r : Record) → nextBy step q ≡ goes r q′ → Moved beta q q′ r
   move q q′ r e = completed dsOf afterOf rules x beta q q′ r e .moved
 
-  in-loop : (branch : ℕ) → (1 ≤ branch) × (branch ≤ 5) → ((branch ≡ 1) ⊎ (branch ≡ 4) → HalfSteps) → InLoop branch beta (st .left) (st .right) (w .records) × FromLoop branch (ran branch root w)
+  in-loop : (branch : ℕ) → (1 ≤ branch) × (branch ≤ 5) → ((branch ≡ 1) ⊎ (branch ≡ 4) → HalfSteps) → InLoop branch beta (st .left) (st .right) (w .records) × FromLoop n branch (ran branch root w .answer)
   in-loop branch range half = (
     record {
       left-holds = left-never-falls step beta move n st;
@@ -109,7 +121,7 @@ module _ (dsOf : Float → Float → Float → Ends → Float) (afterOf : Float 
       right-is = right-from step beta move n st;
       half-step = half;
     },
-    from-loop branch range root w (loop-ends dsOf afterOf rules x beta n st),
+    from-loop branch range root n w (loop-ends dsOf afterOf rules x beta n st) (counts (nextBy step) (not-limited step) n st),
   )
 
 -- a step whose s after is `halved`
@@ -126,7 +138,7 @@ neither f g (inl e) = absurd (f e)
 neither f g (inr e) = absurd (g e)
 
 loop-kept : (branch : ℕ) (beta : Float) (step : State → Stepped) (st : State) → LoopForm branch beta step st → (root : Float) (n : ℕ)
-    → InLoop branch beta (st .left) (st .right) (run (nextBy step) n st .records) × FromLoop branch (ran branch root (run (nextBy step) n st))
+    → InLoop branch beta (st .left) (st .right) (run (nextBy step) n st .records) × FromLoop n branch (ran branch root (run (nextBy step) n st) .answer)
 unfolding lowerStep upperStep generalStep
 loop-kept branch beta step st (lower rules x f) root n =
     in-loop (lowerDs x beta) halved rules x beta root n st 1 (omega arith, omega arith) (λ o. half-steps (lowerDs x beta) rules x beta root n st f)
@@ -139,7 +151,7 @@ loop-kept branch beta step st (upper-middle rules x) root n =
 loop-kept branch beta step st (upper-tail rules x) root n =
     in-loop (generalDs x beta) plain rules x beta root n st 5 (omega arith, omega arith) (neither (λ e. omega arith) (λ e. omega arith))
 
-pub run-kept : {short : Bool} (b : Begun) → Formed short b → (expiry : Float) (n : ℕ) → Kept b (solvingOf b expiry n)
+pub run-kept : {short : Bool} (b : Begun) → Formed short b → (expiry : Float) (n : ℕ) → Kept n b (solvingOf b expiry n)
 unfolding solvingOf
 run-kept (answered v) f expiry n = (refl, refl, refl, refl, refl)
 run-kept (stopped k) f expiry n = (refl, refl)
@@ -154,18 +166,18 @@ refused-branch : (a : Solution) → numberIn a ≡ 7 → branchIn a ≡ 0
 refused-branch (Solved v branch ending steps) e = absurd (omega arith)
 refused-branch (Refused n steps) e = refl
 
-loop-branch : (branch : ℕ) (w : Solving) → FromLoop branch w → (branchIn (w .answer) ≡ 1) ⊎ (branchIn (w .answer) ≡ 4) → branchIn (w .answer) ≡ branch
-loop-branch branch w f o = go (f .number) o
+loop-branch : {limit branch : ℕ} {a : Solution} → FromLoop limit branch a → (branchIn a ≡ 1) ⊎ (branchIn a ≡ 4) → branchIn a ≡ branch
+loop-branch {limit} {branch} {a} f = go (f .number)
   where
-    go : (numberIn (w .answer) ≡ 0) ⊎ (numberIn (w .answer) ≡ 7) → (branchIn (w .answer) ≡ 1) ⊎ (branchIn (w .answer) ≡ 4) → branchIn (w .answer) ≡ branch
-    go (inl z) o = f .answer z .0
-    go (inr z) (inl o) = absurd (omega (arith, refused-branch (w .answer) z))
-    go (inr z) (inr o) = absurd (omega (arith, refused-branch (w .answer) z))
+    go : (numberIn a ≡ 0) ⊎ (numberIn a ≡ 7) → (branchIn a ≡ 1) ⊎ (branchIn a ≡ 4) → branchIn a ≡ branch
+    go (inl z) o = f .branch-is z
+    go (inr z) (inl o) = absurd (omega (arith, refused-branch a z))
+    go (inr z) (inr o) = absurd (omega (arith, refused-branch a z))
 
-pub answer-half : (b : Begun) (w : Solving) → Kept b w → (branchIn (w .answer) ≡ 1) ⊎ (branchIn (w .answer) ≡ 4) → (i : ℕ) (r : Record) → At (w .records) i r → LeavesHalf r
-answer-half (answered v) w k o i r a = absurd (nothing-at a (k .0))
-answer-half (stopped n) w k o i r a = absurd (nothing-at a (k .0))
-answer-half (looping branch beta step st) w k o i r a = k .0 .half-step (subst (λ c. (c ≡ 1) ⊎ (c ≡ 4)) (loop-branch branch w (k .1) o) o) i r a
+pub answer-half : (n : ℕ) (b : Begun) (w : Solving) → Kept n b w → (branchIn (w .answer) ≡ 1) ⊎ (branchIn (w .answer) ≡ 4) → (i : ℕ) (r : Record) → At (w .records) i r → LeavesHalf r
+answer-half n (answered v) w k o i r a = absurd (nothing-at a (k .0))
+answer-half n (stopped m) w k o i r a = absurd (nothing-at a (k .0))
+answer-half n (looping branch beta step st) w k o i r a = k .0 .half-step (subst (λ c. (c ≡ 1) ⊎ (c ≡ 4)) (loop-branch (k .1) o) o) i r a
 
 -- ---- the numbers
 refusal-number : {short : Bool} {k : ℕ} → Refusal short k → OneOf k (0 ∷ 1 ∷ 2 ∷ 3 ∷ 4 ∷ 21 ∷ 6 ∷ 7 ∷ [])

@@ -4,7 +4,7 @@ use mathlib.Core.Path.{_≡_}
 use mathlib.Core.Bool.{true, false}
 use mathlib.Core.Logic.{_⊎_}
 use mathlib.Core.List.{List, [], _∷_, _++_}
-use Prim.Native.Nat.{ℕ, suc, _*_, _≤_}
+use Prim.Native.Nat.{ℕ, suc, _*_, _≤_, _<_}
 use lib.Dec.{T, ltb}
 use lib.IntN.{ℤ}
 use lib.ListN.{length, take}
@@ -13,6 +13,7 @@ use lib.Ieee.Scale.{finite}
 use Rattle.elementary.specs.Ops.{_⊘_, bits, two}
 use Rattle.prices.specs.declared.inputs.OptionType.{OptionType}
 use Rattle.solver.specs.declared.state.Record.{Record}
+use Rattle.solver.specs.declared.state.Solution.{Solution}
 use Rattle.solver.specs.RuleSets.{RuleSet}
 use Rattle.solver.specs.Guess.{Begun, answered, stopped, looping}
 use Rattle.solver.specs.Solve.{begunOf, Solving, solveOf, solveWithTrail, stepsOf}
@@ -90,17 +91,18 @@ pub record InLoop (branch : ℕ) (beta left right : Float) (rs : List Record) : 
   -- 6. In the lower and upper loops every completed step from a finite s of at least 2^−1021 leaves at least s / 2.
   pub half-step : (branch ≡ 1) ⊎ (branch ≡ 4) → (i : ℕ) (r : Record) → At rs i r → LeavesHalf r
 
--- what a loop of this branch answers: its own branch, 1 to 5, with ending 1 or 2; or 7
-pub record FromLoop (branch : ℕ) (w : Solving) : Type 0 where
+-- what a loop of this branch answers: 7, or its own branch, 1 to 5, with ending 2 after as many steps as its limit and else 1
+pub record FromLoop (limit branch : ℕ) (a : Solution) : Type 0 where
   pub a-loop : (1 ≤ branch) × (branch ≤ 5)
-  pub number : (numberIn (w .answer) ≡ 0) ⊎ (numberIn (w .answer) ≡ 7)
-  pub answer : numberIn (w .answer) ≡ 0 → (branchIn (w .answer) ≡ branch) × ((endingIn (w .answer) ≡ 1) ⊎ (endingIn (w .answer) ≡ 2))
+  pub number : (numberIn a ≡ 0) ⊎ (numberIn a ≡ 7)
+  pub branch-is : numberIn a ≡ 0 → branchIn a ≡ branch
+  pub ending-is : numberIn a ≡ 0 → ((endingIn a ≡ 1) × (stepsIn a < limit)) ⊎ ((endingIn a ≡ 2) × (stepsIn a ≡ limit))
 
 -- one run, by what it begins with: without a loop it has no records, and an answer has branch 0 and ending 0
-abbrev pub Kept : Begun → Solving → Type 0
-Kept (answered v) w = (w .records ≡ []) × (numberIn (w .answer) ≡ 0) × (volatilityIn (w .answer) ≡ v) × (branchIn (w .answer) ≡ 0) × (endingIn (w .answer) ≡ 0)
-Kept (stopped n) w = (w .records ≡ []) × (numberIn (w .answer) ≡ n)
-Kept (looping branch beta step st) w = InLoop branch beta (st .left) (st .right) (w .records) × FromLoop branch w
+abbrev pub Kept : ℕ → Begun → Solving → Type 0
+Kept limit (answered v) w = (w .records ≡ []) × (numberIn (w .answer) ≡ 0) × (volatilityIn (w .answer) ≡ v) × (branchIn (w .answer) ≡ 0) × (endingIn (w .answer) ≡ 0)
+Kept limit (stopped n) w = (w .records ≡ []) × (numberIn (w .answer) ≡ n)
+Kept limit (looping branch beta step st) w = InLoop branch beta (st .left) (st .right) (w .records) × FromLoop limit branch (w .answer)
 
 pub record Sentences (begin : ℤ → Trail → Begun) (run : ℤ → Trail → Solving) : Type 0 where
   -- 1 and 2, of trails long enough and limits with max(n, 0) at most max(m, 0), so wherever n is at most m
@@ -108,7 +110,7 @@ pub record Sentences (begin : ℤ → Trail → Begun) (run : ℤ → Trail → 
   -- 3. In every run steps are at most the greater of its limit and 0; they are as many as its records.
   pub steps : (n : ℤ) (t : Trail) → (stepsIn (run n t .answer) ≤ stepsOf n) × (length (run n t .records) ≡ stepsIn (run n t .answer))
   -- 4, 5 and 6, of every run
-  pub each-run : (n : ℤ) (t : Trail) → Kept (begin n t) (run n t)
+  pub each-run : (n : ℤ) (t : Trail) → Kept (stepsOf n) (begin n t) (run n t)
   -- 6 again, from the answer's branch alone
   pub half-step : (n : ℤ) (t : Trail) → (branchIn (run n t .answer) ≡ 1) ⊎ (branchIn (run n t .answer) ≡ 4) → (i : ℕ) (r : Record) → At (run n t .records) i r → LeavesHalf r
   -- A run's records are those of its completed steps, whether a trail takes them or not; so is its answer.
