@@ -4,8 +4,8 @@ use mathlib.Core.List.{List, [], _∷_, _++_}
 use Prim.Native.Nat.{ℕ, suc, _+_, _-_, _*_, _/_, _^_}
 use lib.Dec.{leb, ltb, eqb}
 use lib.IntN.{ℤ, pos, negsuc}
-use lib.ListN.{length, take, drop, getD, replicate}
-use lib.Ieee.{Float, binary64, ofBits}
+use lib.ListN.{length, getD, replicate}
+use lib.Ieee.{Float}
 use Rattle.prices.specs.declared.inputs.OptionType.{OptionType}
 use Rattle.prices.specs.declared.inputs.OptionType.the-variants.{Call, Put}
 use Rattle.solver.specs.declared.state.Solution.{Solution}

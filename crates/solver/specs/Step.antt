@@ -1,7 +1,7 @@
 -- The three steps of so_rational.rs, operation by operation. Definitions only.
 use mathlib.Core.Bool.{Bool, cond, _&&_, _||_}
 use lib.Ieee.{Float, neg, lt, le}
-use Rattle.elementary.specs.Ops.{_⊕_, _⊖_, _⊗_, _⊘_, bits, float, +0, half, one, two, EPSILON, MIN, quarter}
+use Rattle.elementary.specs.Ops.{_⊕_, _⊖_, _⊗_, _⊘_, float, +0, half, one, two, EPSILON, MIN, quarter}
 use Rattle.elementary.specs.Rules.{Rules}
 use Rattle.elementary.specs.Methods.{absOf, maxOf, squareOf}
 use Rattle.elementary.specs.Ln.{lnOf}

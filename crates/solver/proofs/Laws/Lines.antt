@@ -12,7 +12,7 @@ use Rattle.solver.specs.declared.state.Solution.{Solution}
 use Rattle.solver.specs.declared.state.Solution.the-variants.{Solved, Refused}
 use Rattle.solver.specs.RuleSets.{RuleSet}
 use Rattle.solver.specs.Trail.{laid}
-use Rattle.solver.specs.Listing.{decimalBy, hexBy, answerBytes, answerAt, lineOf, Lined, lineIn}
+use Rattle.solver.specs.Listing.{decimalBy, hexBy, answerBytes, answerAt, lineOf, lineIn}
 
 short : (b : Bool) (x y : List ℕ) (m : ℕ) → length x ≤ m → length y ≤ m → length (cond b x y) ≤ m
 short true x y m p q = p

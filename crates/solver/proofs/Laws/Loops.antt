@@ -10,7 +10,6 @@ use lib.Dec.{T}
 use lib.ListN.{length}
 use lib.Ieee.{Float, binary64, fits}
 use lib.Ieee.Fits.{add-fits}
-use lib.Ieee.Scale.{finite}
 use Rattle.elementary.specs.Rules.{Rules}
 use Rattle.elementary.specs.Sqrt.{sqrtOf}
 use Rattle.solver.specs.declared.state.State.{State}
@@ -31,7 +30,7 @@ use Rattle.solver.proofs.Laws.Runs.{byLimit, Counts, counts, begins, sa
 use Rattle.solver.proofs.Laws.Bracket.{Moved, completed, left-never-falls, right-never-grows, left-stays, right-stays, left-from, right-from}
 use Rattle.solver.proofs.Laws.Half.{leaves-half}
 use Rattle.solver.proofs.Laws.Numbers.{Refusal, price-number, forward-number, strike-number, expiry-number, trail-number, cubic-number, region-number, OnlySeven, loop-ends}
-use Rattle.solver.proofs.Laws.Forms.{LoopForm, lower, upper, lower-middle, upper-middle, upper-tail, Formed, known, ended, loop}
+use Rattle.solver.proofs.Laws.Forms.{LoopForm, lower, upper, lower-middle, upper-middle, upper-tail, Formed, ended, loop}
 use Rattle.solver.proofs.Laws.Trails.{begins-alike}
 
 -- ---- a short run and a long one

@@ -18,7 +18,7 @@ use Rattle.solver.specs.declared.state.Ends.{Ends}
 use Rattle.solver.specs.declared.state.Mapped.{Mapped}
 use Rattle.solver.specs.declared.state.Stepped.{Stepped}
 use Rattle.solver.specs.declared.state.Stepped.the-variants.{Went, Refused}
-use Rattle.solver.specs.Loop.{Ending, tested, limited, refused, goes, ends, run}
+use Rattle.solver.specs.Loop.{Ending, tested, limited, refused, ends, run}
 use Rattle.solver.specs.Step.{recordOf, stateAfter, withPrice, stepBy, isClose, turnOf, nextBy}
 use Rattle.solver.specs.Guess.{SQRT-DBL-MAX, upperF}
 use Rattle.solver.specs.Solve.{inputNumber}

@@ -7,7 +7,7 @@ use mathlib.Core.List.{List, [], _∷_, _++_}
 use Prim.Native.Nat.{ℕ, zero, suc, _≤_, _<_, zero-le, suc-le-suc}
 use native.Mathlib.Omega.{arith}
 use lib.ListN.{length}
-use Rattle.solver.specs.Loop.{Ending, tested, limited, refused, Turn, goes, ends, Run, after, follow, run}
+use Rattle.solver.specs.Loop.{Ending, tested, limited, refused, Turn, goes, ends, Run, follow, run}
 use Rattle.solver.specs.Promises.Demand3.{At, here, there, Linked}
 
 -- the run reached its limit
