@@ -11,11 +11,11 @@ use Rattle.prices.specs.declared.inputs.OptionType.{OptionType}
 use Rattle.solver.specs.RuleSets.{RuleSet}
 use Rattle.solver.specs.Guess.{Begun}
 use Rattle.solver.specs.Solve.{begunOf, Solving, solvingOf, solvingWith, solveOf, solveWithTrail, stepsOf}
-use Rattle.solver.specs.Promises.Demand3.{Trail, none, of-bytes, LongEnough, runOf, beginOf, Kept, Sentences, Demand-3}
+use Rattle.solver.specs.Promises.Demand3.{Trail, none, of-bytes, LongEnough, runOf, beginOf, OneRun, Sentences, Demand-3}
 use Rattle.solver.specs.Promises.Answers.{Numbers, Solve-numbers, Line-length}
 use Rattle.solver.specs.Promises.Table.{Table}
-use Rattle.solver.proofs.Laws.Forms.{Formed, begun-formed}
-use Rattle.solver.proofs.Laws.Loops.{longer-run, run-steps, run-kept, answer-half, run-numbers}
+use Rattle.solver.proofs.Laws.Forms.{BeginForm, begin-form}
+use Rattle.solver.proofs.Laws.Loops.{longer-run, run-steps, one-run, answer-half, run-numbers}
 use Rattle.solver.proofs.Laws.Lines as lines
 use Rattle.solver.proofs.Table.{rows}
 
@@ -52,25 +52,25 @@ module _ (set : RuleSet) (price forward strike expiry : Float) (kind : OptionTyp
   long-run-is : (n : ℤ) (t : Trail) → LongEnough n t → run n t ≡ solvingOf (begun false) expiry (stepsOf n)
   long-run-is n t l = rw (run-is n t, not-short n t l)
 
-  formed : (n : ℤ) (t : Trail) → Formed (isShort n t) (begun (isShort n t))
-  formed n t = begun-formed set (isShort n t) price forward strike expiry kind
+  form : (n : ℤ) (t : Trail) → BeginForm (isShort n t) (begun (isShort n t))
+  form n t = begin-form set (isShort n t) price forward strike expiry kind
 
-  kept : (n : ℤ) (t : Trail) → Kept (stepsOf n) (begin n t) (run n t)
-  kept n t = rw (begin-is n t, run-is n t) (run-kept _ (formed n t) expiry (stepsOf n))
+  run-facts : (n : ℤ) (t : Trail) → OneRun (stepsOf n) (begin n t) (run n t)
+  run-facts n t = rw (begin-is n t, run-is n t) (one-run _ (form n t) expiry (stepsOf n))
 
   sentences : Sentences begin run
   sentences = record {
     longer = λ n m t t′ l a b. rw (long-run-is n t a, long-run-is m t′ b) (longer-run (begun false) expiry (stepsOf n) (stepsOf m) l);
     steps = λ n t. rw (run-is n t) (run-steps _ expiry (stepsOf n));
-    each-run = kept;
-    half-step = λ n t. answer-half (stepsOf n) (begin n t) (run n t) (kept n t);
+    each-run = run-facts;
+    half-step = λ n t. answer-half (stepsOf n) (begin n t) (run n t) (run-facts n t);
     without-trail = λ n t l.
         let e = long-run-is n none tt ∙ sym (long-run-is n t l) in
         (ap (λ w. w .records) e, ap (λ w. w .answer) e);
   }
 
   numbers : (n : ℤ) (t : Trail) → Numbers (LongEnough n t) (run n t .answer)
-  numbers n t = rw (run-is n t) (run-numbers (LongEnough n t) (not-short n t) _ (formed n t) expiry (stepsOf n))
+  numbers n t = rw (run-is n t) (run-numbers (LongEnough n t) (not-short n t) _ (form n t) expiry (stepsOf n))
 
 -- ---- the promises
 

@@ -30,23 +30,23 @@ pub data LoopForm : ℕ → Float → (State → Stepped) → State → Type 0 w
   upper-tail : (rules : Rules) (x : Float) {beta : Float} {st : State} → LoopForm 5 beta (generalStep rules x beta) st
 
 -- what a run can begin with; `short` says whether its trail is too short
-pub data Formed (short : Bool) : Begun → Type 0 where
-  known : {v : Float} → Formed short (answered v)
-  ended : {n : ℕ} → Refusal short n → Formed short (stopped n)
-  loop : {branch : ℕ} {beta : Float} {step : State → Stepped} {st : State} → LoopForm branch beta step st → Formed short (looping branch beta step st)
+pub data BeginForm (short : Bool) : Begun → Type 0 where
+  known : {v : Float} → BeginForm short (answered v)
+  ended : {n : ℕ} → Refusal short n → BeginForm short (stopped n)
+  loop : {branch : ℕ} {beta : Float} {step : State → Stepped} {st : State} → LoopForm branch beta step st → BeginForm short (looping branch beta step st)
 
 module _ {short : Bool} where
-  either : (c : Bool) {a b : Begun} → Formed short a → Formed short b → Formed short (cond c a b)
+  either : (c : Bool) {a b : Begun} → BeginForm short a → BeginForm short b → BeginForm short (cond c a b)
   either true h k = h
   either false h k = k
 
-  with-value : {a : Answer} → Passes a → (f : Float → Begun) → ((v : Float) → Formed short (f v)) → Formed short (withValue a f)
+  with-value : {a : Answer} → Passes a → (f : Float → Begun) → ((v : Float) → BeginForm short (f v)) → BeginForm short (withValue a f)
   unfolding withValue
   with-value (value {v}) f h = h v
   with-value cubic f h = ended cubic-number
   with-value region f h = ended region-number
 
-  on-value : {a : Answer} → Passes a → (g : Float → Float) (f : Float → Begun) → ((v : Float) → Formed short (f (g v))) → Formed short (withValue (onValue a g) f)
+  on-value : {a : Answer} → Passes a → (g : Float → Float) (f : Float → Begun) → ((v : Float) → BeginForm short (f (g v))) → BeginForm short (withValue (onValue a g) f)
   unfolding withValue onValue
   on-value (value {v}) g f h = h v
   on-value cubic g f h = ended cubic-number
@@ -61,52 +61,52 @@ unfolding inverseFUpperMapOf
 upper-fits rules f = mul-fits binary64 (neg two) (inverseOf rules f)
 
 module _ {short : Bool} where
-  lower-formed : (rules : Rules) (x beta s-c b-c v-c : Float) → Formed short (lowerBegun rules x beta s-c b-c v-c)
+  lower-form : (rules : Rules) (x beta s-c b-c v-c : Float) → BeginForm short (lowerBegun rules x beta s-c b-c v-c)
   unfolding lowerBegun lowerGuess middleGuess
-  lower-formed rules x beta s-c b-c v-c =
+  lower-form rules x beta s-c b-c v-c =
       with-value (call-passes rules x (s-c ⊖ b-c ⊘ v-c)) _ (λ b-l.
       either (lt beta b-l)
       (on-value (cubic-passes _ _ _ _ _ _ _ _) _ _ (λ f. loop (lower rules x (lower-fits rules x _))))
       (with-value (cubic-passes _ _ _ _ _ _ _ _) _ (λ s. loop (lower-middle rules x))))
 
-  tail-formed : (rules : Rules) (x beta b-max b-h s-h : Float) → Formed short (tailBegun rules x beta b-max b-h s-h)
+  tail-form : (rules : Rules) (x beta b-max b-h s-h : Float) → BeginForm short (tailBegun rules x beta b-max b-h s-h)
   unfolding tailBegun upperGuess
-  tail-formed rules x beta b-max b-h s-h =
+  tail-form rules x beta b-max b-h s-h =
       on-value (upper-f-passes beta b-max b-h (upperMap rules x s-h)) _ _ (λ f.
       either (lt (half ⊗ b-max) beta) (loop (upper rules b-max x (upper-fits rules _))) (loop (upper-tail rules x)))
 
-  upper-formed : (rules : Rules) (x beta b-max s-c b-c v-c : Float) → Formed short (upperBegun rules x beta b-max s-c b-c v-c)
+  upper-form : (rules : Rules) (x beta b-max s-c b-c v-c : Float) → BeginForm short (upperBegun rules x beta b-max s-c b-c v-c)
   unfolding upperBegun middleGuess
-  upper-formed rules x beta b-max s-c b-c v-c =
+  upper-form rules x beta b-max s-c b-c v-c =
       with-value (call-passes rules x _) _ (λ b-h.
-      either (le beta b-h) (with-value (cubic-passes _ _ _ _ _ _ _ _) _ (λ s. loop (upper-middle rules x))) (tail-formed rules x beta b-max b-h _))
+      either (le beta b-h) (with-value (cubic-passes _ _ _ _ _ _ _ _) _ (λ s. loop (upper-middle rules x))) (tail-form rules x beta b-max b-h _))
 
-  mapped-formed : (rules : Rules) (x beta : Float) → Formed short (mappedBegun rules x beta)
+  mapped-form : (rules : Rules) (x beta : Float) → BeginForm short (mappedBegun rules x beta)
   unfolding mappedBegun
-  mapped-formed rules x beta =
+  mapped-form rules x beta =
       either (le beta +0) known
       (either (lt beta +0) known
-      (either (le _ beta) known (with-value (call-passes rules x _) _ (λ b-c. either (lt beta b-c) (lower-formed rules x beta _ b-c _) (upper-formed rules x beta _ _ b-c _)))))
+      (either (le _ beta) known (with-value (call-passes rules x _) _ (λ b-c. either (lt beta b-c) (lower-form rules x beta _ b-c _) (upper-form rules x beta _ _ b-c _)))))
 
-  over-formed : (expiry : Float) (b : Begun) → Formed short b → Formed short (overExpiry expiry b)
-  over-formed expiry (answered v) h = known
-  over-formed expiry (stopped n) h = h
-  over-formed expiry (looping branch beta step st) h = h
+  over-form : (expiry : Float) (b : Begun) → BeginForm short b → BeginForm short (overExpiry expiry b)
+  over-form expiry (answered v) h = known
+  over-form expiry (stopped n) h = h
+  over-form expiry (looping branch beta step st) h = h
 
-  accepted-formed : (set : RuleSet) (price forward strike expiry : Float) (kind : OptionType) → Formed short (acceptedBegun set price forward strike expiry kind)
+  accepted-form : (set : RuleSet) (price forward strike expiry : Float) (kind : OptionType) → BeginForm short (acceptedBegun set price forward strike expiry kind)
   unfolding acceptedBegun normalisedBegun
-  accepted-formed set price forward strike expiry kind =
-      either (lt price _) known (either (le _ price) known (either (lt +0 _) (over-formed expiry _ (mapped-formed (set .elementary) _ _)) (over-formed expiry _ (mapped-formed (set .elementary) _ _))))
+  accepted-form set price forward strike expiry kind =
+      either (lt price _) known (either (le _ price) known (either (lt +0 _) (over-form expiry _ (mapped-form (set .elementary) _ _)) (over-form expiry _ (mapped-form (set .elementary) _ _))))
 
-  number-formed : {b : Begun} (k : ℕ) → (k ≡ 0) ⊎ Refusal short k → Formed short b → Formed short (cond (eqb k 0) b (stopped k))
-  number-formed k (inl z) f = rw z f
-  number-formed k (inr r) f = either (eqb k 0) f (ended r)
+  number-form : {b : Begun} (k : ℕ) → (k ≡ 0) ⊎ Refusal short k → BeginForm short b → BeginForm short (cond (eqb k 0) b (stopped k))
+  number-form k (inl z) f = rw z f
+  number-form k (inr r) f = either (eqb k 0) f (ended r)
 
-short-formed : (short : Bool) {b : Begun} → ((c : Bool) → Formed c b) → Formed short (cond short (stopped 21) b)
-short-formed true f = ended (trail-number refl)
-short-formed false f = f false
+short-form : (short : Bool) {b : Begun} → ((c : Bool) → BeginForm c b) → BeginForm short (cond short (stopped 21) b)
+short-form true f = ended (trail-number refl)
+short-form false f = f false
 
-pub begun-formed : (set : RuleSet) (short : Bool) (price forward strike expiry : Float) (kind : OptionType) → Formed short (begunOf set short price forward strike expiry kind)
+pub begin-form : (set : RuleSet) (short : Bool) (price forward strike expiry : Float) (kind : OptionType) → BeginForm short (begunOf set short price forward strike expiry kind)
 unfolding begunOf
-begun-formed set short price forward strike expiry kind =
-    number-formed (inputNumber price forward strike expiry) (input-number short price forward strike expiry) (short-formed short (λ c. accepted-formed set price forward strike expiry kind))
+begin-form set short price forward strike expiry kind =
+    number-form (inputNumber price forward strike expiry) (input-number short price forward strike expiry) (short-form short (λ c. accepted-form set price forward strike expiry kind))

@@ -24,13 +24,13 @@ use Rattle.solver.specs.Step.{lowerDs, upperDs, generalDs, halved, plain
 use Rattle.solver.specs.Guess.{Begun, answered, stopped, looping}
 use Rattle.solver.specs.Answers.{numberIn, branchIn, endingIn, stepsIn}
 use Rattle.solver.specs.Solve.{Solving, answerOf, ran, solvingOf}
-use Rattle.solver.specs.Promises.Demand3.{At, here, there, LeavesHalf, Longer, InLoop, FromLoop, Kept}
+use Rattle.solver.specs.Promises.Demand3.{At, here, there, LeavesHalf, LongerRun, LoopRecords, LoopAnswer, OneRun}
 use Rattle.solver.specs.Promises.Answers.{Numbers}
 use Rattle.solver.proofs.Laws.Runs.{byLimit, Counts, counts, begins, same, steps, trace, every}
 use Rattle.solver.proofs.Laws.Bracket.{Moved, completed, left-never-falls, right-never-grows, left-stays, right-stays, left-from, right-from}
 use Rattle.solver.proofs.Laws.Half.{leaves-half}
 use Rattle.solver.proofs.Laws.Numbers.{Refusal, price-number, forward-number, strike-number, expiry-number, trail-number, cubic-number, region-number, OnlySeven, loop-ends}
-use Rattle.solver.proofs.Laws.Forms.{LoopForm, lower, upper, lower-middle, upper-middle, upper-tail, Formed, ended, loop}
+use Rattle.solver.proofs.Laws.Forms.{LoopForm, lower, upper, lower-middle, upper-middle, upper-tail, BeginForm, ended, loop}
 use Rattle.solver.proofs.Laws.Trails.{begins-alike}
 
 -- ---- a short run and a long one
@@ -39,7 +39,7 @@ not-by-limit branch root (tested st) k h = refl
 not-by-limit branch root (limited st) k h = absurd (h refl)
 not-by-limit branch root (refused n) k h = refl
 
-pub longer-run : (b : Begun) (expiry : Float) (n m : ℕ) → n ≤ m → Longer (solvingOf b expiry n) (solvingOf b expiry m)
+pub longer-run : (b : Begun) (expiry : Float) (n m : ℕ) → n ≤ m → LongerRun (solvingOf b expiry n) (solvingOf b expiry m)
 unfolding solvingOf
 longer-run (answered v) expiry n m l = record { begins-with = ([], refl); same-bytes = begins-alike [] [] ([], refl); same-end = λ e. (refl, refl) }
 longer-run (stopped k) expiry n m l = record { begins-with = ([], refl); same-bytes = begins-alike [] [] ([], refl); same-end = λ e. (refl, refl) }
@@ -84,10 +84,10 @@ not-limited step st (limited q) h = go (isClose st) (step st) h
     go false (Went q′ r) e = cc
     go false (NoStep k) e = cc
 
-from-loop : (branch : ℕ) → (1 ≤ branch) × (branch ≤ 5) → (root : Float) (n : ℕ) (w : Run State Record) → OnlySeven (w .ending) → Counts n w → FromLoop n branch (ran branch root w .answer)
-from-loop branch range root n w = go (w .ending)
+loop-answer : (branch : ℕ) → (1 ≤ branch) × (branch ≤ 5) → (root : Float) (n : ℕ) (w : Run State Record) → OnlySeven (w .ending) → Counts n w → LoopAnswer n branch (ran branch root w .answer)
+loop-answer branch range root n w = go (w .ending)
   where
-    go : (e : Ending State) → OnlySeven e → (byLimit e ≡ true → length (w .records) ≡ n) × (byLimit e ≡ false → length (w .records) < n) → FromLoop n branch (answerOf branch root e (length (w .records)))
+    go : (e : Ending State) → OnlySeven e → (byLimit e ≡ true → length (w .records) ≡ n) × (byLimit e ≡ false → length (w .records) < n) → LoopAnswer n branch (answerOf branch root e (length (w .records)))
     go (tested st) h c = record { a-loop = range; number = inl refl; branch-is = λ z. refl; ending-is = λ z. inl (refl, c .1 refl) }
     go (limited st) h c = record { a-loop = range; number = inl refl; branch-is = λ z. refl; ending-is = λ z. inr (refl, c .0 refl) }
     go (refused k) h c = record { a-loop = range; number = inr h; branch-is = λ z. absurd (omega arith); ending-is = λ z. absurd (omega arith) }
@@ -109,7 +109,7 @@ module _ (dsOf : Float → Float → Float → Ends → Float) (afterOf : Float 
   move : (q q′ : State) (r : Record) → nextBy step q ≡ goes r q′ → Moved beta q q′ r
   move q q′ r e = completed dsOf afterOf rules x beta q q′ r e .moved
 
-  in-loop : (branch : ℕ) → (1 ≤ branch) × (branch ≤ 5) → ((branch ≡ 1) ⊎ (branch ≡ 4) → HalfSteps) → InLoop branch beta (st .left) (st .right) (w .records) × FromLoop n branch (ran branch root w .answer)
+  in-loop : (branch : ℕ) → (1 ≤ branch) × (branch ≤ 5) → ((branch ≡ 1) ⊎ (branch ≡ 4) → HalfSteps) → LoopRecords branch beta (st .left) (st .right) (w .records) × LoopAnswer n branch (ran branch root w .answer)
   in-loop branch range half = (
     record {
       left-holds = left-never-falls step beta move n st;
@@ -120,7 +120,7 @@ module _ (dsOf : Float → Float → Float → Ends → Float) (afterOf : Float 
       right-is = right-from step beta move n st;
       half-step = half;
     },
-    from-loop branch range root n w (loop-ends dsOf afterOf rules x beta n st) (counts (nextBy step) (not-limited step) n st),
+    loop-answer branch range root n w (loop-ends dsOf afterOf rules x beta n st) (counts (nextBy step) (not-limited step) n st),
   )
 
 -- a step whose s after is `halved`
@@ -136,25 +136,25 @@ neither : {branch : ℕ} {A : Type 0} → (branch ≡ 1 → ⊥) → (branch ≡
 neither f g (inl e) = absurd (f e)
 neither f g (inr e) = absurd (g e)
 
-loop-kept : (branch : ℕ) (beta : Float) (step : State → Stepped) (st : State) → LoopForm branch beta step st → (root : Float) (n : ℕ)
-    → InLoop branch beta (st .left) (st .right) (run (nextBy step) n st .records) × FromLoop n branch (ran branch root (run (nextBy step) n st) .answer)
+loop-run : (branch : ℕ) (beta : Float) (step : State → Stepped) (st : State) → LoopForm branch beta step st → (root : Float) (n : ℕ)
+    → LoopRecords branch beta (st .left) (st .right) (run (nextBy step) n st .records) × LoopAnswer n branch (ran branch root (run (nextBy step) n st) .answer)
 unfolding lowerStep upperStep generalStep
-loop-kept branch beta step st (lower rules x f) root n =
+loop-run branch beta step st (lower rules x f) root n =
     in-loop (lowerDs x beta) halved rules x beta root n st 1 (omega arith, omega arith) (λ o. half-steps (lowerDs x beta) rules x beta root n st f)
-loop-kept branch beta step st (upper rules b-max x f) root n =
+loop-run branch beta step st (upper rules b-max x f) root n =
     in-loop (upperDs b-max x beta) halved rules x beta root n st 4 (omega arith, omega arith) (λ o. half-steps (upperDs b-max x beta) rules x beta root n st f)
-loop-kept branch beta step st (lower-middle rules x) root n =
+loop-run branch beta step st (lower-middle rules x) root n =
     in-loop (generalDs x beta) plain rules x beta root n st 2 (omega arith, omega arith) (neither (λ e. omega arith) (λ e. omega arith))
-loop-kept branch beta step st (upper-middle rules x) root n =
+loop-run branch beta step st (upper-middle rules x) root n =
     in-loop (generalDs x beta) plain rules x beta root n st 3 (omega arith, omega arith) (neither (λ e. omega arith) (λ e. omega arith))
-loop-kept branch beta step st (upper-tail rules x) root n =
+loop-run branch beta step st (upper-tail rules x) root n =
     in-loop (generalDs x beta) plain rules x beta root n st 5 (omega arith, omega arith) (neither (λ e. omega arith) (λ e. omega arith))
 
-pub run-kept : {short : Bool} (b : Begun) → Formed short b → (expiry : Float) (n : ℕ) → Kept n b (solvingOf b expiry n)
+pub one-run : {short : Bool} (b : Begun) → BeginForm short b → (expiry : Float) (n : ℕ) → OneRun n b (solvingOf b expiry n)
 unfolding solvingOf
-run-kept (answered v) f expiry n = (refl, refl, refl, refl, refl)
-run-kept (stopped k) f expiry n = (refl, refl)
-run-kept (looping branch beta step st) (loop form) expiry n = loop-kept branch beta step st form (sqrtOf binary64 expiry) n
+one-run (answered v) f expiry n = (refl, refl, refl, refl, refl)
+one-run (stopped k) f expiry n = (refl, refl)
+one-run (looping branch beta step st) (loop form) expiry n = loop-run branch beta step st form (sqrtOf binary64 expiry) n
 
 -- ---- the half step, from the answer's branch
 nothing-at : {rs : List Record} {i : ℕ} {r : Record} → At rs i r → rs ≡ [] → ⊥
@@ -165,7 +165,7 @@ refused-branch : (a : Solution) → numberIn a ≡ 7 → branchIn a ≡ 0
 refused-branch (Solved v branch ending steps) e = absurd (omega arith)
 refused-branch (Refused n steps) e = refl
 
-loop-branch : {limit branch : ℕ} {a : Solution} → FromLoop limit branch a → (branchIn a ≡ 1) ⊎ (branchIn a ≡ 4) → branchIn a ≡ branch
+loop-branch : {limit branch : ℕ} {a : Solution} → LoopAnswer limit branch a → (branchIn a ≡ 1) ⊎ (branchIn a ≡ 4) → branchIn a ≡ branch
 loop-branch {limit} {branch} {a} f = go (f .number)
   where
     go : (numberIn a ≡ 0) ⊎ (numberIn a ≡ 7) → (branchIn a ≡ 1) ⊎ (branchIn a ≡ 4) → branchIn a ≡ branch
@@ -173,7 +173,7 @@ loop-branch {limit} {branch} {a} f = go (f .number)
     go (inr z) (inl o) = absurd (omega (arith, refused-branch a z))
     go (inr z) (inr o) = absurd (omega (arith, refused-branch a z))
 
-pub answer-half : (n : ℕ) (b : Begun) (w : Solving) → Kept n b w → (branchIn (w .answer) ≡ 1) ⊎ (branchIn (w .answer) ≡ 4) → (i : ℕ) (r : Record) → At (w .records) i r → LeavesHalf r
+pub answer-half : (n : ℕ) (b : Begun) (w : Solving) → OneRun n b w → (branchIn (w .answer) ≡ 1) ⊎ (branchIn (w .answer) ≡ 4) → (i : ℕ) (r : Record) → At (w .records) i r → LeavesHalf r
 answer-half n (answered v) w k o i r a = absurd (nothing-at a (k .0))
 answer-half n (stopped m) w k o i r a = absurd (nothing-at a (k .0))
 answer-half n (looping branch beta step st) w k o i r a = k .0 .half-step (subst (λ c. (c ≡ 1) ⊎ (c ≡ 4)) (loop-branch (k .1) o) o) i r a
@@ -201,8 +201,8 @@ loop-numbers : (enough : Type 0) (a : Solution) → (numberIn a ≡ 0) ⊎ (numb
 loop-numbers enough a (inl z) = record { number = first z; no-21 = λ l e. omega arith; steps = λ h. first z }
 loop-numbers enough a (inr z) = record { number = rw z (refusal-number {short = false} region-number); no-21 = λ l e. omega arith; steps = λ h. next (first z) }
 
-pub run-numbers : {short : Bool} (enough : Type 0) → (enough → short ≡ false) → (b : Begun) → Formed short b → (expiry : Float) (n : ℕ) → Numbers enough (solvingOf b expiry n .answer)
+pub run-numbers : {short : Bool} (enough : Type 0) → (enough → short ≡ false) → (b : Begun) → BeginForm short b → (expiry : Float) (n : ℕ) → Numbers enough (solvingOf b expiry n .answer)
 unfolding solvingOf
 run-numbers enough l (answered v) f expiry n = loop-numbers enough _ (inl refl)
 run-numbers enough l (stopped k) (ended r) expiry n = record { number = refusal-number r; no-21 = λ h. not-21 r (l h); steps = λ h. absurd (omega arith) }
-run-numbers enough l (looping branch beta step st) (loop form) expiry n = loop-numbers enough _ (loop-kept branch beta step st form (sqrtOf binary64 expiry) n .1 .number)
+run-numbers enough l (looping branch beta step st) (loop form) expiry n = loop-numbers enough _ (loop-run branch beta step st form (sqrtOf binary64 expiry) n .1 .number)

@@ -71,7 +71,7 @@ abbrev pub LeavesHalf : Record → Type 0
 LeavesHalf r = T (finite (r .s)) → le least (r .s) ≡ true → le (r .s ⊘ two) (r .after) ≡ true
 
 -- a short run and a long one
-pub record Longer (short long : Solving) : Type 0 where
+pub record LongerRun (short long : Solving) : Type 0 where
   -- 1. The long run's records begin with all the short run's, bit for bit; so do the trails' bytes, whatever stood there before.
   pub begins-with : (rest : List Record) × (long .records ≡ short .records ++ rest)
   pub same-bytes : (old old′ : List ℕ) → take (48 * length (short .records)) (trailAfter (long .records) old) ≡ take (48 * length (short .records)) (trailAfter (short .records) old′)
@@ -79,7 +79,7 @@ pub record Longer (short long : Solving) : Type 0 where
   pub same-end : (endingIn (short .answer) ≡ 2 → ⊥) → (long .records ≡ short .records) × (long .answer ≡ short .answer)
 
 -- the records of a loop of this branch, with this target and these starting ends
-pub record InLoop (branch : ℕ) (beta left right : Float) (rs : List Record) : Type 0 where
+pub record LoopRecords (branch : ℕ) (beta left right : Float) (rs : List Record) : Type 0 where
   -- 4. Record after record, from the branch's starting ends on, the left end never falls and the right end never grows; one that starts as NaN stays NaN.
   pub left-holds : Linked NotBelow (λ r. r .left) left rs
   pub right-holds : Linked NotAbove (λ r. r .right) right rs
@@ -92,25 +92,25 @@ pub record InLoop (branch : ℕ) (beta left right : Float) (rs : List Record) : 
   pub half-step : (branch ≡ 1) ⊎ (branch ≡ 4) → (i : ℕ) (r : Record) → At rs i r → LeavesHalf r
 
 -- what a loop of this branch answers: 7, or its own branch, 1 to 5, with ending 2 after as many steps as its limit and else 1
-pub record FromLoop (limit branch : ℕ) (a : Solution) : Type 0 where
+pub record LoopAnswer (limit branch : ℕ) (a : Solution) : Type 0 where
   pub a-loop : (1 ≤ branch) × (branch ≤ 5)
   pub number : (numberIn a ≡ 0) ⊎ (numberIn a ≡ 7)
   pub branch-is : numberIn a ≡ 0 → branchIn a ≡ branch
   pub ending-is : numberIn a ≡ 0 → ((endingIn a ≡ 1) × (stepsIn a < limit)) ⊎ ((endingIn a ≡ 2) × (stepsIn a ≡ limit))
 
 -- one run, by what it begins with: without a loop it has no records, and an answer has branch 0 and ending 0
-abbrev pub Kept : ℕ → Begun → Solving → Type 0
-Kept limit (answered v) w = (w .records ≡ []) × (numberIn (w .answer) ≡ 0) × (volatilityIn (w .answer) ≡ v) × (branchIn (w .answer) ≡ 0) × (endingIn (w .answer) ≡ 0)
-Kept limit (stopped n) w = (w .records ≡ []) × (numberIn (w .answer) ≡ n)
-Kept limit (looping branch beta step st) w = InLoop branch beta (st .left) (st .right) (w .records) × FromLoop limit branch (w .answer)
+abbrev pub OneRun : ℕ → Begun → Solving → Type 0
+OneRun limit (answered v) w = (w .records ≡ []) × (numberIn (w .answer) ≡ 0) × (volatilityIn (w .answer) ≡ v) × (branchIn (w .answer) ≡ 0) × (endingIn (w .answer) ≡ 0)
+OneRun limit (stopped n) w = (w .records ≡ []) × (numberIn (w .answer) ≡ n)
+OneRun limit (looping branch beta step st) w = LoopRecords branch beta (st .left) (st .right) (w .records) × LoopAnswer limit branch (w .answer)
 
 pub record Sentences (begin : ℤ → Trail → Begun) (run : ℤ → Trail → Solving) : Type 0 where
   -- 1 and 2, of trails long enough and limits with max(n, 0) at most max(m, 0), so wherever n is at most m
-  pub longer : (n m : ℤ) (t t′ : Trail) → stepsOf n ≤ stepsOf m → LongEnough n t → LongEnough m t′ → Longer (run n t) (run m t′)
+  pub longer : (n m : ℤ) (t t′ : Trail) → stepsOf n ≤ stepsOf m → LongEnough n t → LongEnough m t′ → LongerRun (run n t) (run m t′)
   -- 3. In every run steps are at most the greater of its limit and 0; they are as many as its records.
   pub steps : (n : ℤ) (t : Trail) → (stepsIn (run n t .answer) ≤ stepsOf n) × (length (run n t .records) ≡ stepsIn (run n t .answer))
   -- 4, 5 and 6, of every run
-  pub each-run : (n : ℤ) (t : Trail) → Kept (stepsOf n) (begin n t) (run n t)
+  pub each-run : (n : ℤ) (t : Trail) → OneRun (stepsOf n) (begin n t) (run n t)
   -- 6 again, from the answer's branch alone
   pub half-step : (n : ℤ) (t : Trail) → (branchIn (run n t .answer) ≡ 1) ⊎ (branchIn (run n t .answer) ≡ 4) → (i : ℕ) (r : Record) → At (run n t .records) i r → LeavesHalf r
   -- A run's records are those of its completed steps, whether a trail takes them or not; so is its answer.
