@@ -113,7 +113,7 @@ pub record Sentences (begin : ℤ → Trail → Begun) (run : ℤ → Trail → 
   pub each-run : (n : ℤ) (t : Trail) → OneRun (stepsOf n) (begin n t) (run n t)
   -- 6 again, from the answer's branch alone
   pub half-step : (n : ℤ) (t : Trail) → (branchIn (run n t .answer) ≡ 1) ⊎ (branchIn (run n t .answer) ≡ 4) → (i : ℕ) (r : Record) → At (run n t .records) i r → LeavesHalf r
-  -- A run's records are those of its completed steps, whether a trail takes them or not; so is its answer.
+  -- A run's records are those of its completed steps, whether a trail takes them or not; the answer is the same.
   pub without-trail : (n : ℤ) (t : Trail) → LongEnough n t → (run n none .records ≡ run n t .records) × (run n none .answer ≡ run n t .answer)
 
 abbrev pub Demand-3 : Type 0
