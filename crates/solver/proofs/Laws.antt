@@ -3,11 +3,14 @@
 pub mod Runs
 pub mod Bracket
 pub mod Half
+pub mod Numbers
 pub mod Forms
+pub mod Loops
 pub mod Priced
 pub mod Reached
 pub mod Solving
 -- Lists and bytes.
 pub mod Laid
+pub mod Trails
 pub mod Lines
 pub mod Parts

@@ -1,7 +1,6 @@
 -- What a case of an answer says: document 01's number, 0 where there is none, and its values. Definitions only.
 use mathlib.Core.Bool.{Bool, true, false}
 use Prim.Native.Nat.{ℕ}
-use lib.Dec.{eqb}
 use lib.Ieee.{Float, nan}
 use Rattle.solver.specs.declared.state.Solution.{Solution}
 use Rattle.solver.specs.declared.state.Solution.the-variants.{Solved, Refused}
@@ -12,6 +11,7 @@ use Rattle.solver.specs.declared.state.Checking.the-variants.{Agrees, Di
 
 -- ---- solve's
 
+-- 0 where it answers
 abbrev pub numberIn : Solution → ℕ
 numberIn (Solved v branch ending steps) = 0
 numberIn (Refused number steps) = number
@@ -26,6 +26,7 @@ abbrev pub branchIn : Solution → ℕ
 branchIn (Solved v branch ending steps) = branch
 branchIn (Refused number steps) = 0
 
+-- 0 where it is refused
 abbrev pub endingIn : Solution → ℕ
 endingIn (Solved v branch ending steps) = ending
 endingIn (Refused number steps) = 0
@@ -35,13 +36,9 @@ abbrev pub stepsIn : Solution → ℕ
 stepsIn (Solved v branch ending steps) = steps
 stepsIn (Refused number steps) = steps
 
--- the run ended for its limit: ending 2
-abbrev pub endedByLimit : Solution → Bool
-endedByLimit (Solved v branch ending steps) = eqb ending 2
-endedByLimit (Refused number steps) = false
-
 -- ---- file's
 
+-- 0 where it files
 abbrev pub filingNumber : Filing → ℕ
 filingNumber (Filed used) = 0
 filingNumber (NotFiled number steps) = number
@@ -51,22 +48,26 @@ abbrev pub filingUsed : Filing → ℕ
 filingUsed (Filed used) = used
 filingUsed (NotFiled number steps) = 0
 
+-- the completed steps of a refused solve; 0 where it files
 abbrev pub filingSteps : Filing → ℕ
 filingSteps (Filed used) = 0
 filingSteps (NotFiled number steps) = steps
 
 -- ---- recheck's
 
+-- 0 where it says yes or no
 abbrev pub checkingNumber : Checking → ℕ
 checkingNumber Agrees = 0
 checkingNumber Differs = 0
 checkingNumber (NotChecked number steps) = number
 
+-- it says yes
 abbrev pub checkingAgrees : Checking → Bool
 checkingAgrees Agrees = true
 checkingAgrees Differs = false
 checkingAgrees (NotChecked number steps) = false
 
+-- the completed steps of a refused solve
 abbrev pub checkingSteps : Checking → ℕ
 checkingSteps Agrees = 0
 checkingSteps Differs = 0

@@ -22,10 +22,8 @@ use Rattle.prices.specs.Black.{callOf}
 use Rattle.prices.specs.RationalCubic.{interpolationOf, convexParameterOf}
 use Rattle.solver.specs.declared.state.State.{State}
 use Rattle.solver.specs.declared.state.Mapped.{Mapped}
-use Rattle.solver.specs.declared.state.Start.{Start}
-use Rattle.solver.specs.declared.state.Start.the-variants.{Answered, Stopped, Looping}
 use Rattle.solver.specs.declared.state.Stepped.{Stepped}
-use Rattle.solver.specs.Step.{lowerStep, upperStep, generalStep, branchStep}
+use Rattle.solver.specs.Step.{lowerStep, upperStep, generalStep}
 
 -- The Rust's constants, as it rounds them.
 abbrev pub SQRT-DBL-MAX : Float
@@ -55,11 +53,13 @@ isBelowHorizon x = lt (absOf x) +0
 
 -- ---- the maps
 
+-- s from the lower map's value
 unfoldable pub inverseFLowerMap : Rules → Float → Float → Float
 inverseFLowerMap rules x f =
     let s = absOf (x ⊘ (SQRT-THREE ⊗ inverseOf rules (cubeRootOf (f ⊘ (TWO-PI-OVER-SQRT-TWENTY-SEVEN ⊗ absOf x))))) in
     cond (isBelowHorizon f) +0 s
 
+-- the upper map at s, and its two derivatives
 unfoldable pub upperMap : Rules → Float → Float → Mapped
 upperMap rules x s =
     let w = squareOf (x ⊘ s) in
@@ -87,10 +87,12 @@ lowerMap rules x s =
 
 -- ---- the first s of each branch: a value, or 6 from the cubic
 
+-- a value goes on, a number passes up
 unfoldable pub onValue : Answer → (Float → Float) → Answer
 onValue (Value f) g = Value (g f)
 onValue (Number n) g = Number n
 
+-- branch 1
 unfoldable pub lowerGuess : Rules → Float → Float → Float → Float → Answer
 lowerGuess rules x beta b-l s-l =
     let m = lowerMap rules x s-l in
@@ -112,6 +114,7 @@ upperF beta b-max b-h m =
     let interpolated = interpolationOf beta b-h b-max (m .f) +0 (m .fp) (neg half) r in
     cond (lt (neg SQRT-DBL-MAX) (m .fpp) && lt (m .fpp) SQRT-DBL-MAX) interpolated (Value MIN)
 
+-- branches 4 and 5
 unfoldable pub upperGuess : Rules → Float → Float → Float → Float → Float → Answer
 upperGuess rules x beta b-max b-h s-h =
     let m = upperMap rules x s-h in
@@ -122,6 +125,7 @@ upperGuess rules x beta b-max b-h s-h =
 
 -- ---- where a run begins
 
+-- what a run begins with
 pub data Begun : Type 0 where
   -- answered before a guess: branch 0, ending 0
   answered : Float → Begun
@@ -130,12 +134,7 @@ pub data Begun : Type 0 where
   -- the branch, the target, the loop's step and the state before the first one
   looping : ℕ → Float → (State → Stepped) → State → Begun
 
--- what the code's three cases say; the branch tells the loop's step
-abbrev pub begunFrom : Rules → Start → Begun
-begunFrom rules (Answered v) = answered v
-begunFrom rules (Stopped n) = stopped n
-begunFrom rules (Looping branch m st) = looping branch (m .beta) (branchStep rules branch (m .«b_max») (m .x) (m .beta)) st
-
+-- a value goes on, a number ends the run
 unfoldable pub withValue : Answer → (Float → Begun) → Begun
 withValue (Value b) f = f b
 withValue (Number n) f = stopped n

@@ -8,5 +8,7 @@ pub mod Answers
 pub mod Trail
 pub mod Book
 pub mod Listing
+-- Promises: statements alone, no proof.
+pub mod Promises
 -- Words of private contracts.
 pub mod Inside

@@ -34,24 +34,25 @@ abbrev pub spaced : ℕ → List ℕ
 spaced n = 32 ∷ decimal n
 
 -- after the record number: the volatility's bits, steps, branch and ending, or "REF" and the refusal
-abbrev pub told : Solution → List ℕ
-told (Solved volatility branch ending steps) = 32 ∷ hexBy 16 (toBits binary64 volatility) ++ spaced steps ++ spaced branch ++ spaced ending
-told (Refused n steps) = 32 ∷ 82 ∷ 69 ∷ 70 ∷ spaced n
+abbrev pub answerBytes : Solution → List ℕ
+answerBytes (Solved volatility branch ending steps) = 32 ∷ hexBy 16 (toBits binary64 volatility) ++ spaced steps ++ spaced branch ++ spaced ending
+answerBytes (Refused n steps) = 32 ∷ 82 ∷ 69 ∷ 70 ∷ spaced n
 
 -- what the bytes of a record answer; a last part under 64 bytes gives 23
 unfoldable pub answerAt : RuleSet → List ℕ → Solution
-answerAt rules bytes = let again = resolved rules bytes in cond (ltb (length bytes) 64) (Refused 23 0) again
+answerAt set bytes = let again = resolved set bytes in cond (ltb (length bytes) 64) (Refused 23 0) again
 
 -- the line of record i
 unfoldable pub lineOf : RuleSet → ℕ → List ℕ → List ℕ
-lineOf rules i bytes = decimal i ++ told (answerAt rules bytes) ++ (10 ∷ [])
+lineOf set i bytes = decimal i ++ answerBytes (answerAt set bytes) ++ (10 ∷ [])
 
 -- a line laid at the start of a buffer, with its length; a buffer under 128 bytes, in which a line may not fit, takes none
 pub record Lined : Type 0 where
   pub count : ℕ
   pub bytes : List ℕ
 
+-- the buffer after it, and the line's length
 unfoldable pub lineIn : RuleSet → ℕ → List ℕ → List ℕ → Lined
-lineIn rules i bytes out =
-    let line = lineOf rules i bytes in
+lineIn set i bytes out =
+    let line = lineOf set i bytes in
     cond (ltb (length out) 128) (record { count = 0; bytes = out }) (record { count = length line; bytes = laid 0 line out })

@@ -1,6 +1,5 @@
 -- A loop that takes steps until its test holds, its limit is reached or a step is refused: over any type S of states, R of records, and any rule for what
 -- a state leads to. Definitions only.
-use mathlib.Core.Bool.{Bool, true, false}
 use mathlib.Core.List.{List, [], _∷_, _++_}
 use Prim.Native.Nat.{ℕ, zero, suc}
 
@@ -24,6 +23,7 @@ module _ {S R : Type 0} where
   abbrev pub after : List R → Run S R → Run S R
   after rs w = record { records = rs ++ w .records; ending = w .ending }
 
+  -- a step's record and then the rest, or the ending
   abbrev pub follow : Turn S R → (S → Run S R) → Run S R
   follow (goes r s) rest = after (r ∷ []) (rest s)
   follow (ends e) rest = record { records = []; ending = e }
@@ -32,19 +32,3 @@ module _ {S R : Type 0} where
   unfoldable pub run : (S → Turn S R) → ℕ → S → Run S R
   run next zero s = record { records = []; ending = limited s }
   run next (suc n) s = follow (next s) (run next n)
-
--- the run reached its limit
-abbrev pub byLimit : {S : Type 0} → Ending S → Bool
-byLimit (tested s) = false
-byLimit (limited s) = true
-byLimit (refused k) = false
-
--- record i of a list is r
-pub data At {R : Type 0} : List R → ℕ → R → Type 0 where
-  here : {r : R} {rs : List R} → At (r ∷ rs) 0 r
-  there : {q r : R} {rs : List R} {i : ℕ} → At rs i r → At (q ∷ rs) (suc i) r
-
--- from a starting value on, each record's value is related to the one before it
-abbrev pub Linked : {A R : Type 0} → (A → A → Type 0) → (R → A) → A → List R → Type 0
-Linked rel end start [] = Unit
-Linked rel end start (r ∷ rs) = rel start (end r) × Linked rel end (end r) rs

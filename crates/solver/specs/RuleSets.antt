@@ -4,6 +4,7 @@ use Rattle.elementary.specs.Rules.{Rules, rules-0}
 use Rattle.prices.specs.declared.inputs.OptionType.{OptionType}
 use Rattle.prices.specs.declared.inputs.OptionType.the-variants.{Call, Put}
 
+-- the rules of layer 1, and the cap
 pub record RuleSet : Type 0 where
   pub elementary : Rules
   -- the price from which on no volatility is looked for, from the kind, the forward and the strike

@@ -32,14 +32,14 @@ overExpiry expiry (looping branch beta step st) = looping branch beta step st
 
 -- The two sentinels that are found before normalising are reported as they are; what is answered after it is divided by √expiry, an above-maximum sentinel too.
 unfoldable pub acceptedBegun : RuleSet → Float → Float → Float → Float → OptionType → Begun
-acceptedBegun rules price forward strike expiry kind =
+acceptedBegun set price forward strike expiry kind =
     let intrinsic = maxOf (times kind (forward ⊖ strike)) +0 in
     let x = lnOf (forward ⊘ strike) in
     let root = sqrtOf binary64 forward ⊗ sqrtOf binary64 strike in
-    let direct = overExpiry expiry (normalisedBegun (rules .elementary) (price ⊘ root) x kind) in
-    let mapped = overExpiry expiry (normalisedBegun (rules .elementary) (maxOf (price ⊖ intrinsic) +0 ⊘ root) x (negated kind)) in
+    let direct = overExpiry expiry (normalisedBegun (set .elementary) (price ⊘ root) x kind) in
+    let mapped = overExpiry expiry (normalisedBegun (set .elementary) (maxOf (price ⊖ intrinsic) +0 ⊘ root) x (negated kind)) in
     let guessed = cond (lt +0 (times kind x)) mapped direct in
-    cond (lt price intrinsic) (answered MIN) (cond (le (rules .cap kind forward strike) price) (answered MAX) guessed)
+    cond (lt price intrinsic) (answered MIN) (cond (le (set .cap kind forward strike) price) (answered MAX) guessed)
 
 -- 1, 2, 3, 4 in this order, or 0 where none is met
 unfoldable pub inputNumber : Float → Float → Float → Float → ℕ
@@ -48,9 +48,9 @@ inputNumber price forward strike expiry =
 
 -- 1 to 4, then 21 where the trail is too short
 unfoldable pub begunOf : RuleSet → Bool → Float → Float → Float → Float → OptionType → Begun
-begunOf rules short price forward strike expiry kind =
+begunOf set short price forward strike expiry kind =
     let number = inputNumber price forward strike expiry in
-    let accepted = acceptedBegun rules price forward strike expiry kind in
+    let accepted = acceptedBegun set price forward strike expiry kind in
     cond (eqb number 0) (cond short (stopped 21) accepted) (stopped number)
 
 -- ---- the run
@@ -66,6 +66,7 @@ answerOf branch root (tested st) steps = Solved (st .s ⊘ root) branch 1 steps
 answerOf branch root (limited st) steps = Solved (st .s ⊘ root) branch 2 steps
 answerOf branch root (refused n) steps = Refused n steps
 
+-- what a loop's run records and answers
 abbrev pub ran : ℕ → Float → Run State Record → Solving
 ran branch root w = record { records = w .records; answer = answerOf branch root (w .ending) (length (w .records)) }
 
@@ -77,16 +78,16 @@ solvingOf (looping branch beta step st) expiry n = ran branch (sqrtOf binary64 e
 
 -- with a trail of so many bytes where `keep` is true, else with none; n is max(limit, 0)
 unfoldable pub solvingWith : RuleSet → Bool → ℕ → Float → Float → Float → Float → OptionType → ℕ → Solving
-solvingWith rules keep bytes price forward strike expiry kind n =
-    solvingOf (begunOf rules (keep && ltb bytes (48 * n)) price forward strike expiry kind) expiry n
+solvingWith set keep bytes price forward strike expiry kind n =
+    solvingOf (begunOf set (keep && ltb bytes (48 * n)) price forward strike expiry kind) expiry n
 
 -- solve with no trail
 unfoldable pub solveOf : RuleSet → Float → Float → Float → Float → OptionType → ℕ → Solving
-solveOf rules price forward strike expiry kind n = solvingWith rules false 0 price forward strike expiry kind n
+solveOf set price forward strike expiry kind n = solvingWith set false 0 price forward strike expiry kind n
 
 -- solve with a trail of so many bytes
 unfoldable pub solveWithTrail : RuleSet → Float → Float → Float → Float → OptionType → ℕ → ℕ → Solving
-solveWithTrail rules price forward strike expiry kind n bytes = solvingWith rules true bytes price forward strike expiry kind n
+solveWithTrail set price forward strike expiry kind n bytes = solvingWith set true bytes price forward strike expiry kind n
 
 -- max(limit, 0)
 abbrev pub stepsOf : ℤ → ℕ

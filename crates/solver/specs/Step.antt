@@ -1,9 +1,7 @@
 -- The three steps of so_rational.rs, operation by operation. Definitions only.
 use mathlib.Core.Bool.{Bool, cond, _&&_, _||_}
-use Prim.Native.Nat.{ℕ}
-use lib.Dec.{eqb}
 use lib.Ieee.{Float, neg, lt, le}
-use Rattle.elementary.specs.Ops.{_⊕_, _⊖_, _⊗_, _⊘_, bits, float, +0, half, one, two, EPSILON, MIN, quarter}
+use Rattle.elementary.specs.Ops.{_⊕_, _⊖_, _⊗_, _⊘_, float, +0, half, one, two, EPSILON, MIN, quarter}
 use Rattle.elementary.specs.Rules.{Rules}
 use Rattle.elementary.specs.Methods.{absOf, maxOf, squareOf}
 use Rattle.elementary.specs.Ln.{lnOf}
@@ -18,6 +16,7 @@ use Rattle.solver.specs.declared.state.Stepped.{Stepped}
 use Rattle.solver.specs.declared.state.Stepped.the-variants.{Went, Refused}
 use Rattle.solver.specs.Loop.{Turn, goes, ends, tested, refused}
 
+-- the factor that a third-order step puts on Newton's
 unfoldable pub householderFactor : Float → Float → Float → Float
 householderFactor newton halley hh3 = (one ⊕ half ⊗ halley ⊗ newton) ⊘ (one ⊕ newton ⊗ (halley ⊕ hh3 ⊗ newton ⊘ float 6))
 
@@ -36,10 +35,11 @@ toMiddle bracket s = half ⊗ (bracket .left ⊕ bracket .right) ⊖ s
 
 -- ---- ds of each loop
 
--- (x / s)² / s − s / 4, and the third-order term that goes with it
+-- (x / s)² / s − s / 4
 abbrev pub halleyOf : Float → Float → Float
 halleyOf x s = squareOf (x ⊘ s) ⊘ s ⊖ s ⊘ float 4
 
+-- halley² − 3 (x / s²)² − 1/4
 abbrev pub hh3Of : Float → Float → Float → Float
 hh3Of halley x s = halley ⊗ halley ⊖ float 3 ⊗ squareOf (x ⊘ (s ⊗ s)) ⊖ quarter
 
@@ -88,6 +88,7 @@ generalDs x beta s b bp bracket =
 abbrev pub halved : Float → Float → Float
 halved s ds = s ⊕ maxOf ds (neg half ⊗ s)
 
+-- general loop: the whole step
 abbrev pub plain : Float → Float → Float
 plain s ds = s ⊕ ds
 
@@ -98,12 +99,15 @@ module _ (dsOf : Float → Float → Float → Ends → Float) (afterOf : Float 
   abbrev pub bracketOf : Ends
   bracketOf = endsAfter b beta (st .s) (st .left) (st .right)
 
+  -- the step's ds
   abbrev pub dsAt : Float
   dsAt = dsOf (st .s) b vega bracketOf
 
+  -- the step's record
   abbrev pub recordOf : Record
   recordOf = record { s = st .s; b = b; vega = vega; left = bracketOf .left; right = bracketOf .right; after = afterOf (st .s) dsAt }
 
+  -- the state after it
   abbrev pub stateAfter : State
   stateAfter = record { s = afterOf (st .s) dsAt; ds = dsAt; previous = st .ds; left = bracketOf .left; right = bracketOf .right }
 
@@ -112,32 +116,21 @@ abbrev pub withPrice : Answer → (Float → Stepped) → Stepped
 withPrice (Value b) f = f b
 withPrice (Number n) f = Refused n
 
+-- a step with these formulas of ds and of s after
 abbrev pub stepBy : (Float → Float → Float → Ends → Float) → (Float → Float → Float) → Rules → Float → Float → State → Stepped
 stepBy dsOf afterOf rules x beta st = withPrice (callOf rules x (st .s)) (λ b. Went (stateAfter dsOf afterOf beta st b (vegaOf x (st .s))) (recordOf dsOf afterOf beta st b (vegaOf x (st .s))))
 
+-- branch 1
 unfoldable pub lowerStep : Rules → Float → Float → State → Stepped
 lowerStep rules x beta st = stepBy (lowerDs x beta) halved rules x beta st
 
+-- branch 4
 unfoldable pub upperStep : Rules → Float → Float → Float → State → Stepped
 upperStep rules b-max x beta st = stepBy (upperDs b-max x beta) halved rules x beta st
 
+-- branches 2, 3 and 5
 unfoldable pub generalStep : Rules → Float → Float → State → Stepped
 generalStep rules x beta st = stepBy (generalDs x beta) plain rules x beta st
-
--- ---- the branch's own: branch 1 has the lower loop, branch 4 the upper one, every other branch the general one
-
-abbrev pub branchDs : ℕ → Float → Float → Float → Float → Float → Float → Ends → Float
-branchDs branch b-max x beta s b bp bracket =
-    let lower = lowerDs x beta s b bp bracket in
-    let upper = upperDs b-max x beta s b bp bracket in
-    let general = generalDs x beta s b bp bracket in
-    cond (eqb branch 1) lower (cond (eqb branch 4) upper general)
-
-abbrev pub branchAfter : ℕ → Float → Float → Float
-branchAfter branch s ds = cond (eqb branch 1) (halved s ds) (cond (eqb branch 4) (halved s ds) (plain s ds))
-
-abbrev pub branchStep : Rules → ℕ → Float → Float → Float → State → Stepped
-branchStep rules branch b-max x beta = stepBy (branchDs branch b-max x beta) (branchAfter branch) rules x beta
 
 -- ---- what a state leads to
 
@@ -145,6 +138,7 @@ branchStep rules branch b-max x beta = stepBy (branchDs branch b-max x beta) (br
 unfoldable pub isClose : State → Bool
 isClose st = le (absOf (st .ds)) (EPSILON ⊗ st .s)
 
+-- a completed step goes on, a refused one ends the run
 abbrev pub turnOf : Stepped → Turn State Record
 turnOf (Went st r) = goes r st
 turnOf (Refused n) = ends (refused n)

@@ -1,5 +1,4 @@
 -- Numbers as little-endian bytes, and the bytes of the trail: 48 for each record, six floats as bits, and then what stood there before. Definitions only.
-use mathlib.Core.Bool.{Bool, cond}
 use mathlib.Core.List.{List, [], _∷_, _++_}
 use Prim.Native.Nat.{ℕ, zero, suc, _+_, _*_, _/_, _%_}
 use lib.ListN.{length, take, drop}
@@ -11,6 +10,7 @@ abbrev pub bytesOf : ℕ → ℕ → List ℕ
 bytesOf zero n = []
 bytesOf (suc k) n = n % 256 ∷ bytesOf k (n / 256)
 
+-- a float's bits as 8 bytes
 abbrev pub floatBytes : Float → List ℕ
 floatBytes x = bytesOf 8 (toBits binary64 x)
 
@@ -19,12 +19,15 @@ abbrev pub numberFrom : List ℕ → ℕ
 numberFrom [] = 0
 numberFrom (b ∷ bs) = b + 256 * numberFrom bs
 
+-- so many bytes from a place on
 abbrev pub part : ℕ → ℕ → List ℕ → List ℕ
 part at size bytes = take size (drop at bytes)
 
+-- the number that stands there
 abbrev pub numberAt : ℕ → ℕ → List ℕ → ℕ
 numberAt at size bytes = numberFrom (part at size bytes)
 
+-- the float that stands there
 abbrev pub floatAt : ℕ → List ℕ → Float
 floatAt at bytes = ofBits binary64 (numberAt at 8 bytes)
 
@@ -39,6 +42,7 @@ unfoldable pub recordBytes : Record → List ℕ
 recordBytes r =
     floatBytes (r .s) ++ floatBytes (r .b) ++ floatBytes (r .vega) ++ floatBytes (r .left) ++ floatBytes (r .right) ++ floatBytes (r .after)
 
+-- the records' bytes, one after another
 abbrev pub allBytes : List Record → List ℕ
 allBytes [] = []
 allBytes (r ∷ rs) = recordBytes r ++ allBytes rs
@@ -46,7 +50,3 @@ allBytes (r ∷ rs) = recordBytes r ++ allBytes rs
 -- the trail after a run: record i at byte 48 × i, and the old bytes after the last record
 unfoldable pub trailAfter : List Record → List ℕ → List ℕ
 trailAfter rs old = allBytes rs ++ drop (48 * length rs) old
-
--- the same where a trail is kept, and the old bytes where none is
-abbrev pub keptAfter : Bool → List Record → List ℕ → List ℕ
-keptAfter keep rs old = cond keep (trailAfter rs old) old

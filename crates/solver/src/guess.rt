@@ -24,7 +24,7 @@ ghost use mathlib.Core.Path.{_≡_};
 ghost use mathlib.Core.Bool.{cond};
 ghost use Rattle.elementary.specs.Ops.{_⊗_, +0};
 ghost use Rattle.elementary.specs.Rules.{rules-0};
-ghost use Rattle.solver.specs.Step.{branchStep};
+ghost use Rattle.solver.specs.Inside.Branch.{branchStep};
 ghost use Rattle.solver.specs.Inside.Market.{Shared, Begins};
 ghost use Rattle.solver.specs.Guess as Guess;
 ghost use Rattle.solver.specs.Guess.{TWO-PI-OVER-SQRT-TWENTY-SEVEN, isBelowHorizon, inverseFLowerMap, upperMap, lowerMap, lowerGuess, middleGuess, upperF, upperGuess, startAt, withValue, tailBegun, upperPlace, lowerBegun, upperBegun, guessedBegun, mappedBegun, normalisedBegun};

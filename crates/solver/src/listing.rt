@@ -8,7 +8,7 @@ ghost use Prim.Native.Nat.{_+_, _≤_};
 ghost use lib.ListN.{length};
 ghost use Rattle.solver.specs.RuleSets.{rule-set-0};
 ghost use Rattle.solver.specs.Trail.{laid};
-ghost use Rattle.solver.specs.Listing.{decimalBy, hexDigit, hexBy, spaced, told, answerAt, lineOf, lineIn};
+ghost use Rattle.solver.specs.Listing.{decimalBy, hexDigit, hexBy, spaced, answerBytes as told, answerAt, lineOf, lineIn};
 
 // The bytes that any line fits in.
 const LINE_BYTES: usize = 128;

@@ -23,11 +23,12 @@ ghost use lib.ListN.{length};
 ghost use Rattle.elementary.specs.Rules.{rules-0};
 ghost use Rattle.solver.specs.RuleSets.{rule-set-0, rustCap};
 ghost use Rattle.solver.specs.Loop.{run as runOf};
-ghost use Rattle.solver.specs.Step.{nextBy, branchStep};
-ghost use Rattle.solver.specs.Guess.{begunFrom};
-ghost use Rattle.solver.specs.Inside.Market.{Shared, SharedIn, Begins};
+ghost use Rattle.solver.specs.Step.{nextBy};
+ghost use Rattle.solver.specs.Inside.Branch.{branchStep};
+ghost use Rattle.solver.specs.Inside.Market.{Shared, SharedIn, begunFrom, Begins};
+ghost use Rattle.solver.specs.Inside.Trail.{keptAfter};
 ghost use Rattle.solver.specs.Solve.{overExpiry, acceptedBegun, inputNumber, ran, solvingWith, solveOf, solveWithTrail, stepsOf};
-ghost use Rattle.solver.specs.Trail.{trailAfter, keptAfter};
+ghost use Rattle.solver.specs.Trail.{trailAfter};
 
 const IMPLIED_VOLATILITY_MAXIMUM_ITERATIONS: u32 = 2;
 

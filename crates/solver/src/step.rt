@@ -13,7 +13,8 @@ use elementary::methods::powi_2;
 ghost use mathlib.Core.Path.{_≡_};
 ghost use Rattle.elementary.specs.Rules.{rules-0};
 ghost use Rattle.solver.specs.Inside.Market.{Shared};
-ghost use Rattle.solver.specs.Step.{householderFactor, endsAfter, toMiddle, halleyOf, hh3Of, lowerDs, upperDs, generalDs, branchDs, branchAfter, branchStep, isClose};
+ghost use Rattle.solver.specs.Step.{householderFactor, endsAfter, toMiddle, halleyOf, hh3Of, lowerDs, upperDs, generalDs, isClose};
+ghost use Rattle.solver.specs.Inside.Branch.{branchDs, branchAfter, branchStep};
 
 const EPSILON: f64 = 2.220446049250313e-16;
 // f64::MIN, which is the largest number with its sign turned.

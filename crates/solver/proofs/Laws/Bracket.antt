@@ -1,11 +1,10 @@
 -- What a completed step says of the bracket's ends, and so what every record of a loop says. Of the steps nothing is used but the two moves. Assumes nothing.
-use mathlib.Core.Path.{_≡_, refl, subst}
-use mathlib.Core.Bool.{Bool, true, false, cond, _&&_}
+use mathlib.Core.Path.{_≡_, refl, sym, ap, _∙_, subst}
+use mathlib.Core.Bool.{Bool, true, false, cond, _&&_, and-false}
 use mathlib.Core.Logic.{_⊎_, inl, inr}
-use mathlib.Core.List.{List}
-use Prim.Native.Nat.{ℕ, _≤_}
+use Prim.Native.Nat.{ℕ}
 use native.Mathlib.Omega.{arith}
-use lib.Ieee.{Float, lt}
+use lib.Ieee.{Float, nan, inf, fin, lt}
 use Rattle.elementary.specs.Rules.{Rules}
 use Rattle.elementary.proofs.Laws.Compare.{lt-asym}
 use Rattle.prices.specs.declared.answer.Answer.{Answer}
@@ -16,10 +15,11 @@ use Rattle.solver.specs.declared.state.State.{State}
 use Rattle.solver.specs.declared.state.Record.{Record}
 use Rattle.solver.specs.declared.state.Stepped.{Stepped}
 use Rattle.solver.specs.declared.state.Stepped.the-variants.{Went, Refused}
-use Rattle.solver.specs.Loop.{goes, ends, tested, run, At, Linked}
+use Rattle.solver.specs.Loop.{goes, ends, tested, run}
 use Rattle.solver.specs.declared.state.Ends.{Ends}
 use Rattle.solver.specs.Step.{endsAfter, dsAt, recordOf, stateAfter, withPrice, stepBy, isClose, turnOf, nextBy}
-use Rattle.solver.proofs.Laws.Runs.{trace, linked, from}
+use Rattle.solver.specs.Promises.Demand3.{At, Linked, NotBelow, NotAbove, EndFrom}
+use Rattle.solver.proofs.Laws.Runs.{trace, every, linked, from}
 
 -- ---- a completed step, from the state that it starts at
 pub went : (step : State → Stepped) (st st′ : State) (r : Record) → nextBy step st ≡ goes r st′ → step st ≡ Went st′ r
@@ -77,13 +77,6 @@ lt-irrefl x = by-cases (lt x x) refl
     by-cases true e = lt-asym x x e
     by-cases false e = e
 
--- an end never falls (left) or never grows (right), by comparing floats
-abbrev pub NotBelow : Float → Float → Type 0
-NotBelow a b = lt b a ≡ false
-
-abbrev pub NotAbove : Float → Float → Type 0
-NotAbove a b = lt a b ≡ false
-
 and-l : (a b : Bool) → (a && b) ≡ true → a ≡ true
 and-l true b h = refl
 and-l false b h = h
@@ -107,24 +100,60 @@ module _ (b beta s left right : Float) where
       cases false true e f = (lt-asym left s (and-r (lt b beta) (lt left s) f), lt-irrefl right, inr (refl, and-l (lt b beta) (lt left s) f), inl refl)
       cases false false e f = (lt-irrefl left, lt-irrefl right, inl refl, inl refl)
 
--- r's end is the starting one, or the s of a record q, that one or an earlier, on the end's side
-abbrev pub EndFrom : (Record → Float) → (Record → Type 0) → Float → List Record → ℕ → Record → Type 0
-EndFrom end side start rs i r = (end r ≡ start) ⊎ ((j : ℕ) × (q : Record) × (j ≤ i) × At rs j q × (end r ≡ q .s) × side q)
+-- an end that is NaN does not move, as nothing compares with it
+nan-above : (s : Float) → lt s nan ≡ false
+unfolding lt
+nan-above nan = refl
+nan-above (inf t) = refl
+nan-above (fin t m e) = refl
+
+left-nan : (b beta s right : Float) → endsAfter b beta s nan right .left ≡ nan
+unfolding lt
+left-nan b beta s right = rw (and-false (lt b beta)) (go (lt beta b && lt s right))
+  where
+    go : (p : Bool) → cond {A = Ends} p (record { left = nan; right = s }) (record { left = nan; right = right }) .left ≡ nan
+    go true = refl
+    go false = refl
+
+right-nan : (b beta s left : Float) → endsAfter b beta s left nan .right ≡ nan
+right-nan b beta s left = rw (nan-above s, and-false (lt beta b)) (go (lt b beta && lt left s))
+  where
+    go : (q : Bool) → cond {A = Ends} q (record { left = s; right = nan }) (record { left = left; right = nan }) .right ≡ nan
+    go true = refl
+    go false = refl
 
 module _ (step : State → Stepped) (beta : Float) (moved : (st st′ : State) (r : Record) → nextBy step st ≡ goes r st′ → Moved beta st st′ r) where
-  told : (st st′ : State) (r : Record) (e : nextBy step st ≡ goes r st′) → Facts (r .b) beta (r .s) (st .left) (st .right) (record { left = r .left; right = r .right })
-  told st st′ r e = subst (Facts (r .b) beta (r .s) (st .left) (st .right)) (moved st st′ r e .bracket) (facts (r .b) beta (r .s) (st .left) (st .right))
+  ends-move : (st st′ : State) (r : Record) (e : nextBy step st ≡ goes r st′) → Facts (r .b) beta (r .s) (st .left) (st .right) (record { left = r .left; right = r .right })
+  ends-move st st′ r e = subst (Facts (r .b) beta (r .s) (st .left) (st .right)) (moved st st′ r e .bracket) (facts (r .b) beta (r .s) (st .left) (st .right))
 
   pub left-never-falls : (n : ℕ) (st : State) → Linked NotBelow (λ r. r .left) (st .left) (run (nextBy step) n st .records)
-  left-never-falls n st = linked (nextBy step) (λ st. st .left) (λ r. r .left) (λ st st′ r e. moved st st′ r e .left) NotBelow (λ st st′ r e. told st st′ r e .0) (trace (nextBy step) n st)
+  left-never-falls n st = linked (nextBy step) (λ st. st .left) (λ r. r .left) (λ st st′ r e. moved st st′ r e .left) NotBelow (λ st st′ r e. ends-move st st′ r e .0) (trace (nextBy step) n st)
 
   pub right-never-grows : (n : ℕ) (st : State) → Linked NotAbove (λ r. r .right) (st .right) (run (nextBy step) n st .records)
-  right-never-grows n st = linked (nextBy step) (λ st. st .right) (λ r. r .right) (λ st st′ r e. moved st st′ r e .right) NotAbove (λ st st′ r e. told st st′ r e .1) (trace (nextBy step) n st)
+  right-never-grows n st = linked (nextBy step) (λ st. st .right) (λ r. r .right) (λ st st′ r e. moved st st′ r e .right) NotAbove (λ st st′ r e. ends-move st st′ r e .1) (trace (nextBy step) n st)
 
   pub left-from : (n : ℕ) (st : State) (i : ℕ) (r : Record) → At (run (nextBy step) n st .records) i r → EndFrom (λ r. r .left) (λ q. lt (q .b) beta ≡ true) (st .left) (run (nextBy step) n st .records) i r
   left-from n st i r a =
-      from (nextBy step) (λ st. st .left) (λ r. r .left) (λ st st′ r e. moved st st′ r e .left) (λ q. q .s) (λ q. lt (q .b) beta ≡ true) (λ st st′ r e. told st st′ r e .2) (trace (nextBy step) n st) a
+      from (nextBy step) (λ st. st .left) (λ r. r .left) (λ st st′ r e. moved st st′ r e .left) (λ q. q .s) (λ q. lt (q .b) beta ≡ true) (λ st st′ r e. ends-move st st′ r e .2) (trace (nextBy step) n st) a
 
   pub right-from : (n : ℕ) (st : State) (i : ℕ) (r : Record) → At (run (nextBy step) n st .records) i r → EndFrom (λ r. r .right) (λ q. lt beta (q .b) ≡ true) (st .right) (run (nextBy step) n st .records) i r
   right-from n st i r a =
-      from (nextBy step) (λ st. st .right) (λ r. r .right) (λ st st′ r e. moved st st′ r e .right) (λ q. q .s) (λ q. lt beta (q .b) ≡ true) (λ st st′ r e. told st st′ r e .3) (trace (nextBy step) n st) a
+      from (nextBy step) (λ st. st .right) (λ r. r .right) (λ st st′ r e. moved st st′ r e .right) (λ q. q .s) (λ q. lt beta (q .b) ≡ true) (λ st st′ r e. ends-move st st′ r e .3) (trace (nextBy step) n st) a
+
+  pub left-stays : (n : ℕ) (st : State) → st .left ≡ nan → (i : ℕ) (r : Record) → At (run (nextBy step) n st .records) i r → r .left ≡ nan
+  left-stays n st z i r a =
+      every (nextBy step) (λ q. q .left ≡ nan) (λ p. p .left ≡ nan)
+      (λ q q′ p e h.
+      let m = moved q q′ p e in
+      let g : p .left ≡ nan = ap (λ w. w .left) (sym (m .bracket)) ∙ rw h (left-nan (p .b) beta (p .s) (q .right)) in
+      (m .left ∙ g, g))
+      (trace (nextBy step) n st) z a
+
+  pub right-stays : (n : ℕ) (st : State) → st .right ≡ nan → (i : ℕ) (r : Record) → At (run (nextBy step) n st .records) i r → r .right ≡ nan
+  right-stays n st z i r a =
+      every (nextBy step) (λ q. q .right ≡ nan) (λ p. p .right ≡ nan)
+      (λ q q′ p e h.
+      let m = moved q q′ p e in
+      let g : p .right ≡ nan = ap (λ w. w .right) (sym (m .bracket)) ∙ rw h (right-nan (p .b) beta (p .s) (q .left)) in
+      (m .right ∙ g, g))
+      (trace (nextBy step) n st) z a

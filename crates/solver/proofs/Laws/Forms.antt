@@ -1,6 +1,8 @@
 -- Which step each branch's loop takes, for every input: branch 1 the lower one, 4 the upper one, 2, 3 and 5 the general one. And in branches 1 and 4 the first s is a
--- value of binary64. Assumes nothing.
+-- value of binary64. Before a loop there is no refusal but those of Numbers. Assumes nothing.
+use mathlib.Core.Path.{_≡_, refl}
 use mathlib.Core.Bool.{Bool, true, false, cond}
+use mathlib.Core.Logic.{_⊎_, inl, inr}
 use Prim.Native.Nat.{ℕ}
 use lib.Dec.{T, eqb}
 use lib.Ieee.{Float, binary64, neg, lt, le, fits}
@@ -12,14 +14,13 @@ use Rattle.elementary.proofs.Laws.Finite.{abs-fits}
 use Rattle.elementary.specs.NormalDistribution.{inverseOf, inverseFUpperMapOf}
 use Rattle.prices.specs.declared.inputs.OptionType.{OptionType}
 use Rattle.prices.specs.declared.answer.Answer.{Answer}
-use Rattle.prices.specs.declared.answer.Answer.the-variants.{Value, Refused as Number}
 use Rattle.solver.specs.declared.state.State.{State}
 use Rattle.solver.specs.declared.state.Stepped.{Stepped}
 use Rattle.solver.specs.RuleSets.{RuleSet}
 use Rattle.solver.specs.Step.{lowerStep, upperStep, generalStep}
-use Rattle.prices.specs.Black.{callOf}
-use Rattle.solver.specs.Guess.{isBelowHorizon, inverseFLowerMap, onValue, lowerGuess, upperGuess, Begun, answered, stopped, looping, withValue, lowerBegun, tailBegun, upperBegun, mappedBegun, normalisedBegun}
+use Rattle.solver.specs.Guess.{isBelowHorizon, inverseFLowerMap, onValue, lowerGuess, middleGuess, upperMap, upperGuess, Begun, answered, stopped, looping, withValue, lowerBegun, tailBegun, upperBegun, mappedBegun, normalisedBegun}
 use Rattle.solver.specs.Solve.{overExpiry, acceptedBegun, inputNumber, begunOf}
+use Rattle.solver.proofs.Laws.Numbers.{Passes, value, cubic, region, call-passes, cubic-passes, upper-f-passes, Refusal, trail-number, cubic-number, region-number, input-number}
 
 pub data LoopForm : ℕ → Float → (State → Stepped) → State → Type 0 where
   lower : (rules : Rules) (x : Float) {beta : Float} {st : State} → T (fits binary64 (st .s)) → LoopForm 1 beta (lowerStep rules x beta) st
@@ -28,25 +29,28 @@ pub data LoopForm : ℕ → Float → (State → Stepped) → State → Type 0 w
   upper-middle : (rules : Rules) (x : Float) {beta : Float} {st : State} → LoopForm 3 beta (generalStep rules x beta) st
   upper-tail : (rules : Rules) (x : Float) {beta : Float} {st : State} → LoopForm 5 beta (generalStep rules x beta) st
 
--- what a run can begin with
-pub data Formed : Begun → Type 0 where
-  known : {v : Float} → Formed (answered v)
-  ended : {n : ℕ} → Formed (stopped n)
-  loop : {branch : ℕ} {beta : Float} {step : State → Stepped} {st : State} → LoopForm branch beta step st → Formed (looping branch beta step st)
+-- what a run can begin with; `short` says whether its trail is too short
+pub data BeginForm (short : Bool) : Begun → Type 0 where
+  known : {v : Float} → BeginForm short (answered v)
+  ended : {n : ℕ} → Refusal short n → BeginForm short (stopped n)
+  loop : {branch : ℕ} {beta : Float} {step : State → Stepped} {st : State} → LoopForm branch beta step st → BeginForm short (looping branch beta step st)
 
-either : (c : Bool) {a b : Begun} → Formed a → Formed b → Formed (cond c a b)
-either true h k = h
-either false h k = k
+module _ {short : Bool} where
+  either : (c : Bool) {a b : Begun} → BeginForm short a → BeginForm short b → BeginForm short (cond c a b)
+  either true h k = h
+  either false h k = k
 
-with-value : (a : Answer) (f : Float → Begun) → ((v : Float) → Formed (f v)) → Formed (withValue a f)
-unfolding withValue
-with-value (Value v) f h = h v
-with-value (Number n) f h = ended
+  with-value : {a : Answer} → Passes a → (f : Float → Begun) → ((v : Float) → BeginForm short (f v)) → BeginForm short (withValue a f)
+  unfolding withValue
+  with-value (value {v}) f h = h v
+  with-value cubic f h = ended cubic-number
+  with-value region f h = ended region-number
 
-on-value : (a : Answer) (g : Float → Float) (f : Float → Begun) → ((v : Float) → Formed (f (g v))) → Formed (withValue (onValue a g) f)
-unfolding withValue onValue
-on-value (Value v) g f h = h v
-on-value (Number n) g f h = ended
+  on-value : {a : Answer} → Passes a → (g : Float → Float) (f : Float → Begun) → ((v : Float) → BeginForm short (f (g v))) → BeginForm short (withValue (onValue a g) f)
+  unfolding withValue onValue
+  on-value (value {v}) g f h = h v
+  on-value cubic g f h = ended cubic-number
+  on-value region g f h = ended region-number
 
 lower-fits : (rules : Rules) (x f : Float) → T (fits binary64 (inverseFLowerMap rules x f))
 unfolding inverseFLowerMap
@@ -56,39 +60,53 @@ upper-fits : (rules : Rules) (f : Float) → T (fits binary64 (inverseFUpperMapO
 unfolding inverseFUpperMapOf
 upper-fits rules f = mul-fits binary64 (neg two) (inverseOf rules f)
 
-lower-formed : (rules : Rules) (x beta s-c b-c v-c : Float) → Formed (lowerBegun rules x beta s-c b-c v-c)
-unfolding lowerBegun lowerGuess
-lower-formed rules x beta s-c b-c v-c =
-    with-value (callOf rules x (s-c ⊖ b-c ⊘ v-c)) _ (λ b-l. either (lt beta b-l) (on-value _ _ _ (λ f. loop (lower rules x (lower-fits rules x _)))) (with-value _ _ (λ s. loop (lower-middle rules x))))
+module _ {short : Bool} where
+  lower-form : (rules : Rules) (x beta s-c b-c v-c : Float) → BeginForm short (lowerBegun rules x beta s-c b-c v-c)
+  unfolding lowerBegun lowerGuess middleGuess
+  lower-form rules x beta s-c b-c v-c =
+      with-value (call-passes rules x (s-c ⊖ b-c ⊘ v-c)) _ (λ b-l.
+      either (lt beta b-l)
+      (on-value (cubic-passes _ _ _ _ _ _ _ _) _ _ (λ f. loop (lower rules x (lower-fits rules x _))))
+      (with-value (cubic-passes _ _ _ _ _ _ _ _) _ (λ s. loop (lower-middle rules x))))
 
-tail-formed : (rules : Rules) (x beta b-max b-h s-h : Float) → Formed (tailBegun rules x beta b-max b-h s-h)
-unfolding tailBegun upperGuess
-tail-formed rules x beta b-max b-h s-h =
-    on-value _ _ _ (λ f. either (lt (half ⊗ b-max) beta) (loop (upper rules b-max x (upper-fits rules _))) (loop (upper-tail rules x)))
+  tail-form : (rules : Rules) (x beta b-max b-h s-h : Float) → BeginForm short (tailBegun rules x beta b-max b-h s-h)
+  unfolding tailBegun upperGuess
+  tail-form rules x beta b-max b-h s-h =
+      on-value (upper-f-passes beta b-max b-h (upperMap rules x s-h)) _ _ (λ f.
+      either (lt (half ⊗ b-max) beta) (loop (upper rules b-max x (upper-fits rules _))) (loop (upper-tail rules x)))
 
-upper-formed : (rules : Rules) (x beta b-max s-c b-c v-c : Float) → Formed (upperBegun rules x beta b-max s-c b-c v-c)
-unfolding upperBegun
-upper-formed rules x beta b-max s-c b-c v-c =
-    with-value (callOf rules x _) _ (λ b-h. either (le beta b-h) (with-value _ _ (λ s. loop (upper-middle rules x))) (tail-formed rules x beta b-max b-h _))
+  upper-form : (rules : Rules) (x beta b-max s-c b-c v-c : Float) → BeginForm short (upperBegun rules x beta b-max s-c b-c v-c)
+  unfolding upperBegun middleGuess
+  upper-form rules x beta b-max s-c b-c v-c =
+      with-value (call-passes rules x _) _ (λ b-h.
+      either (le beta b-h) (with-value (cubic-passes _ _ _ _ _ _ _ _) _ (λ s. loop (upper-middle rules x))) (tail-form rules x beta b-max b-h _))
 
-mapped-formed : (rules : Rules) (x beta : Float) → Formed (mappedBegun rules x beta)
-unfolding mappedBegun
-mapped-formed rules x beta =
-    either (le beta +0) known
-    (either (lt beta +0) known
-    (either (le _ beta) known (with-value _ _ (λ b-c. either (lt beta b-c) (lower-formed rules x beta _ b-c _) (upper-formed rules x beta _ _ b-c _)))))
+  mapped-form : (rules : Rules) (x beta : Float) → BeginForm short (mappedBegun rules x beta)
+  unfolding mappedBegun
+  mapped-form rules x beta =
+      either (le beta +0) known
+      (either (lt beta +0) known
+      (either (le _ beta) known (with-value (call-passes rules x _) _ (λ b-c. either (lt beta b-c) (lower-form rules x beta _ b-c _) (upper-form rules x beta _ _ b-c _)))))
 
-over-formed : (expiry : Float) (b : Begun) → Formed b → Formed (overExpiry expiry b)
-over-formed expiry (answered v) h = known
-over-formed expiry (stopped n) h = ended
-over-formed expiry (looping branch beta step st) h = h
+  over-form : (expiry : Float) (b : Begun) → BeginForm short b → BeginForm short (overExpiry expiry b)
+  over-form expiry (answered v) h = known
+  over-form expiry (stopped n) h = h
+  over-form expiry (looping branch beta step st) h = h
 
-accepted-formed : (rules : RuleSet) (price forward strike expiry : Float) (kind : OptionType) → Formed (acceptedBegun rules price forward strike expiry kind)
-unfolding acceptedBegun normalisedBegun
-accepted-formed rules price forward strike expiry kind =
-    either (lt price _) known (either (le _ price) known (either (lt +0 _) (over-formed expiry _ (mapped-formed (rules .elementary) _ _)) (over-formed expiry _ (mapped-formed (rules .elementary) _ _))))
+  accepted-form : (set : RuleSet) (price forward strike expiry : Float) (kind : OptionType) → BeginForm short (acceptedBegun set price forward strike expiry kind)
+  unfolding acceptedBegun normalisedBegun
+  accepted-form set price forward strike expiry kind =
+      either (lt price _) known (either (le _ price) known (either (lt +0 _) (over-form expiry _ (mapped-form (set .elementary) _ _)) (over-form expiry _ (mapped-form (set .elementary) _ _))))
 
-pub begun-formed : (rules : RuleSet) (short : Bool) (price forward strike expiry : Float) (kind : OptionType) → Formed (begunOf rules short price forward strike expiry kind)
+  number-form : {b : Begun} (k : ℕ) → (k ≡ 0) ⊎ Refusal short k → BeginForm short b → BeginForm short (cond (eqb k 0) b (stopped k))
+  number-form k (inl z) f = rw z f
+  number-form k (inr r) f = either (eqb k 0) f (ended r)
+
+short-form : (short : Bool) {b : Begun} → ((c : Bool) → BeginForm c b) → BeginForm short (cond short (stopped 21) b)
+short-form true f = ended (trail-number refl)
+short-form false f = f false
+
+pub begin-form : (set : RuleSet) (short : Bool) (price forward strike expiry : Float) (kind : OptionType) → BeginForm short (begunOf set short price forward strike expiry kind)
 unfolding begunOf
-begun-formed rules short price forward strike expiry kind =
-    either (eqb (inputNumber price forward strike expiry) 0) (either short ended (accepted-formed rules price forward strike expiry kind)) ended
+begin-form set short price forward strike expiry kind =
+    number-form (inputNumber price forward strike expiry) (input-number short price forward strike expiry) (short-form short (λ c. accepted-form set price forward strike expiry kind))

@@ -24,6 +24,7 @@ use Rattle.elementary.specs.Methods.{signOf, maxOf}
 use Rattle.elementary.proofs.Laws.Held.{holds}
 use Rattle.solver.proofs.Laws.Bracket.{lt-irrefl as float-lt-irrefl}
 use Rattle.solver.specs.Step.{halved}
+use Rattle.solver.specs.Promises.Demand3.{least}
 
 -- ---- s / 2 is exact
 
@@ -135,9 +136,6 @@ is-number x t a c v = go (ne x x) refl
     go false e = e
 
 -- ---- the step
-
-abbrev pub least : Float
-least = ofBits binary64 0x0020_0000_0000_0000
 
 -- every completed step from a finite s of at least 2 ^ -1021 leaves at least s / 2
 pub leaves-half : (s ds : Float) → T (fits binary64 s) → T (finite s) → le least s ≡ true → le (div binary64 s two) (halved s ds) ≡ true

@@ -1,5 +1,5 @@
 -- Bytes laid into a list, one run behind the other: what two stores leave is what one store of both runs leaves. Theorems.
-use mathlib.Core.Path.{_≡_, refl, _∙_}
+use mathlib.Core.Path.{_≡_, _∙_}
 use mathlib.Core.List.{List, [], _∷_, _++_, append-assoc}
 use Prim.Native.Nat.{ℕ, _+_, _≤_}
 use native.Mathlib.Nat.{add-assoc}

@@ -12,7 +12,7 @@ use Rattle.solver.specs.declared.state.Solution.{Solution}
 use Rattle.solver.specs.declared.state.Solution.the-variants.{Solved, Refused}
 use Rattle.solver.specs.RuleSets.{RuleSet}
 use Rattle.solver.specs.Trail.{laid}
-use Rattle.solver.specs.Listing.{decimalBy, hexBy, told, answerAt, lineOf, Lined, lineIn}
+use Rattle.solver.specs.Listing.{decimalBy, hexBy, answerBytes, answerAt, lineOf, lineIn}
 
 short : (b : Bool) (x y : List ℕ) (m : ℕ) → length x ≤ m → length y ≤ m → length (cond b x y) ≤ m
 short true x y m p q = p
@@ -28,16 +28,16 @@ unfolding hexBy
 hex-length zero n = refl
 hex-length (suc k) n = simp length-append (omega (arith, hex-length k (n / 16)))
 
-pub told-length : (answer : Solution) → length (told answer) ≤ 80
-told-length (Solved volatility branch ending steps) =
+pub answer-length : (answer : Solution) → length (answerBytes answer) ≤ 80
+answer-length (Solved volatility branch ending steps) =
     simp length-append (omega (arith, hex-length 16 (toBits binary64 volatility), decimal-length 20 steps, decimal-length 20 branch, decimal-length 20 ending))
-told-length (Refused n steps) = omega (arith, decimal-length 20 n)
+answer-length (Refused n steps) = omega (arith, decimal-length 20 n)
 
-module _ (rules : RuleSet) (i : ℕ) (bytes : List ℕ) where
-  pub line-length : length (lineOf rules i bytes) ≤ 101
+module _ (set : RuleSet) (i : ℕ) (bytes : List ℕ) where
+  pub line-length : length (lineOf set i bytes) ≤ 101
   unfolding lineOf
-  line-length = simp length-append (omega (arith, decimal-length 20 i, told-length (answerAt rules bytes)))
+  line-length = simp length-append (omega (arith, decimal-length 20 i, answer-length (answerAt set bytes)))
 
-  pub line-in : (out : List ℕ) → 128 ≤ length out → lineIn rules i bytes out ≡ record { count = length (lineOf rules i bytes); bytes = laid 0 (lineOf rules i bytes) out }
+  pub line-in : (out : List ℕ) → 128 ≤ length out → lineIn set i bytes out ≡ record { count = length (lineOf set i bytes); bytes = laid 0 (lineOf set i bytes) out }
   unfolding lineIn
   line-in out room = rw (le-ltb (length out) 128 room)

@@ -14,8 +14,9 @@ use Rattle.solver.specs.declared.state.Stepped.the-variants.{Went, Refus
 use Rattle.solver.specs.Loop.{Ending, tested, limited, refused, Turn, goes, ends, Run, after, run}
 use Rattle.solver.specs.Step.{isClose, nextBy}
 use Rattle.solver.specs.Solve.{answerOf, ran}
-use Rattle.solver.specs.Trail.{laid, recordBytes, allBytes, trailAfter, keptAfter}
-use Rattle.solver.proofs.Promised.{all-length, all-append}
+use Rattle.solver.specs.Trail.{laid, recordBytes, allBytes, trailAfter}
+use Rattle.solver.specs.Inside.Trail.{keptAfter}
+use Rattle.solver.proofs.Laws.Trails.{all-length, all-append}
 use Rattle.solver.proofs.Laws.Parts.{behind}
 
 pub record Reached (next : State → Turn State Record) (limit : ℕ) (keep : Bool) (st₀ : State) (old trail : List ℕ) (st : State) (steps : ℕ) : Type 0 where

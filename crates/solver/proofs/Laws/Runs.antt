@@ -1,20 +1,27 @@
 -- Demand 3 of any loop: a longer limit gives the same run or continues it, the steps keep within the limit, and what a step keeps or moves is so in every
 -- record. Assumes nothing.
-use mathlib.Core.Path.{_≡_, refl, _∙_, ap}
-use mathlib.Core.Bool.{false}
+use mathlib.Core.Path.{_≡_, refl, sym, _∙_, ap}
+use mathlib.Core.Bool.{Bool, true, false, true≢false}
 use mathlib.Core.Logic.{_⊎_, inl, inr, ⊎-elim}
 use mathlib.Core.List.{List, [], _∷_, _++_}
-use Prim.Native.Nat.{ℕ, zero, suc, _≤_, zero-le, suc-le-suc}
+use Prim.Native.Nat.{ℕ, zero, suc, _≤_, _<_, zero-le, suc-le-suc}
 use native.Mathlib.Omega.{arith}
 use lib.ListN.{length}
-use Rattle.solver.specs.Loop.{Turn, goes, ends, Run, after, follow, run, byLimit, At, here, there, Linked}
+use Rattle.solver.specs.Loop.{Ending, tested, limited, refused, Turn, goes, ends, Run, follow, run}
+use Rattle.solver.specs.Promises.Demand3.{At, here, there, Linked}
+
+-- the run reached its limit
+abbrev pub byLimit : {S : Type 0} → Ending S → Bool
+byLimit (tested s) = false
+byLimit (limited s) = true
+byLimit (refused k) = false
 
 module _ {S R : Type 0} where
   -- the records of w begin with those of v
-  abbrev pub Begins : Run S R → Run S R → Type 0
-  Begins w v = (rest : List R) × (w .records ≡ v .records ++ rest)
+  abbrev pub StartsWith : Run S R → Run S R → Type 0
+  StartsWith w v = (rest : List R) × (w .records ≡ v .records ++ rest)
 
-  follow-begins : (long short : S → Run S R) → ((s : S) → Begins (long s) (short s)) → (t : Turn S R) → Begins (follow t long) (follow t short)
+  follow-begins : (long short : S → Run S R) → ((s : S) → StartsWith (long s) (short s)) → (t : Turn S R) → StartsWith (follow t long) (follow t short)
   follow-begins long short ih (goes r s) = (ih s .0, ap (λ l. r ∷ l) (ih s .1))
   follow-begins long short ih (ends e) = ([], refl)
 
@@ -27,9 +34,21 @@ module _ {S R : Type 0} where
   follow-steps n rest ih (goes r s) = suc-le-suc (ih s)
   follow-steps n rest ih (ends e) = zero-le
 
+  follow-ends : (says : Ending S → Type 0) (rest : S → Run S R) → ((s : S) → says (rest s .ending)) → (t : Turn S R) → ((e : Ending S) → t ≡ ends e → says e) → says (follow t rest .ending)
+  follow-ends says rest ih (goes r s) h = ih s
+  follow-ends says rest ih (ends e) h = h e refl
+
+  -- a run of limit n that its limit ended has taken n steps, any other fewer
+  abbrev pub Counts : ℕ → Run S R → Type 0
+  Counts n w = (byLimit (w .ending) ≡ true → length (w .records) ≡ n) × (byLimit (w .ending) ≡ false → length (w .records) < n)
+
+  follow-counts : (n : ℕ) (rest : S → Run S R) → ((s : S) → Counts n (rest s)) → (t : Turn S R) → ((e : Ending S) → t ≡ ends e → byLimit e ≡ false) → Counts (suc n) (follow t rest)
+  follow-counts n rest ih (goes r s) h = (λ e. ap suc (ih s .0 e), λ e. omega (arith, ih s .1 e))
+  follow-counts n rest ih (ends x) h = (λ e. absurd (true≢false (sym e ∙ h x refl)), λ e. omega arith)
+
 module _ {S R : Type 0} (next : S → Turn S R) where
   -- the long run's records begin with all the short run's
-  pub begins : (n m : ℕ) → n ≤ m → (s : S) → Begins (run next m s) (run next n s)
+  pub begins : (n m : ℕ) → n ≤ m → (s : S) → StartsWith (run next m s) (run next n s)
   unfolding run
   begins zero m h s = (run next m s .records, refl)
   begins (suc n) zero h s = absurd (omega arith)
@@ -46,6 +65,17 @@ module _ {S R : Type 0} (next : S → Turn S R) where
   unfolding run
   steps zero s = zero-le
   steps (suc n) s = follow-steps n (run next n) (steps n) (next s)
+
+  -- what is so of a limit reached and of every ending that a state leads to is so of the run's ending
+  pub ends-as : (says : Ending S → Type 0) → ((s : S) → says (limited s)) → ((s : S) (e : Ending S) → next s ≡ ends e → says e) → (n : ℕ) (s : S) → says (run next n s .ending)
+  unfolding run
+  ends-as says l h zero s = l s
+  ends-as says l h (suc n) s = follow-ends says (run next n) (ends-as says l h n) (next s) (h s)
+
+  pub counts : ((s : S) (e : Ending S) → next s ≡ ends e → byLimit e ≡ false) → (n : ℕ) (s : S) → Counts n (run next n s)
+  unfolding run
+  counts h zero s = (λ e. refl, λ e. absurd (true≢false e))
+  counts h (suc n) s = follow-counts n (run next n) (counts h n) (next s) (h s)
 
   -- the records that the states lead to, one after another
   pub data Trace : S → List R → Type 0 where

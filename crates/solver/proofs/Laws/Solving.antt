@@ -15,9 +15,9 @@ use Rattle.solver.specs.declared.state.Solution.{Solution}
 use Rattle.solver.specs.declared.state.Solution.the-variants.{Refused}
 use Rattle.solver.specs.declared.state.Start.{Start}
 use Rattle.solver.specs.RuleSets.{rule-set-0}
-use Rattle.solver.specs.Guess.{begunFrom}
+use Rattle.solver.specs.Inside.Market.{begunFrom}
 use Rattle.solver.specs.Solve.{acceptedBegun, inputNumber, begunOf, Solving, solvingOf, solvingWith}
-use Rattle.solver.specs.Trail.{keptAfter}
+use Rattle.solver.specs.Inside.Trail.{keptAfter}
 use Rattle.solver.proofs.Laws.Reached.{none-wrote}
 
 module _ (keep : Bool) (bytes : ℕ) (price forward strike expiry : Float) (kind : OptionType) (n : ℕ) where

@@ -49,10 +49,10 @@ module _ (book : List ℕ) (used k : ℕ) where
   unfolding readOf
   read-none e = rw e (refl, refl)
 
-  pub recheck-held : (rules : RuleSet) (a : Checking) → isHeld book used k ≡ true → a ≡ checked (slot k book) (resolved rules (slot k book)) → a ≡ recheckOf rules book used k
+  pub recheck-held : (set : RuleSet) (a : Checking) → isHeld book used k ≡ true → a ≡ checked (slot k book) (resolved set (slot k book)) → a ≡ recheckOf set book used k
   unfolding recheckOf
-  recheck-held rules a e h = rw e (rw (slot-is k book) at h)
+  recheck-held set a e h = rw e (rw (slot-is k book) at h)
 
-  pub recheck-none : (rules : RuleSet) → isHeld book used k ≡ false → Refused 23 0 ≡ recheckOf rules book used k
+  pub recheck-none : (set : RuleSet) → isHeld book used k ≡ false → Refused 23 0 ≡ recheckOf set book used k
   unfolding recheckOf
-  recheck-none rules e = rw e
+  recheck-none set e = rw e

@@ -5,7 +5,8 @@ use Rattle.prices.specs.Inside.Exponentials.{upOf, downOf}
 use Rattle.solver.specs.declared.market.Market.{Market}
 use Rattle.solver.specs.declared.state.Start.{Start}
 use Rattle.solver.specs.declared.state.Start.the-variants.{Answered, Stopped, Looping}
-use Rattle.solver.specs.Guess.{Begun, begunFrom}
+use Rattle.solver.specs.Guess.{Begun, answered, stopped, looping}
+use Rattle.solver.specs.Inside.Branch.{branchStep}
 
 -- b_max and down are the exponentials of x / 2 and −x / 2
 pub record Shared (m : Market) : Type 0 where
@@ -17,6 +18,12 @@ abbrev pub SharedIn : Start → Type 0
 SharedIn (Answered v) = Unit
 SharedIn (Stopped n) = Unit
 SharedIn (Looping branch m st) = Shared m
+
+-- what the code's three cases say; the branch tells the loop's step
+abbrev pub begunFrom : Rules → Start → Begun
+begunFrom rules (Answered v) = answered v
+begunFrom rules (Stopped n) = stopped n
+begunFrom rules (Looping branch m st) = looping branch (m .beta) (branchStep rules branch (m .«b_max») (m .x) (m .beta)) st
 
 -- the code's start says what b says, and a loop's exponentials are those of its x
 pub record Begins (rules : Rules) (start : Start) (b : Begun) : Type 0 where

@@ -7,9 +7,9 @@ use native.Mathlib.Omega.{arith}
 use lib.ListN.{length}
 use borrow.Author.Needs.{needs}
 use borrow.Author.Tests.{lt-ltb, le-ltb}
-use Rattle.solver.specs.Listing.{decimalBy, told, lineOf, lineIn}
+use Rattle.solver.specs.Listing.{decimalBy, answerBytes, lineOf, lineIn}
 use Rattle.solver.proofs.Laws.Laid.{put-both}
-use Rattle.solver.proofs.Laws.Lines.{decimal-length, told-length}
+use Rattle.solver.proofs.Laws.Lines.{decimal-length, answer-length}
 use Rattle.solver.proofs.listing.line.Statement.{statement}
 use Rattle.solver.proofs.listing.line.Tie as tie
 
@@ -32,7 +32,7 @@ put-byte-requires : tie.Need-put-byte-requires
 put-byte-requires c κs =
     let p₂ = c .before .before .before in
     let p₁ = p₂ .before .before .before .before .before in
-    omega (arith, decimal-length 20 (p₁ .before .before .before .before .before .args .index), told-length (p₂ .before .answer-of .result))
+    omega (arith, decimal-length 20 (p₁ .before .before .before .before .before .args .index), answer-length (p₂ .before .answer-of .result))
 
 same-length : tie.Need-same-length
 same-length c = search needs
@@ -48,8 +48,8 @@ returns-2 c =
     let answer = p₂ .before .answer-of in
     let number = decimalBy 20 (a .index) in
     let room : 0 ≤ length (a .out .now) = omega arith in
-    let q₂ = put-both 0 number (told (answer .result)) (a .out .now) _ _ _ _ room (p₁ .put-decimal .ensures) (p₂ .put-told .ensures) in
-    let q₃ = put-both 0 (number ++ told (answer .result)) (10 ∷ []) (a .out .now) _ _ _ _ room q₂ (p₃ .put-byte .ensures) in
+    let q₂ = put-both 0 number (answerBytes (answer .result)) (a .out .now) _ _ _ _ room (p₁ .put-decimal .ensures) (p₂ .put-told .ensures) in
+    let q₃ = put-both 0 (number ++ answerBytes (answer .result)) (10 ∷ []) (a .out .now) _ _ _ _ room q₂ (p₃ .put-byte .ensures) in
     rw (le-ltb (length (a .out .now)) 128 (large .if1 .left), ← answer .ensures) (q₃ .0 ∙ zero-add _, q₃ .1)
 
 pub line-spec : {M : Type 1} → statement M

@@ -12,7 +12,8 @@ use Rattle.elementary.specs.Rules.{rules-0}
 use Rattle.solver.specs.declared.state.State.{State}
 use Rattle.solver.specs.declared.state.Stepped.{Stepped}
 use Rattle.solver.specs.Loop.{tested, limited, refused, run}
-use Rattle.solver.specs.Step.{nextBy, branchStep}
+use Rattle.solver.specs.Step.{nextBy}
+use Rattle.solver.specs.Inside.Branch.{branchStep}
 use Rattle.solver.specs.Trail.{recordBytes}
 use Rattle.solver.proofs.solve.run.Statement.{statement}
 use Rattle.solver.proofs.solve.run.Tie as tie
@@ -66,9 +67,9 @@ loop-less c = search needs
 loop-again : tie.Need-loop-again Inv-loop μ-loop
 unfolding recordBytes
 loop-again c =
-    let told = c .before in
-    let next = told .before .next .given in
-    let step = told .before .before .before in
+    let ahead = c .before in
+    let next = ahead .before .next .given in
+    let step = ahead .before .before .before in
     let test = step .before in
     let room = test .before .before in
     let at = room .before in

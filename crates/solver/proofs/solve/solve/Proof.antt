@@ -47,11 +47,11 @@ sqrt-requires c κs = search needs
 
 run-requires : tie.Need-run-requires
 run-requires c κs =
-    let told = c .before .before .before in
-    let start = told .before .before in
+    let ahead = c .before .before .before in
+    let start = ahead .before .before in
     let test = start .before in
     let a = test .before .before .before .before .args in
-    (rw (told .branch .given .1) at (start .accepted-start .ensures .shared), room (a .keep) (length (now (a .trail))) (a .limit) (came test))
+    (rw (ahead .branch .given .1) at (start .accepted-start .ensures .shared), room (a .keep) (length (now (a .trail))) (a .limit) (came test))
 
 returns-3 : tie.Need-returns-3
 unfolding solvingOf
@@ -77,12 +77,12 @@ unfolding solvingOf
 returns-5 c =
     let call = c .before .before in
     let root = call .before .before in
-    let told = root .before .before in
-    let start = told .before .before in
+    let ahead = root .before .before in
+    let start = ahead .before .before in
     let test = start .before in
     let a = test .before .before .before .before .args in
     ran-on (a .keep) _ _ _ _ _
-    (by-start (a .keep) (length (now (a .trail))) (a .price) (a .forward) (a .strike) (a .expiry) (a .option-type) (a .limit) _ (test .before .before .input-number .ensures) (test .before .if1 .left) (long (a .keep) (length (now (a .trail))) (a .limit) (came test)) _ (start .accepted-start .ensures .begun) _ (told .branch .given .1))
+    (by-start (a .keep) (length (now (a .trail))) (a .price) (a .forward) (a .strike) (a .expiry) (a .option-type) (a .limit) _ (test .before .before .input-number .ensures) (test .before .if1 .left) (long (a .keep) (length (now (a .trail))) (a .limit) (came test)) _ (start .accepted-start .ensures .begun) _ (ahead .branch .given .1))
     (rw (root .sqrt .ensures) at (call .run .ensures))
 
 pub solve-spec : {M : Type 1} → statement M
