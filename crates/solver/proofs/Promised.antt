@@ -13,7 +13,7 @@ use Rattle.solver.specs.Guess.{Begun}
 use Rattle.solver.specs.Solve.{begunOf, Solving, solvingOf, solvingWith, solveOf, solveWithTrail, stepsOf}
 use Rattle.solver.specs.Promises.Demand3.{Trail, none, of-bytes, LongEnough, runOf, beginOf, OneRun, Sentences, Demand-3}
 use Rattle.solver.specs.Promises.Answers.{Numbers, Solve-numbers, Line-length}
-use Rattle.solver.specs.Promises.Table.{Table}
+use Rattle.solver.specs.Table.{Table}
 use Rattle.solver.proofs.Laws.Forms.{BeginForm, begin-form}
 use Rattle.solver.proofs.Laws.Loops.{longer-run, run-steps, one-run, answer-half, run-numbers}
 use Rattle.solver.proofs.Laws.Lines as lines

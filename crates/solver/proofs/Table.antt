@@ -16,7 +16,7 @@ use Rattle.solver.specs.Guess.{normalisedBegun, mappedBegun}
 use Rattle.solver.specs.Book.{filedBytes, resolved}
 use Rattle.solver.specs.Listing.{decimalBy, hexBy, answerAt, lineOf}
 use Rattle.solver.specs.Solve.{acceptedBegun, inputNumber, begunOf, solvingOf, solvingWith, solveOf, solveWithTrail}
-use Rattle.solver.specs.Promises.Table.{Gives, Table}
+use Rattle.solver.specs.Table.{Gives, Table}
 
 gives : (a : Solution) (v : Float) → a ≡ Solved v 0 0 0 → Gives a v
 gives a v e = rw e (record { number = refl; value = refl; branch = refl; ending = refl; steps = refl })

@@ -10,5 +10,6 @@ pub mod Book
 pub mod Listing
 -- Promises: statements alone, no proof.
 pub mod Promises
+pub mod Table
 -- Words of private contracts.
 pub mod Inside

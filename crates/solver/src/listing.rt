@@ -8,7 +8,7 @@ ghost use Prim.Native.Nat.{_+_, _≤_};
 ghost use lib.ListN.{length};
 ghost use Rattle.solver.specs.RuleSets.{rule-set-0};
 ghost use Rattle.solver.specs.Trail.{laid};
-ghost use Rattle.solver.specs.Listing.{decimalBy, hexDigit, hexBy, spaced, answerBytes as told, answerAt, lineOf, lineIn};
+ghost use Rattle.solver.specs.Listing.{decimalBy, hexDigit, hexBy, spaced, answerBytes, answerAt, lineOf, lineIn};
 
 // The bytes that any line fits in.
 const LINE_BYTES: usize = 128;
@@ -72,8 +72,8 @@ fn put_spaced(out: &mut [u8], at: usize, n: u64) -> usize
 // What follows the record number, but for the line feed.
 fn put_told(out: &mut [u8], at: usize, answer: Solution) -> usize
     requires { ⌜ at + 80 ≤ length (now out) ⌝ }
-    ensures { λ r. ⌜ r ≡ at + length (told answer) ⌝ }
-    ensures { λ _. ⌜ now (out .exit) ≡ laid at (told answer) (now (out .entry)) ⌝ }
+    ensures { λ r. ⌜ r ≡ at + length (answerBytes answer) ⌝ }
+    ensures { λ _. ⌜ now (out .exit) ≡ laid at (answerBytes answer) (now (out .entry)) ⌝ }
 {
     let end = put_byte(out, at, b' ');
     match answer {
