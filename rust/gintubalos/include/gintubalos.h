@@ -52,7 +52,8 @@ extern "C" {
 /* ---- The Black price, and the volatility of a price ---- */
 
 /* The price's bits, a NaN's where it is refused: 2, 3, 5, 4, then 7. `number` gets the number, 0 for none. 7 comes at the
- * edge of the asymptotic region, and where forward / strike overflows or rounds to 0 and sigma is negative or -0. */
+ * edge of the asymptotic region, and where forward / strike overflows or rounds to 0 and sigma is negative or -0 (unless
+ * 0.5 x sigma^2 x expiry overflows). */
 uint64_t gintubalos_black(uint64_t forward, uint64_t strike, uint64_t sigma, uint64_t expiry, uint8_t kind,
                           uint8_t *number);
 
