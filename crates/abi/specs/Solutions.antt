@@ -20,12 +20,15 @@ use Rattle.solver.specs.Book.{FiledBook, fileOf, Read}
 abbrev pub outcomeFrom : ℕ → ℕ → ℕ → ℕ → ℕ
 outcomeFrom number branch ending steps = number + branch * 256 + ending * 65536 + steps * 2 ^ 32
 
+-- that word of solve's answer, of file's and of recheck's
 abbrev pub outcomeOf : Solution → ℕ
 outcomeOf a = outcomeFrom (numberIn a) (branchIn a) (endingIn a) (stepsIn a)
 
+-- file has no branch and no ending to tell: they are in the book
 abbrev pub filingOutcome : Filing → ℕ
 filingOutcome a = outcomeFrom (filingNumber a) 0 0 (filingSteps a)
 
+-- nor has recheck
 abbrev pub checkingOutcome : Checking → ℕ
 checkingOutcome a = outcomeFrom (checkingNumber a) 0 0 (checkingSteps a)
 
@@ -49,6 +52,7 @@ untrailedAt kind price forward strike expiry n =
     let put = solveOf rule-set-0 price forward strike expiry Put n .answer in
     cond (eqb kind 1) call (cond (eqb kind 2) put (Refused 24 0))
 
+-- file, into slot `used` of the book
 unfoldable pub filingAt : ℕ → Float → Float → Float → Float → ℤ → List ℕ → ℕ → FiledBook
 filingAt kind price forward strike expiry limit book used =
     let call = fileOf price forward strike expiry Call limit book used rule-set-0 in

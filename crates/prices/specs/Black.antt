@@ -144,7 +144,7 @@ usingErfcxOf h t = maxOf (half ⊗ bell h t ⊗ (erfcxOf (MINUS-FRAC ⊗ (h ⊕ 
 
 -- ---- the price
 
--- h below −10 and t small, told without a division by s
+-- h below −10 and t small, by a test without a division by s
 abbrev pub isAsymptotic : Float → Float → Bool
 isAsymptotic x s = lt x (s ⊗ H-LARGE) && lt (half ⊗ s ⊗ s ⊕ x) (s ⊗ (SMALL-T ⊕ H-LARGE))
 
