@@ -115,6 +115,13 @@ fn ones() -> Edges {
     Edges::combined(vec![[edges(&POINTS, 3), sixteenths()].concat()])
 }
 
+/// With the first floats at which erfc and the cdf are NaN, since y × 16 overflows, and the last ones before them.
+fn far() -> Edges {
+    let first = [0x7FB0 << 48, 0x7FB6_A09E_667F_3BCC];
+    let kept = first.into_iter().flat_map(|x: u64| [x - 1, x]).flat_map(|x| [x, x | 1 << 63]);
+    Edges { kept: kept.map(|x| wide([x])).collect(), ..ones() }
+}
+
 fn twos() -> Edges {
     Edges::combined(vec![edges(&POINTS, 3); 2])
 }
@@ -147,9 +154,9 @@ pub const FUNCTIONS: &[Function] = &[
     line!(cd, cody::cd, 0.4, 4.1, 1),
     line!(pq, cody::pq, 0.0, 0.0625, 1),
     line!(erfcx_above_threshold, cody::erfcx_above_threshold, 0.4, 30.0, 1),
-    line!(erfc, cody::erfc, -28.0, 28.0, 1),
+    function!(erfc(x: float), cody::erfc, far, |w: &mut Words| [line(w, -28.0, 28.0)], 1),
     line!(erfcx, cody::erfcx, -28.0, 28.0, 1),
-    line!(standard_normal_cdf, normal::standard_normal_cdf, -40.0, 40.0, 1),
+    function!(standard_normal_cdf(x: float), normal::standard_normal_cdf, far, |w: &mut Words| [line(w, -40.0, 40.0)], 1),
     line!(inverse_normal_cdf, normal::inverse_normal_cdf, probability, 10),
     line!(inverse_f_upper_map, normal::inverse_f_upper_map, probability, 10),
     function!(normalised_intrinsic(x: float, option_type: kind), prices::normalised_intrinsic, borders::intrinsic, markets::intrinsic, 2),

@@ -1,9 +1,10 @@
 //! Inputs that are refused with 7: the test that chooses the asymptotic expansion and the expansion's own test of its
-//! region round differently. `differential --search` finds such inputs.
+//! region round differently, or forward / strike overflows or rounds to 0 and sigma is negative. `differential --search`
+//! finds such inputs.
 
 /// For `black`: forward, strike, sigma, expiry, and 1 for a Call, 2 for a Put; out of the money and in it.
 #[rustfmt::skip]
-pub const MARKETS: [[u64; 5]; 12] = [
+pub const MARKETS: [[u64; 5]; 15] = [
     [0x3F8C_3B6B_6A8E_A2AE, 0x4050_3C70_C53D_DB57, 0x3FEA_8698_7B35_B0A6, 0x3FF0_0000_0000_0000, 1],
     [0x3FB6_93A9_E81E_6CBF, 0x41A1_D891_53A1_A5FB, 0x401F_8009_85C7_9D0F, 0x3FB0_0F2E_C4A5_3828, 1],
     [0x5637_8A34_6218_3617, 0x733F_AE55_719B_567A, 0x4035_E4B2_4CE2_9471, 0x3FE4_3B23_B496_9880, 1],
@@ -16,6 +17,16 @@ pub const MARKETS: [[u64; 5]; 12] = [
     [0x402E_C255_774B_EAD8, 0x40E6_3112_A716_00A4, 0x3FF2_9412_FC3D_6B69, 0x3FDD_3E9B_CF5A_5A94, 2],
     [0x3FAD_A24F_B9C1_0303, 0x4065_C5BB_DF8C_30D8, 0x3FC0_D9A6_403C_D941, 0x4041_DA80_B30A_679E, 2],
     [0x406F_06C7_3E70_C03A, 0x4152_8241_3B32_7F44, 0x3FEE_C99B_934D_A724, 0x3FF0_0000_0000_0000, 2],
+    [0x7E37_E43C_8800_759C, 0x01A5_6E1F_C2F8_F359, 0xBFC9_9999_9999_999A, 0x3FF0_0000_0000_0000, 1],
+    [0x7E37_E43C_8800_759C, 0x01A5_6E1F_C2F8_F359, 0x8000_0000_0000_0000, 0x3FF0_0000_0000_0000, 2],
+    [0x0010_0000_0000_0000, 0x7FEF_FFFF_FFFF_FFFF, 0xDFF6_A09E_667F_3BCC, 0x3FF0_0000_0000_0000, 1],
+];
+
+/// Beside these there is a price: at a sigma of +0, and from the sigma on at which the region's test overflows.
+#[rustfmt::skip]
+pub const PRICED: [[u64; 5]; 2] = [
+    [0x7E37_E43C_8800_759C, 0x01A5_6E1F_C2F8_F359, 0x0000_0000_0000_0000, 0x3FF0_0000_0000_0000, 1],
+    [0x0010_0000_0000_0000, 0x7FEF_FFFF_FFFF_FFFF, 0xDFF6_A09E_667F_3BCD, 0x3FF0_0000_0000_0000, 1],
 ];
 
 /// For `normalised_black_call`: x and s.
@@ -54,6 +65,9 @@ mod tests {
     fn each_is_refused_with_7() {
         for [forward, strike, sigma, expiry, kind] in MARKETS {
             assert_eq!(bits::black(forward, strike, sigma, expiry, kind as u8), (0x7FF8 << 48, 7));
+        }
+        for [forward, strike, sigma, expiry, kind] in PRICED {
+            assert_eq!(bits::black(forward, strike, sigma, expiry, kind as u8).1, 0);
         }
         for [x, s] in MONEY {
             assert_eq!(bits::normalised_black_call(x, s).1, 7);

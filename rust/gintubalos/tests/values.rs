@@ -26,6 +26,12 @@ fn not_a_number() {
         assert_eq!(bits::max(nan, 0), 0);
     }
     assert_eq!(bits_of(erfc(f64::INFINITY)), NAN_BITS);
+    // From 2^1020 on, where x times 16 overflows.
+    let far = 2f64.powi(1020);
+    assert_eq!(bits_of(erfc(far)), NAN_BITS);
+    assert_eq!(bits_of(erfc(-far)), NAN_BITS);
+    assert_eq!(erfc(far.next_down()), 0.0);
+    assert_eq!(erfc(-far.next_down()), 2.0);
     assert_eq!(bits_of(ln(-1.0)), NAN_BITS);
     assert_eq!(bits_of(sqrt(-1.0)), NAN_BITS);
 }
@@ -59,6 +65,10 @@ fn black_price() {
     // Without volatility there is the intrinsic value alone.
     assert_eq!(black(100.0, 95.0, 0.0, 1.0, Call), Ok(5.0));
     assert_eq!(black(100.0, 95.0, -0.1, 1.0, Put), Ok(0.0));
+    // But where forward / strike overflows and sigma is negative or -0, it is refused.
+    assert_eq!(black(1e300, 1e-300, -0.2, 1.0, Call), refused(7));
+    assert_eq!(black(1e300, 1e-300, -0.0, 1.0, Put), refused(7));
+    assert_eq!(black(1e300, 1e-300, 0.0, 1.0, Call), Ok(1e300));
 }
 
 /// Document 01's order: forward, strike, sigma, expiry.
