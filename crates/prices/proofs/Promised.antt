@@ -2,17 +2,18 @@
 use mathlib.Core.Path.{_≡_, refl, _∙_}
 use mathlib.Core.Logic.{_⊎_, inl, inr}
 use mathlib.Core.Bool.{Bool, true, false, cond, _&&_, _||_}
-use Prim.Native.Nat.{ℕ}
+use Prim.Native.Nat.{ℕ, suc}
+use native.Mathlib.Omega.{arith}
 use lib.Ieee.{Float, le}
 use Rattle.elementary.specs.Ops.{_⊖_, EPSILON}
 use Rattle.elementary.specs.Methods.{absOf}
 use Rattle.prices.specs.declared.answer.Answer.{Answer}
 use Rattle.prices.specs.declared.answer.Answer.the-variants.{Value, Refused}
-use Rattle.prices.specs.Answers.{numberOf}
+use Rattle.prices.specs.Answers.{numberOf, isValue}
 use Rattle.prices.specs.Black.{SMALL-T, smallTInner, smallTOf, isOutside, asymptoticInner, asymptoticOf, added, isPositiveNormal, isFinite, blackAt, blackOf}
 use Rattle.prices.specs.RationalCubic.{isInfinite, interpolationOf}
-use Rattle.prices.specs.Promises.{Small-t-number, Asymptotic-number, Cubic-number, Is-0-or-7, Call-numbers, Black-numbers, Black-order, Call-recursion, Black-recursion}
-use Rattle.prices.proofs.Laws.Refusals.{call-answer, at-answer, call-number}
+use Rattle.prices.specs.Promises.{Small-t-number, Asymptotic-number, Cubic-number, Is-0-or-7, Call-numbers, Black-numbers, Zero-is-a-value, Black-order, Call-recursion, Black-recursion}
+use Rattle.prices.proofs.Laws.Refusals.{call-answer, at-answer, call-number, call-value}
 use Rattle.prices.proofs.Laws.Recursion.{other-kind-out, call-turns, in-turns, out-stays}
 
 -- a refusal n where b holds, else a value
@@ -55,6 +56,36 @@ black-numbers rules f k s e kind = go (isPositiveNormal f) (isPositiveNormal k) 
     go true true false d p h = inr (inr (inr (inr refl)))
     go true false c d p h = inr (inr (inl refl))
     go false b c d p h = inr (inl refl)
+
+-- a refusal has a number above 0
+no-0 : (n : ℕ) → suc n ≡ 0 → ⊥
+no-0 n e = omega arith
+
+pub zero-is-a-value : Zero-is-a-value
+unfolding smallTOf asymptoticOf interpolationOf blackOf
+zero-is-a-value = record {
+  small-t = λ h t. one (le SMALL-T t) 7 _;
+  asymptotic = λ h t. one (isOutside h t) 6 _;
+  cubic = λ x x-l x-r y-l y-r d-l d-r r. two (isInfinite x || (isInfinite x-l || isInfinite x-r)) (le (absOf (x-r ⊖ x-l)) EPSILON) _ _;
+  call = λ rules x s. call-value (call-answer 1 rules x s);
+  black = λ rules f k s e kind. four (isPositiveNormal f) (isPositiveNormal k) (isFinite s) (isPositiveNormal e) _ (call-value (at-answer 1 rules f k s e kind));
+}
+  where
+    one : (b : Bool) (n : ℕ) (v : Float) → numberOf (cond b (Refused (suc n)) (Value v)) ≡ 0 → isValue (cond b (Refused (suc n)) (Value v)) ≡ true
+    one true n v e = absurd (no-0 n e)
+    one false n v e = refl
+
+    two : (a b : Bool) (v w : Float) → let r = cond a (Refused 6) (cond b (Value v) (Value w)) in numberOf r ≡ 0 → isValue r ≡ true
+    two true b v w e = absurd (no-0 5 e)
+    two false true v w e = refl
+    two false false v w e = refl
+
+    four : (a b c d : Bool) (p : Answer) → (numberOf p ≡ 0 → isValue p ≡ true) → numberOf (tested a b c d p) ≡ 0 → isValue (tested a b c d p) ≡ true
+    four true true true true p h e = h e
+    four true true true false p h e = absurd (no-0 3 e)
+    four true true false d p h e = absurd (no-0 4 e)
+    four true false c d p h e = absurd (no-0 2 e)
+    four false b c d p h e = absurd (no-0 1 e)
 
 pub black-order : Black-order
 unfolding blackOf

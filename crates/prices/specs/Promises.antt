@@ -11,7 +11,7 @@ use Rattle.elementary.specs.Methods.{maxOf}
 use Rattle.prices.specs.declared.inputs.OptionType.{OptionType}
 use Rattle.prices.specs.declared.inputs.OptionType.the-variants.{Call}
 use Rattle.prices.specs.Inputs.{negated, times}
-use Rattle.prices.specs.Answers.{numberOf}
+use Rattle.prices.specs.Answers.{numberOf, isValue}
 use Rattle.prices.specs.Intrinsic.{intrinsicOf}
 use Rattle.prices.specs.Black.{SMALL-T, smallTOf, isOutside, asymptoticOf, outOfTheMoney, added, callOf, isPositiveNormal, isFinite, priceOf, blackOf}
 use Rattle.prices.specs.RationalCubic.{isInfinite, interpolationOf}
@@ -42,6 +42,15 @@ Call-numbers = (rules : Rules) (x s : Float) → Is-0-or-7 (numberOf (callOf rul
 abbrev pub Black-numbers : Type 0
 Black-numbers = (rules : Rules) (forward strike sigma expiry : Float) (kind : OptionType)
     → let n = numberOf (blackOf rules forward strike sigma expiry kind) in Is-0-or-7 n ⊎ ((n ≡ 2) ⊎ ((n ≡ 3) ⊎ ((n ≡ 4) ⊎ (n ≡ 5))))
+
+-- Where the number is 0 there is a value: nothing is refused with 0.
+pub record Zero-is-a-value : Type 0 where
+  pub small-t : (h t : Float) → numberOf (smallTOf h t) ≡ 0 → isValue (smallTOf h t) ≡ true
+  pub asymptotic : (h t : Float) → numberOf (asymptoticOf h t) ≡ 0 → isValue (asymptoticOf h t) ≡ true
+  pub cubic : (x x-l x-r y-l y-r d-l d-r r : Float) → numberOf (interpolationOf x x-l x-r y-l y-r d-l d-r r) ≡ 0 → isValue (interpolationOf x x-l x-r y-l y-r d-l d-r r) ≡ true
+  pub call : (rules : Rules) (x s : Float) → numberOf (callOf rules x s) ≡ 0 → isValue (callOf rules x s) ≡ true
+  pub black : (rules : Rules) (forward strike sigma expiry : Float) (kind : OptionType)
+      → numberOf (blackOf rules forward strike sigma expiry kind) ≡ 0 → isValue (blackOf rules forward strike sigma expiry kind) ≡ true
 
 -- ---- which number comes first
 

@@ -21,6 +21,11 @@ abbrev pub volatilityIn : Solution → Float
 volatilityIn (Solved v branch ending steps) = v
 volatilityIn (Refused number steps) = nan
 
+-- whether there is an answer
+abbrev pub isSolved : Solution → Bool
+isSolved (Solved v branch ending steps) = true
+isSolved (Refused number steps) = false
+
 -- 0 where it is refused
 abbrev pub branchIn : Solution → ℕ
 branchIn (Solved v branch ending steps) = branch

@@ -166,7 +166,11 @@ pub fn market() -> Edges {
         }
     }
     let combined = vec![prices(), prices(), sigmas, prices(), KINDS.to_vec()];
-    Edges { combined, further, kept: in_order().into_iter().chain(sevens::MARKETS).chain(sevens::PRICED).map(wide).collect() }
+    Edges {
+        combined,
+        further,
+        kept: in_order().into_iter().chain(sevens::MARKETS).chain(sevens::PRICED).map(wide).collect(),
+    }
 }
 
 const SIGN: u64 = 1 << 63;

@@ -4,6 +4,7 @@ use mathlib.Core.Path.{_≡_, refl}
 use mathlib.Core.Logic.{inl, inr}
 use mathlib.Core.Bool.{Bool, true, false, cond}
 use Prim.Native.Nat.{ℕ, zero, suc}
+use native.Mathlib.Omega.{arith}
 use lib.Ieee.{Float, neg, lt, le}
 use Rattle.elementary.specs.Ops.{_⊖_, _⊗_, _⊘_, +0, half}
 use Rattle.elementary.specs.Rules.{Rules}
@@ -14,7 +15,7 @@ use Rattle.prices.specs.declared.inputs.OptionType.the-variants.{Call}
 use Rattle.prices.specs.declared.answer.Answer.{Answer}
 use Rattle.prices.specs.declared.answer.Answer.the-variants.{Value, Refused}
 use Rattle.prices.specs.Inputs.{negated, times}
-use Rattle.prices.specs.Answers.{numberOf}
+use Rattle.prices.specs.Answers.{numberOf, isValue}
 use Rattle.prices.specs.Intrinsic.{intrinsicOf}
 use Rattle.prices.specs.Black.{SMALL-T, smallTOf, asymptoticOf, codysOf, isOutside, isAsymptotic, regionOf, outOfTheMoney, added, callAt, callOf, normalisedBlackOf, scaledUp, priceOf, blackAt}
 use Rattle.prices.specs.Promises.{Is-0-or-7}
@@ -75,3 +76,10 @@ at-answer (suc d) rules f k s e kind =
 pub call-number : {a : Answer} → CallAnswer a → Is-0-or-7 (numberOf a)
 call-number price = inl refl
 call-number outside-the-region = inr refl
+
+pub call-value : {a : Answer} → CallAnswer a → numberOf a ≡ 0 → isValue a ≡ true
+call-value price e = refl
+call-value outside-the-region e = absurd (none e)
+  where
+    none : _≡_ {A = ℕ} 7 0 → ⊥
+    none h = omega arith

@@ -22,7 +22,7 @@ use Rattle.solver.specs.declared.state.Solution.the-variants.{Solved, Re
 use Rattle.solver.specs.Loop.{Ending, tested, limited, refused, Run, run, goes, ends}
 use Rattle.solver.specs.Step.{lowerDs, upperDs, generalDs, halved, plain, stepBy, lowerStep, upperStep, generalStep, isClose, turnOf, nextBy}
 use Rattle.solver.specs.Guess.{Begun, answered, stopped, looping}
-use Rattle.solver.specs.Answers.{numberIn, branchIn, endingIn, stepsIn}
+use Rattle.solver.specs.Answers.{numberIn, isSolved, branchIn, endingIn, stepsIn}
 use Rattle.solver.specs.Solve.{Solving, answerOf, ran, solvingOf}
 use Rattle.solver.specs.Promises.Demand3.{At, here, there, LeavesHalf, LongerRun, LoopRecords, LoopAnswer, OneRun}
 use Rattle.solver.specs.Promises.Answers.{Numbers}
@@ -197,12 +197,29 @@ not-21 (trail-number t) s e = true≢false (sym t ∙ s)
 not-21 cubic-number s e = omega arith
 not-21 region-number s e = omega arith
 
-loop-numbers : (enough : Type 0) (a : Solution) → (numberIn a ≡ 0) ⊎ (numberIn a ≡ 7) → Numbers enough a
-loop-numbers enough a (inl z) = record { number = first z; no-21 = λ l e. omega arith; steps = λ h. first z }
-loop-numbers enough a (inr z) = record { number = rw z (refusal-number {short = false} region-number); no-21 = λ l e. omega arith; steps = λ h. next (first z) }
+not-0 : {short : Bool} {k : ℕ} → Refusal short k → k ≡ 0 → ⊥
+not-0 price-number e = omega arith
+not-0 forward-number e = omega arith
+not-0 strike-number e = omega arith
+not-0 expiry-number e = omega arith
+not-0 (trail-number t) e = omega arith
+not-0 cubic-number e = omega arith
+not-0 region-number e = omega arith
+
+-- a loop's answer of number 0 has the loop's branch, and so is no refusal
+loop-solved : (limit branch : ℕ) (a : Solution) → LoopAnswer limit branch a → numberIn a ≡ 0 → isSolved a ≡ true
+loop-solved limit branch (Solved v b e k) l z = refl
+loop-solved limit branch (Refused n k) l z = absurd (none (l .branch-is z) (l .a-loop .0))
+  where
+    none : 0 ≡ branch → 1 ≤ branch → ⊥
+    none e h = omega arith
+
+loop-numbers : (enough : Type 0) (a : Solution) → (numberIn a ≡ 0 → isSolved a ≡ true) → (numberIn a ≡ 0) ⊎ (numberIn a ≡ 7) → Numbers enough a
+loop-numbers enough a s (inl z) = record { answered = s; number = first z; no-21 = λ l e. omega arith; steps = λ h. first z }
+loop-numbers enough a s (inr z) = record { answered = s; number = rw z (refusal-number {short = false} region-number); no-21 = λ l e. omega arith; steps = λ h. next (first z) }
 
 pub run-numbers : {short : Bool} (enough : Type 0) → (enough → short ≡ false) → (b : Begun) → BeginForm short b → (expiry : Float) (n : ℕ) → Numbers enough (solvingOf b expiry n .answer)
 unfolding solvingOf
-run-numbers enough l (answered v) f expiry n = loop-numbers enough _ (inl refl)
-run-numbers enough l (stopped k) (ended r) expiry n = record { number = refusal-number r; no-21 = λ h. not-21 r (l h); steps = λ h. absurd (omega arith) }
-run-numbers enough l (looping branch beta step st) (loop form) expiry n = loop-numbers enough _ (loop-run branch beta step st form (sqrtOf binary64 expiry) n .1 .number)
+run-numbers enough l (answered v) f expiry n = loop-numbers enough _ (λ z. refl) (inl refl)
+run-numbers enough l (stopped k) (ended r) expiry n = record { answered = λ z. absurd (not-0 r z); number = refusal-number r; no-21 = λ h. not-21 r (l h); steps = λ h. absurd (omega arith) }
+run-numbers enough l (looping branch beta step st) (loop form) expiry n = let a = loop-run branch beta step st form (sqrtOf binary64 expiry) n .1 in loop-numbers enough _ (loop-solved n branch _ a) (a .number)

@@ -1,5 +1,4 @@
--- Demand 3 of document 00, its sentences 1 to 6 in order: for every rule set and every price, forward, strike, expiry and kind, refused ones included. A run is what
--- solve records and answers at a limit, with a trail of any size or without one. Statements only.
+-- Demand 3 of document 00, its sentences 1 to 6 in order, for every rule set and every input, refused ones included. A run has a trail of any size, or none. Statements only.
 use mathlib.Core.Path.{_≡_}
 use mathlib.Core.Bool.{true, false}
 use mathlib.Core.Logic.{_⊎_}
@@ -62,9 +61,8 @@ NotAbove a b = lt a b ≡ false
 abbrev pub EndFrom : (Record → Float) → (Record → Type 0) → Float → List Record → ℕ → Record → Type 0
 EndFrom end side start rs i r = (end r ≡ start) ⊎ ((j : ℕ) × (q : Record) × (j ≤ i) × At rs j q × (end r ≡ q .s) × side q)
 
--- 2^−1021
 abbrev pub least : Float
-least = bits 0x0020_0000_0000_0000
+least = bits 0x0020_0000_0000_0000  -- 2^−1021
 
 -- from a finite s of at least 2^−1021 the step leaves at least s / 2
 abbrev pub LeavesHalf : Record → Type 0
