@@ -1,5 +1,5 @@
 // Layer 3: the guess, the step, the loop, solve, trail, book and listing, each equal to its definition
-// in specs/, of which demand 3 is proved (specs/Promises.antt).
+// in specs/, of which demand 3 is promised and proved (specs/Promises/Demand3.antt).
 pub mod market; // what a run looks at
 pub mod state; // a loop's state, and what a step and solve answer
 mod step; // the three Householder steps
