@@ -14,7 +14,7 @@ use Rattle.elementary.specs.Exp.{expOf}
 abbrev pub FRAC-1-SQRT-PI : Float
 FRAC-1-SQRT-PI = bits 0x3fe2_0dd7_5042_9b6d  -- 0.5641895835477563
 
--- where the three arms meet
+-- up to it, in size, the centre's rational serves
 abbrev pub THRESHOLD : Float
 THRESHOLD = bits 0x3fde_0000_0000_0000  -- 0.46875
 
@@ -107,7 +107,7 @@ negativeSquare t = neg t ⊗ t
 abbrev pub negativeRest : Float → Float
 negativeRest y = neg (y ⊖ tildeOf y) ⊗ (y ⊕ tildeOf y)
 
--- exp(−y²), in two factors of which the first is exact in its argument
+-- exp(−y²) in two factors: of the square of tilde y, and of the rest
 unfoldable pub smoothenedExponentialOfNegativeSquare : Float → Float
 smoothenedExponentialOfNegativeSquare y = expOf (negativeSquare (tildeOf y)) ⊗ expOf (negativeRest y)
 

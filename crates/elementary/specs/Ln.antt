@@ -7,7 +7,7 @@ use Rattle.elementary.specs.Sqrt.{inUnits}
 use Rattle.elementary.specs.Exp.{expOf}
 use Rattle.elementary.specs.Methods.{isZero}
 
--- from here on m is halved
+-- above it m is halved
 abbrev pub SQRT-2 : Float
 SQRT-2 = bits 0x3ff6_a09e_667f_3bcd  -- 1.4142135623730951
 

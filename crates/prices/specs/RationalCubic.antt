@@ -32,7 +32,7 @@ curveOf h t y-l y-r d-l d-r r =
     let curved = numerator ⊘ denominator in
     cond (lt r MAXIMUM) curved straight
 
--- rational_cubic_interpolation: 6 for an infinite place, the middle of both values where the places coincide
+-- rational_cubic_interpolation: 6 for an infinite place, the middle of both values where the places lie within EPSILON
 unfoldable pub interpolationOf : Float → Float → Float → Float → Float → Float → Float → Float → Answer
 interpolationOf x x-l x-r y-l y-r d-l d-r r =
     let h = x-r ⊖ x-l in

@@ -28,6 +28,7 @@ use Rattle.elementary.specs.NormalDistribution.{FRAC-1-SQRT-2, cdfOf, lo
 use Rattle.elementary.proofs.Laws.Compare.{equal-itself}
 use Rattle.elementary.proofs.Laws.Order.{le→fractions}
 use Rattle.elementary.proofs.Laws.Powers.{pow-le-back, pow-split}
+use Rattle.elementary.proofs.Laws.Bits.{abs-fits}
 use Rattle.elementary.proofs.Laws.Held.{holds}
 use Rattle.elementary.proofs.Laws.Compare.{left-false}
 use Rattle.elementary.proofs.Laws.Bounds.{side-finite, Exact, pow-exact, small-exact, unsigned, wider, value-side, value-over, no-overflow, neg-side, round-side, mul-side, mul-at-most, square-over, add-at-most, sub-at-most, add-side, add-over, div-side, floor-side, sum-low}
@@ -457,13 +458,6 @@ unfolding absOf
 abs-side {x = nan} h = absurd (h .side .sized)
 abs-side {x = inf t} h = absurd (h .side .sized)
 abs-side {x = fin t m e} h = record { sized = (refl, h .side .sized .1) }
-
-pub abs-fits : (x : Float) → T (fits binary64 x) → T (fits binary64 (absOf x))
-unfolding absOf fits
-abs-fits nan f = tt
-abs-fits (inf t) f = tt
-abs-fits (fin t zero e) f = f
-abs-fits (fin t (suc m) e) f = f
 
 threshold-value : HasValue THRESHOLD false 15 32
 unfolding ofBits

@@ -13,7 +13,7 @@ use Rattle.prices.specs.Black.{codysOf, regionOf, outOfTheMoney, callAt,
 use Rattle.prices.specs.declared.point.PriceAndVega.{PriceAndVega}
 use Rattle.prices.specs.Inside.Exponentials.{upOf, downOf, twoBWith, codysWith, regionWith, outOfTheMoneyWith, callWith}
 use Rattle.prices.specs.Inside.Point.{priceAndVega}
-use Rattle.prices.proofs.Laws.Refusals.{CallAnswer, price, outside-the-region, either, region-answer, call-answer}
+use Rattle.prices.proofs.Laws.Refusals.{CallAnswer, price, outside-the-region, either, region-answer, call-answer, seven-not-0}
 
 -- at exp(x / 2) and exp(−x / 2)
 module _ (rules : Rules) (x s : Float) where
@@ -41,13 +41,10 @@ with-answer : (rules : Rules) (up down x s : Float) → CallAnswer (callWith rul
 unfolding outOfTheMoneyWith regionWith
 with-answer rules up down x s = either (lt +0 x) (call-answer 1 rules x s) (either (le s (absOf x ⊗ +0)) price (region-answer x s (codysWith rules up down x s)))
 
-not-0 : _≡_ {A = ℕ} 7 0 → ⊥
-not-0 e = omega arith
-
 -- number 0 tells a price, and any other a refusal
 pub price-told : (a : Answer) → CallAnswer a → (v : Float) (p : PriceAndVega) → p ≡ priceAndVega a v → p .number ≡ 0 → a ≡ Value (p .price)
 price-told (Value b) h v p e n = rw e refl
-price-told (Refused k) outside-the-region v p e n = absurd (not-0 (rw e at n))
+price-told (Refused k) outside-the-region v p e n = absurd (seven-not-0 (rw e at n))
 
 pub refusal-told : (a : Answer) (v : Float) (p : PriceAndVega) → p ≡ priceAndVega a v → (p .number ≡ 0 → ⊥) → a ≡ Refused (p .number)
 refusal-told (Value b) v p e n = absurd (n (rw e refl))

@@ -77,9 +77,9 @@ pub call-number : {a : Answer} → CallAnswer a → Is-0-or-7 (numberOf a)
 call-number price = inl refl
 call-number outside-the-region = inr refl
 
+pub seven-not-0 : _≡_ {A = ℕ} 7 0 → ⊥
+seven-not-0 e = omega arith
+
 pub call-value : {a : Answer} → CallAnswer a → numberOf a ≡ 0 → isValue a ≡ true
 call-value price e = refl
-call-value outside-the-region e = absurd (none e)
-  where
-    none : _≡_ {A = ℕ} 7 0 → ⊥
-    none h = omega arith
+call-value outside-the-region e = absurd (seven-not-0 e)

@@ -10,7 +10,7 @@ use lib.Ieee.Fits.{mul-fits, div-fits, cond-fits}
 use lib.Ieee.Bits.{ofBits-fits}
 use Rattle.elementary.specs.Ops.{_⊖_, _⊗_, _⊘_, +0, half, two}
 use Rattle.elementary.specs.Rules.{Rules}
-use Rattle.elementary.proofs.Laws.Finite.{abs-fits}
+use Rattle.elementary.proofs.Laws.Bits.{abs-fits}
 use Rattle.elementary.specs.NormalDistribution.{inverseOf, inverseFUpperMapOf}
 use Rattle.prices.specs.declared.inputs.OptionType.{OptionType}
 use Rattle.prices.specs.declared.answer.Answer.{Answer}
