@@ -12,7 +12,7 @@ use Rattle.solver.specs.declared.state.Filing.{Filing}
 use Rattle.solver.specs.declared.state.Filing.the-variants.{Refused as NotFiled}
 use Rattle.solver.specs.declared.state.Checking.{Checking}
 use Rattle.solver.specs.Answers.{numberIn, branchIn, endingIn, stepsIn, filingNumber, filingSteps, checkingNumber, checkingAgrees, checkingSteps}
-use Rattle.solver.specs.RuleSets.{rule-set-0}
+use Rattle.elementary.specs.RuleSets.{rule-set-0}
 use Rattle.solver.specs.Solve.{Solving, solveOf, solveWithTrail, stepsOf}
 use Rattle.solver.specs.Book.{FiledBook, fileOf, Read}
 

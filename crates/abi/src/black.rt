@@ -2,7 +2,7 @@
 // and document 01's number of a refusal, 0 for none, goes to `number`.
 ghost use mathlib.Core.Path.{_≡_};
 ghost use lib.Ieee.{binary64, toBits, ofBits};
-ghost use Rattle.elementary.specs.Rules.{rules-0};
+ghost use Rattle.elementary.specs.RuleSets.{rule-set-0};
 ghost use Rattle.prices.specs.Answers.{numberOf, valueOf};
 ghost use Rattle.prices.specs.Black.{smallTOf, asymptoticOf, usingErfcxOf, codysOf, callOf, normalisedBlackOf, blackOf};
 ghost use Rattle.abi.specs.Bytes.{ofKind};
@@ -17,7 +17,7 @@ pub extern "C" fn gintubalos_normalised_black_call_with_optimal_use_of_codys_fun
     x: u64,
     s: u64,
 ) -> u64
-    ensures { λ r. ⌜ r ≡ toBits binary64 (codysOf rules-0 (ofBits binary64 x) (ofBits binary64 s)) ⌝ }
+    ensures { λ r. ⌜ r ≡ toBits binary64 (codysOf rule-set-0 (ofBits binary64 x) (ofBits binary64 s)) ⌝ }
 {
     bits_of(prices::black::normalised_black_call_with_optimal_use_of_codys_functions(
         float_of(x),
@@ -66,8 +66,8 @@ pub extern "C" fn gintubalos_asymptotic_expansion_of_normalised_black_call(
 
 #[no_mangle]
 pub extern "C" fn gintubalos_normalised_black_call(x: u64, s: u64, number: &mut u8) -> u64
-    ensures { λ r. ⌜ r ≡ toBits binary64 (valueOf (callOf rules-0 (ofBits binary64 x) (ofBits binary64 s))) ⌝ }
-    ensures { λ _. ⌜ now (number .exit) ≡ numberOf (callOf rules-0 (ofBits binary64 x) (ofBits binary64 s)) ⌝ }
+    ensures { λ r. ⌜ r ≡ toBits binary64 (valueOf (callOf rule-set-0 (ofBits binary64 x) (ofBits binary64 s))) ⌝ }
+    ensures { λ _. ⌜ now (number .exit) ≡ numberOf (callOf rule-set-0 (ofBits binary64 x) (ofBits binary64 s)) ⌝ }
 {
     handed(
         prices::black::normalised_black_call(float_of(x), float_of(s)),
@@ -76,7 +76,7 @@ pub extern "C" fn gintubalos_normalised_black_call(x: u64, s: u64, number: &mut 
 }
 
 fn normalised_black(x: f64, s: f64, kind: u8) -> Answer
-    ensures { λ r. ⌜ r ≡ ofKind kind (normalisedBlackOf rules-0 x s) ⌝ }
+    ensures { λ r. ⌜ r ≡ ofKind kind (normalisedBlackOf rule-set-0 x s) ⌝ }
 {
     match kind {
         1 => prices::black::normalised_black(x, s, OptionType::Call),
@@ -87,14 +87,14 @@ fn normalised_black(x: f64, s: f64, kind: u8) -> Answer
 
 #[no_mangle]
 pub extern "C" fn gintubalos_normalised_black(x: u64, s: u64, kind: u8, number: &mut u8) -> u64
-    ensures { λ r. ⌜ r ≡ toBits binary64 (valueOf (ofKind kind (normalisedBlackOf rules-0 (ofBits binary64 x) (ofBits binary64 s)))) ⌝ }
-    ensures { λ _. ⌜ now (number .exit) ≡ numberOf (ofKind kind (normalisedBlackOf rules-0 (ofBits binary64 x) (ofBits binary64 s))) ⌝ }
+    ensures { λ r. ⌜ r ≡ toBits binary64 (valueOf (ofKind kind (normalisedBlackOf rule-set-0 (ofBits binary64 x) (ofBits binary64 s)))) ⌝ }
+    ensures { λ _. ⌜ now (number .exit) ≡ numberOf (ofKind kind (normalisedBlackOf rule-set-0 (ofBits binary64 x) (ofBits binary64 s))) ⌝ }
 {
     handed(normalised_black(float_of(x), float_of(s), kind), number)
 }
 
 fn black(forward: f64, strike: f64, sigma: f64, expiry: f64, kind: u8) -> Answer
-    ensures { λ r. ⌜ r ≡ ofKind kind (blackOf rules-0 forward strike sigma expiry) ⌝ }
+    ensures { λ r. ⌜ r ≡ ofKind kind (blackOf rule-set-0 forward strike sigma expiry) ⌝ }
 {
     match kind {
         1 => prices::black::black(forward, strike, sigma, expiry, OptionType::Call),
@@ -113,8 +113,8 @@ pub extern "C" fn gintubalos_black(
     kind: u8,
     number: &mut u8,
 ) -> u64
-    ensures { λ r. ⌜ r ≡ toBits binary64 (valueOf (ofKind kind (blackOf rules-0 (ofBits binary64 forward) (ofBits binary64 strike) (ofBits binary64 sigma) (ofBits binary64 expiry)))) ⌝ }
-    ensures { λ _. ⌜ now (number .exit) ≡ numberOf (ofKind kind (blackOf rules-0 (ofBits binary64 forward) (ofBits binary64 strike) (ofBits binary64 sigma) (ofBits binary64 expiry))) ⌝ }
+    ensures { λ r. ⌜ r ≡ toBits binary64 (valueOf (ofKind kind (blackOf rule-set-0 (ofBits binary64 forward) (ofBits binary64 strike) (ofBits binary64 sigma) (ofBits binary64 expiry)))) ⌝ }
+    ensures { λ _. ⌜ now (number .exit) ≡ numberOf (ofKind kind (blackOf rule-set-0 (ofBits binary64 forward) (ofBits binary64 strike) (ofBits binary64 sigma) (ofBits binary64 expiry))) ⌝ }
 {
     handed(
         black(

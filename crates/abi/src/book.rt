@@ -2,7 +2,7 @@
 // are u64; number and steps of a refusal go to `outcome`.
 ghost use mathlib.Core.Path.{_≡_};
 ghost use lib.Ieee.{binary64, ofBits};
-ghost use Rattle.solver.specs.RuleSets.{rule-set-0};
+ghost use Rattle.elementary.specs.RuleSets.{rule-set-0};
 ghost use Rattle.solver.specs.Answers.{filingUsed};
 ghost use Rattle.solver.specs.Book.{recheckOf, readOf};
 ghost use Rattle.solver.specs.Listing.{lineIn};

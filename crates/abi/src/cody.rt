@@ -1,7 +1,7 @@
 // Cody's functions. Floats are their bits on both sides.
 ghost use mathlib.Core.Path.{_≡_};
 ghost use lib.Ieee.{binary64, toBits, ofBits};
-ghost use Rattle.elementary.specs.Rules.{rules-0};
+ghost use Rattle.elementary.specs.RuleSets.{rule-set-0};
 ghost use Rattle.elementary.specs.Cody.{dIntOf, smoothenedExponentialOfNegativeSquare, smoothenedExponentialOfPositiveSquare, abOf, cdOf, pqOf, erfcxAboveThreshold, erfcOf, erfcxOf};
 use elementary::methods::bits_of;
 use elementary::methods::float_of;
@@ -57,7 +57,7 @@ pub extern "C" fn gintubalos_erfcx_above_threshold(y: u64) -> u64
 
 #[no_mangle]
 pub extern "C" fn gintubalos_erfc(x: u64) -> u64
-    ensures { λ r. ⌜ r ≡ toBits binary64 (erfcOf rules-0 (ofBits binary64 x)) ⌝ }
+    ensures { λ r. ⌜ r ≡ toBits binary64 (erfcOf rule-set-0 (ofBits binary64 x)) ⌝ }
 {
     bits_of(elementary::cody::erfc(float_of(x)))
 }

@@ -5,7 +5,7 @@ use Prim.Native.Nat.{ℕ}
 use lib.ListN.{getD}
 use lib.Ieee.{Float, binary64, neg, lt, le}
 use Rattle.elementary.specs.Ops.{_⊕_, _⊖_, _⊗_, _⊘_, bits, +0, one, two, MAX, four, sixteen}
-use Rattle.elementary.specs.Rules.{Rules}
+use Rattle.elementary.specs.declared.rule_set.RuleSet.{RuleSet}
 use Rattle.elementary.specs.Methods.{absOf}
 use Rattle.elementary.specs.Floor.{floorOf}
 use Rattle.elementary.specs.Exp.{expOf}
@@ -141,19 +141,19 @@ erfcxAboveThreshold y =
     cond (le y four) small large
 
 -- erfc of |x| = y for a y above the threshold. The exponential factor multiplies all three arms, also the far one's 0, by document 01's rules.
-unfoldable pub erfcAbs : Rules → Float → Float
-erfcAbs rules y =
+unfoldable pub erfcAbs : RuleSet → Float → Float
+erfcAbs set y =
     let factor = smoothenedExponentialOfNegativeSquare y in
-    let far = cond (rules .far-factor) (+0 ⊗ factor) +0 in
+    let far = cond (set .«far_factor») (+0 ⊗ factor) +0 in
     let near = erfcxAboveThreshold y ⊗ factor in
     cond (le XBIG y) far near
 
 -- erfc
-unfoldable pub erfcOf : Rules → Float → Float
-erfcOf rules x =
+unfoldable pub erfcOf : RuleSet → Float → Float
+erfcOf set x =
     let y = absOf x in
     let centre = one ⊖ x ⊗ abOf (y ⊗ y) in
-    let outside = erfcAbs rules y in
+    let outside = erfcAbs set y in
     let turned = two ⊖ outside in
     cond (le y THRESHOLD) centre (cond (lt x +0) turned outside)
 

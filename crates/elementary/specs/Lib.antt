@@ -1,6 +1,6 @@
 -- Rules: what a reader believes. By the file of the Rust that they follow, and document 01's for what the Rust gets from elsewhere.
 pub mod Ops
-pub mod Rules
+pub mod RuleSets
 pub mod Methods
 pub mod Floor
 pub mod Sqrt

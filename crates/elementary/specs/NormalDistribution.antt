@@ -3,7 +3,7 @@ use mathlib.Core.Bool.{true, false, cond}
 use Prim.Native.Nat.{ℕ, zero, suc}
 use lib.Ieee.{Float, nan, inf, neg, lt, le, ne}
 use Rattle.elementary.specs.Ops.{_⊕_, _⊗_, bits, +0, half, one, two}
-use Rattle.elementary.specs.Rules.{Rules}
+use Rattle.elementary.specs.declared.rule_set.RuleSet.{RuleSet}
 use Rattle.elementary.specs.Methods.{absOf}
 use Rattle.elementary.specs.Cody.{erfcOf}
 
@@ -12,8 +12,8 @@ abbrev pub FRAC-1-SQRT-2 : Float
 FRAC-1-SQRT-2 = bits 0x3fe6_a09e_667f_3bcd  -- 0.7071067811865476
 
 -- the cdf
-unfoldable pub cdfOf : Rules → Float → Float
-cdfOf rules y = half ⊗ erfcOf rules (neg y ⊗ FRAC-1-SQRT-2)
+unfoldable pub cdfOf : RuleSet → Float → Float
+cdfOf set y = half ⊗ erfcOf set (neg y ⊗ FRAC-1-SQRT-2)
 
 -- the size of erfc's argument
 abbrev pub sizeOf : Float → Float
@@ -46,18 +46,18 @@ abbrev pub highest : Float
 highest = bits 0x4043_8000_0000_0000  -- 39
 
 -- the ends after the 64 turns
-unfoldable pub endsOf : Rules → Float → Ends
-endsOf rules p = bisected (cdfOf rules) 64 p lowest highest
+unfoldable pub endsOf : RuleSet → Float → Ends
+endsOf set p = bisected (cdfOf set) 64 p lowest highest
 
 -- the inverse cdf
-unfoldable pub inverseOf : Rules → Float → Float
-inverseOf rules p =
-    let inside = endsOf rules p .hi in
+unfoldable pub inverseOf : RuleSet → Float → Float
+inverseOf set p =
+    let inside = endsOf set p .hi in
     cond (ne p p) nan
     (cond (le p +0) (inf true)
     (cond (le one p) (inf false)
     inside))
 
 -- inverse_f_upper_map
-unfoldable pub inverseFUpperMapOf : Rules → Float → Float
-inverseFUpperMapOf rules f = neg two ⊗ inverseOf rules f
+unfoldable pub inverseFUpperMapOf : RuleSet → Float → Float
+inverseFUpperMapOf set f = neg two ⊗ inverseOf set f

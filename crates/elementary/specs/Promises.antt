@@ -9,7 +9,7 @@ use lib.Ieee.Exact.{HasValue}
 use lib.Ieee.Scale.{finite}
 use lib.Ieee.Positive.{positive}
 use Rattle.elementary.specs.Ops.{_⊕_, _⊖_, _⊗_, mulAdd, bits, float, +0, one, MAX}
-use Rattle.elementary.specs.Rules.{Rules}
+use Rattle.elementary.specs.declared.rule_set.RuleSet.{RuleSet}
 use Rattle.elementary.specs.Methods.{signOf}
 use Rattle.elementary.specs.Floor.{floorOf}
 use Rattle.elementary.specs.Sqrt.{inUnits, sqrtOf}
@@ -137,14 +137,14 @@ pub record Floor-is-greatest : Type 0 where
 
 -- Under every rule set the cdf is a finite number from −39 to 39, where the inverse looks for its result.
 abbrev pub Cdf-is-finite : Type 0
-Cdf-is-finite = (rules : Rules) (y : Float) → T (le lowest y) → T (le y highest) → T (finite (cdfOf rules y))
+Cdf-is-finite = (set : RuleSet) (y : Float) → T (le lowest y) → T (le y highest) → T (finite (cdfOf set y))
 
 -- Document 01's "Then cdf(lo) < p ≤ cdf(hi)", and the inverse is hi. The cdf need not be monotone for it.
-pub record Brackets (rules : Rules) (p lo hi : Float) : Type 0 where
-  pub under : lt (cdfOf rules lo) p ≡ true
-  pub over : le p (cdfOf rules hi) ≡ true
-  pub inverse : inverseOf rules p ≡ hi
+pub record Brackets (set : RuleSet) (p lo hi : Float) : Type 0 where
+  pub under : lt (cdfOf set lo) p ≡ true
+  pub over : le p (cdfOf set hi) ≡ true
+  pub inverse : inverseOf set p ≡ hi
 
 -- For every p between 0 and 1 the 64 turns of the bisection end so, under every rule set.
 abbrev pub Inverse-brackets : Type 0
-Inverse-brackets = (rules : Rules) (p : Float) → lt +0 p ≡ true → lt p one ≡ true → Brackets rules p (endsOf rules p .lo) (endsOf rules p .hi)
+Inverse-brackets = (set : RuleSet) (p : Float) → lt +0 p ≡ true → lt p one ≡ true → Brackets set p (endsOf set p .lo) (endsOf set p .hi)

@@ -4,12 +4,14 @@ use crate::exp::exps;
 use crate::floor::floor;
 use crate::methods::abs;
 use crate::methods::same;
+use crate::rule_set::RULE_SET_0;
+use crate::rule_set::RuleSet;
 ghost use mathlib.Core.Path.{_≡_};
 ghost use mathlib.Core.Bool.{true, cond};
 ghost use lib.Ieee.{lt};
 ghost use Rattle.elementary.specs.Ops.{_⊖_, _⊗_, +0, two};
 ghost use Rattle.elementary.specs.Inside.Each.{at, UpTo, Each};
-ghost use Rattle.elementary.specs.Rules.{rules-0};
+ghost use Rattle.elementary.specs.RuleSets.{rule-set-0};
 ghost use Rattle.elementary.specs.Methods.{absOf};
 ghost use Rattle.elementary.specs.Exp.{expOf};
 ghost use Rattle.elementary.specs.Cody.{dIntOf, tildeOf, smoothenedExponentialOfNegativeSquare, smoothenedExponentialOfPositiveSquare, negativeSquare, negativeRest, abOf, cdOf, pqOf, erfcxAboveThreshold, erfcAbs, erfcOf, erfcxOf};
@@ -145,24 +147,31 @@ pub fn erfcx_above_threshold(y: f64) -> f64
     }
 }
 
-// erfc of |x| above the threshold. The exponential factor multiplies the far arm's 0 too.
-fn erfc_abs(y: f64, factor: f64) -> f64
+// erfc's far arm.
+fn far_arm(set: RuleSet, factor: f64) -> f64
+    ensures { λ r. ⌜ r ≡ cond (set .«far_factor») (+0 ⊗ factor) +0 ⌝ }
+{
+    if set.far_factor { 0.0 * factor } else { 0.0 }
+}
+
+// erfc of |x| above the threshold.
+fn erfc_abs(set: RuleSet, y: f64, factor: f64) -> f64
     requires { ⌜ factor ≡ smoothenedExponentialOfNegativeSquare y ⌝ }
-    ensures { λ r. ⌜ r ≡ erfcAbs rules-0 y ⌝ }
+    ensures { λ r. ⌜ r ≡ erfcAbs set y ⌝ }
 {
     if y >= XBIG {
-        0.0 * factor
+        far_arm(set, factor)
     } else {
         erfcx_above_threshold(y) * factor
     }
 }
 
 // erfc of x above the threshold, y = |x|.
-fn outside(x: f64, y: f64, factor: f64) -> f64
+fn outside(set: RuleSet, x: f64, y: f64, factor: f64) -> f64
     requires { ⌜ factor ≡ smoothenedExponentialOfNegativeSquare y ⌝ }
-    ensures { λ r. ⌜ r ≡ cond (lt x +0) (two ⊖ erfcAbs rules-0 y) (erfcAbs rules-0 y) ⌝ }
+    ensures { λ r. ⌜ r ≡ cond (lt x +0) (two ⊖ erfcAbs set y) (erfcAbs set y) ⌝ }
 {
-    let erfc_abs_x = erfc_abs(y, factor);
+    let erfc_abs_x = erfc_abs(set, y, factor);
     if x < 0.0 {
         2.0 - erfc_abs_x
     } else {
@@ -170,26 +179,32 @@ fn outside(x: f64, y: f64, factor: f64) -> f64
     }
 }
 
-pub fn erfc(x: f64) -> f64
-    ensures { λ r. ⌜ r ≡ erfcOf rules-0 x ⌝ }
+pub fn erfc_under(set: RuleSet, x: f64) -> f64
+    ensures { λ r. ⌜ r ≡ erfcOf set x ⌝ }
 {
     let y = abs(x);
     if y <= THRESHOLD {
         return 1.0 - x * ab(y * y);
     }
-    outside(x, y, smoothened_exponential_of_negative_square(y))
+    outside(set, x, y, smoothened_exponential_of_negative_square(y))
+}
+
+pub fn erfc(x: f64) -> f64
+    ensures { λ r. ⌜ r ≡ erfcOf rule-set-0 x ⌝ }
+{
+    erfc_under(RULE_SET_0, x)
 }
 
 // erfc where the exponential factor is known.
-pub(crate) fn erfc_with(x: f64, factor: f64) -> f64
+pub(crate) fn erfc_with(set: RuleSet, x: f64, factor: f64) -> f64
     requires { ⌜ factor ≡ smoothenedExponentialOfNegativeSquare (absOf x) ⌝ }
-    ensures { λ r. ⌜ r ≡ erfcOf rules-0 x ⌝ }
+    ensures { λ r. ⌜ r ≡ erfcOf set x ⌝ }
 {
     let y = abs(x);
     if y <= THRESHOLD {
         return 1.0 - x * ab(y * y);
     }
-    outside(x, y, factor)
+    outside(set, x, y, factor)
 }
 
 pub fn erfcx(x: f64) -> f64

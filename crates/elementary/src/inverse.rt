@@ -8,13 +8,13 @@ use crate::methods::abs;
 use crate::methods::same;
 use crate::normal_distribution::FRAC_1_SQRT_2;
 use crate::normal_distribution::cdfs;
-use crate::normal_distribution::standard_normal_cdf;
+use crate::normal_distribution::standard_normal_cdf_under;
+use crate::rule_set::RuleSet;
 use crate::sqrt::sqrt;
 ghost use mathlib.Core.Path.{_≡_};
 ghost use mathlib.Core.Bool.{true, false};
 ghost use Prim.Native.Nat.{_≤_, _<_};
 ghost use lib.Ieee.{lt};
-ghost use Rattle.elementary.specs.Rules.{rules-0};
 ghost use Rattle.elementary.specs.Inside.Each.{Each};
 ghost use Rattle.elementary.specs.Exp.{expOf};
 ghost use Rattle.elementary.specs.Cody.{negativeSquare};
@@ -141,21 +141,21 @@ fn middles(a: f64, b: f64, guess: f64) -> [f64; 8] {
 // ---- turns
 
 // The cdf at mid, which is f if mid is x.
-fn known(mid: f64, x: f64, f: f64) -> f64
-    requires { ⌜ f ≡ cdfOf rules-0 x ⌝ }
-    ensures { λ r. ⌜ r ≡ cdfOf rules-0 mid ⌝ }
+fn known(set: RuleSet, mid: f64, x: f64, f: f64) -> f64
+    requires { ⌜ f ≡ cdfOf set x ⌝ }
+    ensures { λ r. ⌜ r ≡ cdfOf set mid ⌝ }
 {
     if same(mid, x) {
         f
     } else {
-        standard_normal_cdf(mid)
+        standard_normal_cdf_under(set, mid)
     }
 }
 
 // One turn, whose middle has the cdf's value v.
-fn turned(p: f64, from: Ends, mid: f64, v: f64) -> Ends
-    requires { ⌜ After p (from .lo) (from .hi) (from .i) ⌝ ∗ ⌜ from .i < 64 ⌝ ∗ ⌜ mid ≡ midOf (from .lo) (from .hi) ⌝ ∗ ⌜ v ≡ cdfOf rules-0 mid ⌝ }
-    ensures { λ r. ⌜ After p (r .lo) (r .hi) (r .i) ⌝ ∗ ⌜ from .i < r .i ⌝ }
+fn bisection_step(set: RuleSet, p: f64, from: Ends, mid: f64, v: f64) -> Ends
+    requires { ⌜ After set p (from .lo) (from .hi) (from .i) ⌝ ∗ ⌜ from .i < 64 ⌝ ∗ ⌜ mid ≡ midOf (from .lo) (from .hi) ⌝ ∗ ⌜ v ≡ cdfOf set mid ⌝ }
+    ensures { λ r. ⌜ After set p (r .lo) (r .hi) (r .i) ⌝ ∗ ⌜ from .i < r .i ⌝ }
 {
     if v < p {
         Ends {
@@ -177,9 +177,9 @@ fn turned(p: f64, from: Ends, mid: f64, v: f64) -> Ends
 }
 
 // The turns after the first whose middles were guessed.
-fn walk(p: f64, from: Ends, x: [f64; 8], f: [f64; 8]) -> Ends
-    requires { ⌜ After p (from .lo) (from .hi) (from .i) ⌝ ∗ ⌜ Each (cdfOf rules-0) x f ⌝ }
-    ensures { λ r. ⌜ After p (r .lo) (r .hi) (r .i) ⌝ ∗ ⌜ from .i ≤ r .i ⌝ }
+fn apply_guessed_steps(set: RuleSet, p: f64, from: Ends, x: [f64; 8], f: [f64; 8]) -> Ends
+    requires { ⌜ After set p (from .lo) (from .hi) (from .i) ⌝ ∗ ⌜ Each (cdfOf set) x f ⌝ }
+    ensures { λ r. ⌜ After set p (r .lo) (r .hi) (r .i) ⌝ ∗ ⌜ from .i ≤ r .i ⌝ }
 {
     let mut at = from;
     let mut j: usize = 1;
@@ -189,7 +189,7 @@ fn walk(p: f64, from: Ends, x: [f64; 8], f: [f64; 8]) -> Ends
         }
         let mid = 0.5 * (at.lo + at.hi);
         if same(mid, x[j]) {
-            at = turned(p, at, mid, f[j]);
+            at = bisection_step(set, p, at, mid, f[j]);
         } else {
             return at;
         }
@@ -199,22 +199,22 @@ fn walk(p: f64, from: Ends, x: [f64; 8], f: [f64; 8]) -> Ends
 }
 
 // One turn and up to seven more.
-fn batch(p: f64, from: Ends, guess: f64, a: f64, e: f64) -> Ends
-    requires { ⌜ After p (from .lo) (from .hi) (from .i) ⌝ ∗ ⌜ from .i < 64 ⌝ ∗ ⌜ e ≡ expOf (negativeSquare a) ⌝ }
-    ensures { λ r. ⌜ After p (r .lo) (r .hi) (r .i) ⌝ ∗ ⌜ from .i < r .i ⌝ }
+fn batch(set: RuleSet, p: f64, from: Ends, guess: f64, a: f64, e: f64) -> Ends
+    requires { ⌜ After set p (from .lo) (from .hi) (from .i) ⌝ ∗ ⌜ from .i < 64 ⌝ ∗ ⌜ e ≡ expOf (negativeSquare a) ⌝ }
+    ensures { λ r. ⌜ After set p (r .lo) (r .hi) (r .i) ⌝ ∗ ⌜ from .i < r .i ⌝ }
 {
     let mid = 0.5 * (from.lo + from.hi);
     let x = middles(from.lo, from.hi, guess);
-    let f = cdfs(x, a, e);
-    let v = known(mid, x[0], f[0]);
-    walk(p, turned(p, from, mid, v), x, f)
+    let f = cdfs(set, x, a, e);
+    let v = known(set, mid, x[0], f[0]);
+    apply_guessed_steps(set, p, bisection_step(set, p, from, mid, v), x, f)
 }
 
 // The 64 turns: the middle becomes lo if its cdf is below p, else hi. Where the middle is an end, no
 // later turn changes anything.
-pub(crate) fn bisected(p: f64) -> f64
-    requires { ⌜ lt (cdfOf rules-0 lowest) p ≡ true ⌝ ∗ ⌜ lt (cdfOf rules-0 highest) p ≡ false ⌝ }
-    ensures { λ r. ⌜ r ≡ endsOf rules-0 p .hi ⌝ }
+pub(crate) fn bisected(set: RuleSet, p: f64) -> f64
+    requires { ⌜ lt (cdfOf set lowest) p ≡ true ⌝ ∗ ⌜ lt (cdfOf set highest) p ≡ false ⌝ }
+    ensures { λ r. ⌜ r ≡ endsOf set p .hi ⌝ }
 {
     let guess = approximation(p);
     let a = tilde(abs(guess * FRAC_1_SQRT_2));
@@ -234,7 +234,7 @@ pub(crate) fn bisected(p: f64) -> f64
         if same(mid, at.hi) {
             return at.hi;
         }
-        at = batch(p, at, aim(p, at, guess), a, e);
+        at = batch(set, p, at, aim(p, at, guess), a, e);
     }
     at.hi
 }

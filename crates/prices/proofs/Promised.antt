@@ -39,7 +39,7 @@ cubic-number x x-l x-r y-l y-r d-l d-r r = go (isInfinite x || (isInfinite x-l |
     go false false v w = refl
 
 pub call-numbers : Call-numbers
-call-numbers rules x s = call-number (call-answer 1 rules x s)
+call-numbers set x s = call-number (call-answer 1 set x s)
 
 -- black after its four tests, with p for an accepted input
 abbrev tested : Bool → Bool → Bool → Bool → Answer → Answer
@@ -47,7 +47,7 @@ tested a b c d p = cond a (cond b (cond c (cond d p (Refused 4)) (Refused 5)) (R
 
 pub black-numbers : Black-numbers
 unfolding blackOf
-black-numbers rules f k s e kind = go (isPositiveNormal f) (isPositiveNormal k) (isFinite s) (isPositiveNormal e) (blackAt 1 rules f k s e kind) (call-number (at-answer 1 rules f k s e kind))
+black-numbers set f k s e kind = go (isPositiveNormal f) (isPositiveNormal k) (isFinite s) (isPositiveNormal e) (blackAt 1 set f k s e kind) (call-number (at-answer 1 set f k s e kind))
   where
     go : (a b c d : Bool) (p : Answer) → Is-0-or-7 (numberOf p)
         → let n = numberOf (tested a b c d p) in Is-0-or-7 n ⊎ ((n ≡ 2) ⊎ ((n ≡ 3) ⊎ ((n ≡ 4) ⊎ (n ≡ 5))))
@@ -67,8 +67,8 @@ zero-is-a-value = record {
   small-t = λ h t. one (le SMALL-T t) 7 _;
   asymptotic = λ h t. one (isOutside h t) 6 _;
   cubic = λ x x-l x-r y-l y-r d-l d-r r. two (isInfinite x || (isInfinite x-l || isInfinite x-r)) (le (absOf (x-r ⊖ x-l)) EPSILON) _ _;
-  call = λ rules x s. call-value (call-answer 1 rules x s);
-  black = λ rules f k s e kind. four (isPositiveNormal f) (isPositiveNormal k) (isFinite s) (isPositiveNormal e) _ (call-value (at-answer 1 rules f k s e kind));
+  call = λ set x s. call-value (call-answer 1 set x s);
+  black = λ set f k s e kind. four (isPositiveNormal f) (isPositiveNormal k) (isFinite s) (isPositiveNormal e) _ (call-value (at-answer 1 set f k s e kind));
 }
   where
     one : (b : Bool) (n : ℕ) (v : Float) → numberOf (cond b (Refused (suc n)) (Value v)) ≡ 0 → isValue (cond b (Refused (suc n)) (Value v)) ≡ true
@@ -90,11 +90,11 @@ zero-is-a-value = record {
 pub black-order : Black-order
 unfolding blackOf
 black-order = record {
-  forward-first = λ rules f k s e kind a. rw a;
-  then-strike = λ rules f k s e kind a b. rw (a, b);
-  then-sigma = λ rules f k s e kind a b c. rw (a, b, c);
-  then-expiry = λ rules f k s e kind a b c d. rw (a, b, c, d);
-  else-priced = λ rules f k s e kind a b c d. rw (a, b, c, d) (call-number (at-answer 1 rules f k s e kind));
+  forward-first = λ set f k s e kind a. rw a;
+  then-strike = λ set f k s e kind a b. rw (a, b);
+  then-sigma = λ set f k s e kind a b c. rw (a, b, c);
+  then-expiry = λ set f k s e kind a b c d. rw (a, b, c, d);
+  else-priced = λ set f k s e kind a b c d. rw (a, b, c, d) (call-number (at-answer 1 set f k s e kind));
 }
 
 pub call-recursion : Call-recursion
@@ -118,7 +118,7 @@ accepted false b c d p h = cc
 pub black-recursion : Black-recursion
 unfolding blackOf
 black-recursion = record {
-  in-the-money = λ rules f k s e kind h. rw (in-turns rules f k s e kind h) (added-inside (isPositiveNormal f) (isPositiveNormal k) (isFinite s) (isPositiveNormal e) _ _);
+  in-the-money = λ set f k s e kind h. rw (in-turns set f k s e kind h) (added-inside (isPositiveNormal f) (isPositiveNormal k) (isFinite s) (isPositiveNormal e) _ _);
   ends = λ f k kind h. other-kind-out kind (f ⊖ k) h;
-  elsewhere = λ rules f k s e kind h a. accepted (isPositiveNormal f) (isPositiveNormal k) (isFinite s) (isPositiveNormal e) _ a ∙ out-stays rules f k s e kind h;
+  elsewhere = λ set f k s e kind h a. accepted (isPositiveNormal f) (isPositiveNormal k) (isFinite s) (isPositiveNormal e) _ a ∙ out-stays set f k s e kind h;
 }

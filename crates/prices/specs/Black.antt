@@ -3,7 +3,7 @@ use mathlib.Core.Bool.{Bool, cond, _&&_, _||_}
 use Prim.Native.Nat.{ℕ, zero, suc}
 use lib.Ieee.{Float, binary64, neg, lt, le}
 use Rattle.elementary.specs.Ops.{_⊕_, _⊖_, _⊗_, _⊘_, bits, float, +0, half, one, two, SQRT-2PI, mulAdd, MIN-POSITIVE, MAX}
-use Rattle.elementary.specs.Rules.{Rules}
+use Rattle.elementary.specs.declared.rule_set.RuleSet.{RuleSet}
 use Rattle.elementary.specs.Methods.{absOf, maxOf}
 use Rattle.elementary.specs.Sqrt.{sqrtOf}
 use Rattle.elementary.specs.Exp.{expOf}
@@ -40,15 +40,15 @@ abbrev pub bell : Float → Float → Float
 bell h t = expOf (neg half ⊗ (h ⊗ h ⊕ t ⊗ t))
 
 -- optimal use of Cody's functions: erfcx stands for erfc from the threshold on
-unfoldable pub codysOf : Rules → Float → Float → Float
-codysOf rules x s =
+unfoldable pub codysOf : RuleSet → Float → Float → Float
+codysOf set x s =
     let h = x ⊘ s in
     let t = half ⊗ s in
     let q1 = MINUS-FRAC ⊗ (h ⊕ t) in
     let q2 = MINUS-FRAC ⊗ (h ⊖ t) in
-    let both-erfc = expOf (half ⊗ x) ⊗ erfcOf rules q1 ⊖ expOf (neg half ⊗ x) ⊗ erfcOf rules q2 in
-    let second-erfcx = expOf (half ⊗ x) ⊗ erfcOf rules q1 ⊖ bell h t ⊗ erfcxOf q2 in
-    let first-erfcx = bell h t ⊗ erfcxOf q1 ⊖ expOf (neg half ⊗ x) ⊗ erfcOf rules q2 in
+    let both-erfc = expOf (half ⊗ x) ⊗ erfcOf set q1 ⊖ expOf (neg half ⊗ x) ⊗ erfcOf set q2 in
+    let second-erfcx = expOf (half ⊗ x) ⊗ erfcOf set q1 ⊖ bell h t ⊗ erfcxOf q2 in
+    let first-erfcx = bell h t ⊗ erfcxOf q1 ⊖ expOf (neg half ⊗ x) ⊗ erfcOf set q2 in
     let both-erfcx = bell h t ⊗ (erfcxOf q1 ⊖ erfcxOf q2) in
     let two-b = cond (lt q1 CODYS-THRESHOLD) (cond (lt q2 CODYS-THRESHOLD) both-erfc second-erfcx) (cond (lt q2 CODYS-THRESHOLD) first-erfcx both-erfcx) in
     maxOf (half ⊗ two-b) +0
@@ -149,18 +149,18 @@ abbrev pub isAsymptotic : Float → Float → Bool
 isAsymptotic x s = lt x (s ⊗ H-LARGE) && lt (half ⊗ s ⊗ s ⊕ x) (s ⊗ (SMALL-T ⊕ H-LARGE))
 
 -- the price in the region of x and s
-unfoldable pub regionOf : Rules → Float → Float → Answer
-regionOf rules x s =
+unfoldable pub regionOf : RuleSet → Float → Float → Answer
+regionOf set x s =
     let asymptotic = asymptoticOf (x ⊘ s) (half ⊗ s) in
     let small-t = smallTOf (x ⊘ s) (half ⊗ s) in
-    let codys = Value (codysOf rules x s) in
+    let codys = Value (codysOf set x s) in
     cond (isAsymptotic x s) asymptotic (cond (lt (half ⊗ s) SMALL-T) small-t codys)
 
 -- out of the money. DENORMALISATION_CUTOFF is 0, and stands where the Rust has it
-unfoldable pub outOfTheMoney : Rules → Float → Float → Answer
-outOfTheMoney rules x s =
+unfoldable pub outOfTheMoney : RuleSet → Float → Float → Answer
+outOfTheMoney set x s =
     let intrinsic = Value (intrinsicOf x Call) in
-    let region = regionOf rules x s in
+    let region = regionOf set x s in
     cond (le s (absOf x ⊗ +0)) intrinsic region
 
 -- a value with an amount added; a refusal passes up
@@ -169,20 +169,20 @@ added amount (Value b) = Value (amount ⊕ b)
 added amount (Refused n) = Refused n
 
 -- In the money the price is the intrinsic value and the price at −x, which is out of the money: the rule calls itself once, and the depth falls.
-unfoldable pub callAt : ℕ → Rules → Float → Float → Answer
-callAt zero rules x s = outOfTheMoney rules x s
-callAt (suc depth) rules x s =
-    let mapped = added (intrinsicOf x Call) (callAt depth rules (neg x) s) in
-    let direct = outOfTheMoney rules x s in
+unfoldable pub callAt : ℕ → RuleSet → Float → Float → Answer
+callAt zero set x s = outOfTheMoney set x s
+callAt (suc depth) set x s =
+    let mapped = added (intrinsicOf x Call) (callAt depth set (neg x) s) in
+    let direct = outOfTheMoney set x s in
     cond (lt +0 x) mapped direct
 
 -- normalised_black_call
-abbrev pub callOf : Rules → Float → Float → Answer
+abbrev pub callOf : RuleSet → Float → Float → Answer
 callOf = callAt 1
 
 -- normalised_black: a put at x is a call at −x
-unfoldable pub normalisedBlackOf : Rules → Float → Float → OptionType → Answer
-normalisedBlackOf rules x s kind = callOf rules (times kind x) s
+unfoldable pub normalisedBlackOf : RuleSet → Float → Float → OptionType → Answer
+normalisedBlackOf set x s kind = callOf set (times kind x) s
 
 -- ---- black
 
@@ -200,25 +200,25 @@ scaledUp amount factor (Value b) = Value (maxOf amount (factor ⊗ b))
 scaledUp amount factor (Refused n) = Refused n
 
 -- black's price out of the money, of an accepted input
-unfoldable pub priceOf : Rules → Float → Float → Float → Float → OptionType → Answer
-priceOf rules forward strike sigma expiry kind =
+unfoldable pub priceOf : RuleSet → Float → Float → Float → Float → OptionType → Answer
+priceOf set forward strike sigma expiry kind =
     let intrinsic = maxOf (times kind (forward ⊖ strike)) +0 in
     let factor = sqrtOf binary64 forward ⊗ sqrtOf binary64 strike in
-    scaledUp intrinsic factor (normalisedBlackOf rules (lnOf (forward ⊘ strike)) (sigma ⊗ sqrtOf binary64 expiry) kind)
+    scaledUp intrinsic factor (normalisedBlackOf set (lnOf (forward ⊘ strike)) (sigma ⊗ sqrtOf binary64 expiry) kind)
 
 -- black's price of an accepted input: in the money mapped to out of the money, once
-unfoldable pub blackAt : ℕ → Rules → Float → Float → Float → Float → OptionType → Answer
-blackAt zero rules forward strike sigma expiry kind = priceOf rules forward strike sigma expiry kind
-blackAt (suc depth) rules forward strike sigma expiry kind =
+unfoldable pub blackAt : ℕ → RuleSet → Float → Float → Float → Float → OptionType → Answer
+blackAt zero set forward strike sigma expiry kind = priceOf set forward strike sigma expiry kind
+blackAt (suc depth) set forward strike sigma expiry kind =
     let signed-diff = times kind (forward ⊖ strike) in
-    let mapped = added (maxOf signed-diff +0) (blackAt depth rules forward strike sigma expiry (negated kind)) in
-    let direct = priceOf rules forward strike sigma expiry kind in
+    let mapped = added (maxOf signed-diff +0) (blackAt depth set forward strike sigma expiry (negated kind)) in
+    let direct = priceOf set forward strike sigma expiry kind in
     cond (lt +0 signed-diff) mapped direct
 
 -- black, with its refusals
-unfoldable pub blackOf : Rules → Float → Float → Float → Float → OptionType → Answer
-blackOf rules forward strike sigma expiry kind =
-    let price = blackAt 1 rules forward strike sigma expiry kind in
+unfoldable pub blackOf : RuleSet → Float → Float → Float → Float → OptionType → Answer
+blackOf set forward strike sigma expiry kind =
+    let price = blackAt 1 set forward strike sigma expiry kind in
     cond (isPositiveNormal forward)
     (cond (isPositiveNormal strike) (cond (isFinite sigma) (cond (isPositiveNormal expiry) price (Refused 4)) (Refused 5)) (Refused 3))
     (Refused 2)

@@ -14,7 +14,7 @@ use elementary::sqrt::sqrt;
 ghost use mathlib.Core.Path.{_≡_};
 ghost use mathlib.Core.Bool.{not, cond, _&&_};
 ghost use lib.Ieee.{neg};
-ghost use Rattle.elementary.specs.Rules.{rules-0};
+ghost use Rattle.elementary.specs.RuleSets.{rule-set-0};
 ghost use Rattle.elementary.specs.Ops.{_⊕_, _⊗_, +0, half, one, mulAdd};
 ghost use Rattle.elementary.specs.Methods.{maxOf};
 ghost use Rattle.elementary.specs.Exp.{expOf};
@@ -46,7 +46,7 @@ pub(crate) fn bell(h: f64, t: f64) -> f64
 
 // Twice the price, from the exponentials of x / 2, −x / 2 and −(h² + t²) / 2.
 fn two_b(up: f64, down: f64, exp_term: f64, q1: f64, q2: f64) -> f64
-    ensures { λ r. ⌜ r ≡ twoBWith rules-0 up down «exp_term» q1 q2 ⌝ }
+    ensures { λ r. ⌜ r ≡ twoBWith rule-set-0 up down «exp_term» q1 q2 ⌝ }
 {
     if q1 < CODYS_THRESHOLD {
         if q2 < CODYS_THRESHOLD {
@@ -62,7 +62,7 @@ fn two_b(up: f64, down: f64, exp_term: f64, q1: f64, q2: f64) -> f64
 
 // Cody's price, from the same exponentials.
 pub(crate) fn codys(up: f64, down: f64, exp_term: f64, q1: f64, q2: f64) -> f64
-    ensures { λ r. ⌜ r ≡ maxOf (half ⊗ twoBWith rules-0 up down «exp_term» q1 q2) +0 ⌝ }
+    ensures { λ r. ⌜ r ≡ maxOf (half ⊗ twoBWith rule-set-0 up down «exp_term» q1 q2) +0 ⌝ }
 {
     max(0.5 * two_b(up, down, exp_term, q1, q2), 0.0)
 }
@@ -83,7 +83,7 @@ fn not_both(a: bool, b: bool) -> bool
 
 // Each exponential is computed only where it is read.
 pub fn normalised_black_call_with_optimal_use_of_codys_functions(x: f64, s: f64) -> f64
-    ensures { λ r. ⌜ r ≡ codysOf rules-0 x s ⌝ }
+    ensures { λ r. ⌜ r ≡ codysOf rule-set-0 x s ⌝ }
 {
     let h = x / s;
     let t = 0.5 * s;
@@ -273,7 +273,7 @@ pub(crate) fn is_asymptotic(x: f64, s: f64) -> bool
 }
 
 fn region(x: f64, s: f64) -> Answer
-    ensures { λ r. ⌜ r ≡ regionOf rules-0 x s ⌝ }
+    ensures { λ r. ⌜ r ≡ regionOf rule-set-0 x s ⌝ }
 {
     if is_asymptotic(x, s) {
         return asymptotic_expansion_of_normalised_black_call(x / s, 0.5 * s);
@@ -287,7 +287,7 @@ fn region(x: f64, s: f64) -> Answer
 // Where s is 0 or below and x is finite, the intrinsic value; at an infinite x the product is NaN and
 // the test fails.
 fn out_of_the_money(x: f64, s: f64) -> Answer
-    ensures { λ r. ⌜ r ≡ outOfTheMoney rules-0 x s ⌝ }
+    ensures { λ r. ⌜ r ≡ outOfTheMoney rule-set-0 x s ⌝ }
 {
     if s <= abs(x) * 0.0 {
         return Answer::Value(normalised_intrinsic(x, OptionType::Call));
@@ -307,7 +307,7 @@ fn plus(amount: f64, price: Answer) -> Answer
 
 // In the money the price at −x is out of the money: the call to itself is made once.
 fn call_at(depth: u64, x: f64, s: f64) -> Answer
-    ensures { λ r. ⌜ r ≡ callAt depth rules-0 x s ⌝ }
+    ensures { λ r. ⌜ r ≡ callAt depth rule-set-0 x s ⌝ }
 {
     if depth == 0 {
         return out_of_the_money(x, s);
@@ -320,13 +320,13 @@ fn call_at(depth: u64, x: f64, s: f64) -> Answer
 }
 
 pub fn normalised_black_call(x: f64, s: f64) -> Answer
-    ensures { λ r. ⌜ r ≡ callOf rules-0 x s ⌝ }
+    ensures { λ r. ⌜ r ≡ callOf rule-set-0 x s ⌝ }
 {
     call_at(1, x, s)
 }
 
 pub fn normalised_black(x: f64, s: f64, option_type: OptionType) -> Answer
-    ensures { λ r. ⌜ r ≡ normalisedBlackOf rules-0 x s «option_type» ⌝ }
+    ensures { λ r. ⌜ r ≡ normalisedBlackOf rule-set-0 x s «option_type» ⌝ }
 {
     normalised_black_call(option_type.times(x), s)
 }
@@ -366,7 +366,7 @@ fn at_least(amount: f64, factor: f64, price: Answer) -> Answer
 }
 
 fn price(forward: f64, strike: f64, sigma: f64, expiry: f64, option_type: OptionType) -> Answer
-    ensures { λ r. ⌜ r ≡ priceOf rules-0 forward strike sigma expiry «option_type» ⌝ }
+    ensures { λ r. ⌜ r ≡ priceOf rule-set-0 forward strike sigma expiry «option_type» ⌝ }
 {
     let intrinsic = max(option_type.times(forward - strike), 0.0);
     let factor = sqrt(forward) * sqrt(strike);
@@ -387,7 +387,7 @@ fn black_at(
     expiry: f64,
     option_type: OptionType,
 ) -> Answer
-    ensures { λ r. ⌜ r ≡ blackAt depth rules-0 forward strike sigma expiry «option_type» ⌝ }
+    ensures { λ r. ⌜ r ≡ blackAt depth rule-set-0 forward strike sigma expiry «option_type» ⌝ }
 {
     if depth == 0 {
         return price(forward, strike, sigma, expiry, option_type);
@@ -412,7 +412,7 @@ pub fn black(
     time_to_maturity: f64,
     option_type: OptionType,
 ) -> Answer
-    ensures { λ r. ⌜ r ≡ blackOf rules-0 «forward_price» «strike_price» sigma «time_to_maturity» «option_type» ⌝ }
+    ensures { λ r. ⌜ r ≡ blackOf rule-set-0 «forward_price» «strike_price» sigma «time_to_maturity» «option_type» ⌝ }
 {
     if is_positive_normal(forward_price) {
         if is_positive_normal(strike_price) {

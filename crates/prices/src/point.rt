@@ -16,7 +16,7 @@ use crate::vega::normalised_vega;
 use crate::vega::vega_with;
 use elementary::methods::abs;
 ghost use mathlib.Core.Path.{_≡_};
-ghost use Rattle.elementary.specs.Rules.{rules-0};
+ghost use Rattle.elementary.specs.RuleSets.{rule-set-0};
 ghost use Rattle.elementary.specs.Ops.{_⊗_, _⊘_, half};
 ghost use Rattle.prices.specs.declared.answer.Answer.the-variants.{Value};
 ghost use Rattle.prices.specs.Vega.{vegaOf};
@@ -73,7 +73,7 @@ fn in_asymptotic_region(h: f64, t: f64, vega: f64) -> PriceAndVega
 // The three regions of normalised_black_call.
 fn in_region(x: f64, s: f64, up: f64, down: f64, exp_term: f64, vega: f64) -> PriceAndVega
     requires { ⌜ «exp_term» ≡ bellOf (x ⊘ s) (half ⊗ s) ⌝ }
-    ensures { λ r. ⌜ r ≡ priceAndVega (regionWith rules-0 up down x s) vega ⌝ }
+    ensures { λ r. ⌜ r ≡ priceAndVega (regionWith rule-set-0 up down x s) vega ⌝ }
 {
     let h = x / s;
     let t = 0.5 * s;
@@ -92,7 +92,7 @@ fn in_region(x: f64, s: f64, up: f64, down: f64, exp_term: f64, vega: f64) -> Pr
 // the test fails.
 fn out_of_the_money(x: f64, s: f64, up: f64, down: f64, exp_term: f64, vega: f64) -> PriceAndVega
     requires { ⌜ «exp_term» ≡ bellOf (x ⊘ s) (half ⊗ s) ⌝ }
-    ensures { λ r. ⌜ r ≡ priceAndVega (outOfTheMoneyWith rules-0 up down x s) vega ⌝ }
+    ensures { λ r. ⌜ r ≡ priceAndVega (outOfTheMoneyWith rule-set-0 up down x s) vega ⌝ }
 {
     if s <= abs(x) * 0.0 {
         return priced(normalised_intrinsic(x, OptionType::Call), vega);
@@ -102,7 +102,7 @@ fn out_of_the_money(x: f64, s: f64, up: f64, down: f64, exp_term: f64, vega: f64
 
 // `up` is exp(x / 2) and `down` exp(−x / 2), which the caller has for every s.
 pub fn price_and_vega(x: f64, s: f64, up: f64, down: f64) -> PriceAndVega
-    ensures { λ r. ⌜ r ≡ priceAndVega (callWith rules-0 up down x s) (vegaOf x s) ⌝ }
+    ensures { λ r. ⌜ r ≡ priceAndVega (callWith rule-set-0 up down x s) (vegaOf x s) ⌝ }
 {
     if x > 0.0 {
         return told(normalised_black_call(x, s), normalised_vega(x, s));

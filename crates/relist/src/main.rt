@@ -6,7 +6,7 @@ use solver::listing::line;
 ghost use mathlib.Core.Path.{_≡_};
 ghost use Prim.Native.Nat.{_+_, _*_, _≤_, _<_, min};
 ghost use lib.ListN.{length};
-ghost use Rattle.solver.specs.RuleSets.{rule-set-0};
+ghost use Rattle.elementary.specs.RuleSets.{rule-set-0};
 ghost use Rattle.solver.specs.Trail.{laid};
 ghost use Rattle.solver.specs.Listing.{lineOf};
 ghost use Rattle.relist.specs.Lines.{linesOf, stepOf};

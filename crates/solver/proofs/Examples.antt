@@ -17,7 +17,7 @@ use Rattle.prices.specs.Vega.{vegaOf}
 use Rattle.prices.specs.Intrinsic.{intrinsicOf}
 use Rattle.prices.specs.Black.{callAt, outOfTheMoney, regionOf, codysOf, smallTOf, smallTInner, taylorOf, term1, term2, term3, term4, term5, term6, asymptoticOf, asymptoticInner, seriesOf, seriesTurns}
 use Rattle.prices.specs.RationalCubic.{interpolationOf, curveOf, convexParameterOf, controlParameterOf, minimumParameterOf}
-use Rattle.solver.specs.RuleSets.{rule-set-0}
+use Rattle.elementary.specs.RuleSets.{rule-set-0}
 use Rattle.solver.specs.Loop.{run}
 use Rattle.solver.specs.Step.{lowerStep, upperStep, generalStep, lowerDs, upperDs, generalDs, householderFactor, isClose}
 use Rattle.solver.specs.Guess.{normalisedBegun, mappedBegun, lowerBegun, upperBegun, tailBegun, lowerGuess, middleGuess, upperGuess, lowerMap, upperMap, inverseFLowerMap, withValue, onValue}

@@ -8,7 +8,7 @@ use lib.IntN.{ℤ}
 use borrow.Author.Tests.{le-ltb}
 use lib.Ieee.{Float}
 use Rattle.prices.specs.declared.inputs.OptionType.{OptionType}
-use Rattle.solver.specs.RuleSets.{RuleSet}
+use Rattle.elementary.specs.declared.rule_set.RuleSet.{RuleSet}
 use Rattle.solver.specs.Guess.{Begun}
 use Rattle.solver.specs.Solve.{begunOf, Solving, solvingOf, solvingWith, solveOf, solveWithTrail, stepsOf}
 use Rattle.solver.specs.Promises.Demand3.{Trail, none, of-bytes, LongEnough, runOf, beginOf, OneRun, Sentences, Demand-3}

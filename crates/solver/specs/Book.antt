@@ -14,7 +14,7 @@ use Rattle.solver.specs.declared.state.Filing.{Filing}
 use Rattle.solver.specs.declared.state.Filing.the-variants.{Filed, Refused as NotFiled}
 use Rattle.solver.specs.declared.state.Checking.{Checking}
 use Rattle.solver.specs.declared.state.Checking.the-variants.{Agrees, Differs, Refused as NotChecked}
-use Rattle.solver.specs.RuleSets.{RuleSet}
+use Rattle.elementary.specs.declared.rule_set.RuleSet.{RuleSet}
 use Rattle.solver.specs.Solve.{inputNumber, solveOf, stepsOf}
 use Rattle.solver.specs.Trail.{bytesOf, floatBytes, part, numberAt, floatAt, laid}
 

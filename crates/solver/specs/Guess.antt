@@ -4,7 +4,7 @@ use mathlib.Core.Bool.{Bool, true, false, cond, _&&_}
 use Prim.Native.Nat.{ℕ}
 use lib.Ieee.{Float, binary64, neg, lt, le}
 use Rattle.elementary.specs.Ops.{_⊕_, _⊖_, _⊗_, _⊘_, bits, float, +0, half, one, two, MAX, eighth, MIN, quarter}
-use Rattle.elementary.specs.Rules.{Rules}
+use Rattle.elementary.specs.declared.rule_set.RuleSet.{RuleSet}
 use Rattle.elementary.specs.Methods.{absOf, maxOf, squareOf}
 use Rattle.elementary.specs.Sqrt.{sqrtOf}
 use Rattle.elementary.specs.Exp.{expOf}
@@ -54,29 +54,29 @@ isBelowHorizon x = lt (absOf x) +0
 -- ---- the maps
 
 -- s from the lower map's value
-unfoldable pub inverseFLowerMap : Rules → Float → Float → Float
-inverseFLowerMap rules x f =
-    let s = absOf (x ⊘ (SQRT-THREE ⊗ inverseOf rules (cubeRootOf (f ⊘ (TWO-PI-OVER-SQRT-TWENTY-SEVEN ⊗ absOf x))))) in
+unfoldable pub inverseFLowerMap : RuleSet → Float → Float → Float
+inverseFLowerMap set x f =
+    let s = absOf (x ⊘ (SQRT-THREE ⊗ inverseOf set (cubeRootOf (f ⊘ (TWO-PI-OVER-SQRT-TWENTY-SEVEN ⊗ absOf x))))) in
     cond (isBelowHorizon f) +0 s
 
 -- the upper map at s, and its two derivatives
-unfoldable pub upperMap : Rules → Float → Float → Mapped
-upperMap rules x s =
+unfoldable pub upperMap : RuleSet → Float → Float → Mapped
+upperMap set x s =
     let w = squareOf (x ⊘ s) in
     let fp = neg half ⊗ expOf (half ⊗ w) in
     let fpp = SQRT-PI-OVER-TWO ⊗ expOf (w ⊕ eighth ⊗ s ⊗ s) ⊗ w ⊘ s in
     let horizon = isBelowHorizon x in
-    record { f = cdfOf rules (neg half ⊗ s); fp = cond horizon (neg half) fp; fpp = cond horizon +0 fpp }
+    record { f = cdfOf set (neg half ⊗ s); fp = cond horizon (neg half) fp; fpp = cond horizon +0 fpp }
 
 -- The second derivative divides by cdf(z), where the paper has the density.
-unfoldable pub lowerMap : Rules → Float → Float → Mapped
-lowerMap rules x s =
+unfoldable pub lowerMap : RuleSet → Float → Float → Mapped
+lowerMap set x s =
     let ax = absOf x in
     let z = SQRT-ONE-OVER-THREE ⊗ ax ⊘ s in
     let y = z ⊗ z in
     let s2 = s ⊗ s in
-    let phi = cdfOf rules z in
-    let phi′ = cdfOf rules (neg z) in
+    let phi = cdfOf set z in
+    let phi′ = cdfOf set (neg z) in
     let fpp =
     PI-OVER-SIX ⊗ y ⊘ (s2 ⊗ s) ⊗ phi′ ⊗ (float 8 ⊗ SQRT-THREE ⊗ s ⊗ ax ⊕ (float 3 ⊗ s2 ⊗ (s2 ⊖ float 8) ⊖ float 8 ⊗ x ⊗ x) ⊗ phi′ ⊘ phi) ⊗ expOf (two ⊗ y ⊕ quarter ⊗ s2) in
     let phi2 = phi′ ⊗ phi′ in
@@ -93,13 +93,13 @@ onValue (Value f) g = Value (g f)
 onValue (Number n) g = Number n
 
 -- branch 1
-unfoldable pub lowerGuess : Rules → Float → Float → Float → Float → Answer
-lowerGuess rules x beta b-l s-l =
-    let m = lowerMap rules x s-l in
+unfoldable pub lowerGuess : RuleSet → Float → Float → Float → Float → Answer
+lowerGuess set x beta b-l s-l =
+    let m = lowerMap set x s-l in
     let r = convexParameterOf +0 b-l +0 (m .f) one (m .fp) (m .fpp) true Right in
     let t = beta ⊘ b-l in
     let instead = (m .f ⊗ t ⊕ b-l ⊗ (one ⊖ t)) ⊗ t in
-    onValue (interpolationOf beta +0 b-l +0 (m .f) one (m .fp) r) (λ f. inverseFLowerMap rules x (cond (le f +0) instead f))
+    onValue (interpolationOf beta +0 b-l +0 (m .f) one (m .fp) r) (λ f. inverseFLowerMap set x (cond (le f +0) instead f))
 
 -- between two places with their prices and vegas
 unfoldable pub middleGuess : Float → Float → Float → Float → Float → Float → Float → Side → Answer
@@ -115,13 +115,13 @@ upperF beta b-max b-h m =
     cond (lt (neg SQRT-DBL-MAX) (m .fpp) && lt (m .fpp) SQRT-DBL-MAX) interpolated (Value MIN)
 
 -- branches 4 and 5
-unfoldable pub upperGuess : Rules → Float → Float → Float → Float → Float → Answer
-upperGuess rules x beta b-max b-h s-h =
-    let m = upperMap rules x s-h in
+unfoldable pub upperGuess : RuleSet → Float → Float → Float → Float → Float → Answer
+upperGuess set x beta b-max b-h s-h =
+    let m = upperMap set x s-h in
     let h = b-max ⊖ b-h in
     let t = (beta ⊖ b-h) ⊘ h in
     let instead = (m .f ⊗ (one ⊖ t) ⊕ half ⊗ h ⊗ t) ⊗ (one ⊖ t) in
-    onValue (upperF beta b-max b-h m) (λ f. inverseFUpperMapOf rules (cond (le f +0) instead f))
+    onValue (upperF beta b-max b-h m) (λ f. inverseFUpperMapOf set (cond (le f +0) instead f))
 
 -- ---- where a run begins
 
@@ -144,12 +144,12 @@ abbrev pub startAt : Float → Float → Float → State
 startAt left right s = record { s = s; ds = MIN; previous = +0; left = left; right = right }
 
 -- below b_c
-unfoldable pub lowerBegun : Rules → Float → Float → Float → Float → Float → Begun
-lowerBegun rules x beta s-c b-c v-c =
+unfoldable pub lowerBegun : RuleSet → Float → Float → Float → Float → Float → Begun
+lowerBegun set x beta s-c b-c v-c =
     let s-l = s-c ⊖ b-c ⊘ v-c in
-    withValue (callOf rules x s-l) (λ b-l.
-    let loop-1 = withValue (lowerGuess rules x beta b-l s-l) (λ s. looping 1 beta (lowerStep rules x beta) (startAt MIN s-l s)) in
-    let loop-2 = withValue (middleGuess beta b-l b-c s-l s-c (vegaOf x s-l) v-c Right) (λ s. looping 2 beta (generalStep rules x beta) (startAt s-l s-c s)) in
+    withValue (callOf set x s-l) (λ b-l.
+    let loop-1 = withValue (lowerGuess set x beta b-l s-l) (λ s. looping 1 beta (lowerStep set x beta) (startAt MIN s-l s)) in
+    let loop-2 = withValue (middleGuess beta b-l b-c s-l s-c (vegaOf x s-l) v-c Right) (λ s. looping 2 beta (generalStep set x beta) (startAt s-l s-c s)) in
     cond (lt beta b-l) loop-1 loop-2)
 
 -- s_h, from b_c on
@@ -157,40 +157,40 @@ abbrev pub upperPlace : Float → Float → Float → Float → Float
 upperPlace b-max s-c b-c v-c = cond (lt MIN v-c) (s-c ⊕ (b-max ⊖ b-c) ⊘ v-c) s-c
 
 -- above b_h
-unfoldable pub tailBegun : Rules → Float → Float → Float → Float → Float → Begun
-tailBegun rules x beta b-max b-h s-h =
-    let loop-4 : Float → Begun = λ s. looping 4 beta (upperStep rules b-max x beta) (startAt s-h MAX s) in
-    let loop-5 : Float → Begun = λ s. looping 5 beta (generalStep rules x beta) (startAt s-h MAX s) in
-    withValue (upperGuess rules x beta b-max b-h s-h) (λ s. cond (lt (half ⊗ b-max) beta) (loop-4 s) (loop-5 s))
+unfoldable pub tailBegun : RuleSet → Float → Float → Float → Float → Float → Begun
+tailBegun set x beta b-max b-h s-h =
+    let loop-4 : Float → Begun = λ s. looping 4 beta (upperStep set b-max x beta) (startAt s-h MAX s) in
+    let loop-5 : Float → Begun = λ s. looping 5 beta (generalStep set x beta) (startAt s-h MAX s) in
+    withValue (upperGuess set x beta b-max b-h s-h) (λ s. cond (lt (half ⊗ b-max) beta) (loop-4 s) (loop-5 s))
 
 -- from b_c on
-unfoldable pub upperBegun : Rules → Float → Float → Float → Float → Float → Float → Begun
-upperBegun rules x beta b-max s-c b-c v-c =
+unfoldable pub upperBegun : RuleSet → Float → Float → Float → Float → Float → Float → Begun
+upperBegun set x beta b-max s-c b-c v-c =
     let s-h = upperPlace b-max s-c b-c v-c in
-    withValue (callOf rules x s-h) (λ b-h.
-    let loop-3 = withValue (middleGuess beta b-c b-h s-c s-h v-c (vegaOf x s-h) Left) (λ s. looping 3 beta (generalStep rules x beta) (startAt s-c s-h s)) in
-    let tail = tailBegun rules x beta b-max b-h s-h in
+    withValue (callOf set x s-h) (λ b-h.
+    let loop-3 = withValue (middleGuess beta b-c b-h s-c s-h v-c (vegaOf x s-h) Left) (λ s. looping 3 beta (generalStep set x beta) (startAt s-c s-h s)) in
+    let tail = tailBegun set x beta b-max b-h s-h in
     cond (le beta b-h) loop-3 tail)
 
 -- from the price at √(2 |x|) on
-abbrev pub guessedBegun : Rules → Float → Float → Float → Begun
-guessedBegun rules x beta b-max =
+abbrev pub guessedBegun : RuleSet → Float → Float → Float → Begun
+guessedBegun set x beta b-max =
     let s-c = sqrtOf binary64 (two ⊗ absOf x) in
     let v-c = vegaOf x s-c in
-    withValue (callOf rules x s-c) (λ b-c.
-    let lower = lowerBegun rules x beta s-c b-c v-c in
-    let upper = upperBegun rules x beta b-max s-c b-c v-c in
+    withValue (callOf set x s-c) (λ b-c.
+    let lower = lowerBegun set x beta s-c b-c v-c in
+    let upper = upperBegun set x beta b-max s-c b-c v-c in
     cond (lt beta b-c) lower upper)
 
 -- the target and x after all mapping
-unfoldable pub mappedBegun : Rules → Float → Float → Begun
-mappedBegun rules x beta =
+unfoldable pub mappedBegun : RuleSet → Float → Float → Begun
+mappedBegun set x beta =
     let b-max = expOf (half ⊗ x) in
-    let guessed = guessedBegun rules x beta b-max in
+    let guessed = guessedBegun set x beta b-max in
     cond (le beta +0) (answered +0) (cond (lt beta +0) (answered +0) (cond (le b-max beta) (answered MAX) guessed))
 
 -- unchecked_normalised_implied_volatility_.., up to its loops
-unfoldable pub normalisedBegun : Rules → Float → Float → OptionType → Begun
-normalisedBegun rules beta x kind =
+unfoldable pub normalisedBegun : RuleSet → Float → Float → OptionType → Begun
+normalisedBegun set beta x kind =
     let mapped = maxOf (beta ⊖ intrinsicOf x kind) +0 in
-    mappedBegun rules (times kind x) (cond (lt +0 (times kind x)) mapped beta)
+    mappedBegun set (times kind x) (cond (lt +0 (times kind x)) mapped beta)

@@ -1,5 +1,4 @@
 -- Rules: what a reader believes.
-pub mod RuleSets
 pub mod Loop
 pub mod Step
 pub mod Guess

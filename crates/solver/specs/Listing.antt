@@ -7,7 +7,7 @@ use lib.ListN.{length}
 use lib.Ieee.{binary64, toBits}
 use Rattle.solver.specs.declared.state.Solution.{Solution}
 use Rattle.solver.specs.declared.state.Solution.the-variants.{Solved, Refused}
-use Rattle.solver.specs.RuleSets.{RuleSet}
+use Rattle.elementary.specs.declared.rule_set.RuleSet.{RuleSet}
 use Rattle.solver.specs.Book.{resolved}
 use Rattle.solver.specs.Trail.{laid}
 

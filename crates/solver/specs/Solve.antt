@@ -11,13 +11,14 @@ use Rattle.elementary.specs.Methods.{maxOf}
 use Rattle.elementary.specs.Sqrt.{sqrtOf}
 use Rattle.elementary.specs.Ln.{lnOf}
 use Rattle.prices.specs.declared.inputs.OptionType.{OptionType}
+use Rattle.prices.specs.declared.inputs.OptionType.the-variants.{Call, Put}
 use Rattle.prices.specs.Inputs.{negated, times}
 use Rattle.prices.specs.Black.{isPositiveNormal, isFinite}
 use Rattle.solver.specs.declared.state.State.{State}
 use Rattle.solver.specs.declared.state.Record.{Record}
 use Rattle.solver.specs.declared.state.Solution.{Solution}
 use Rattle.solver.specs.declared.state.Solution.the-variants.{Solved, Refused}
-use Rattle.solver.specs.RuleSets.{RuleSet}
+use Rattle.elementary.specs.declared.rule_set.RuleSet.{RuleSet}
 use Rattle.solver.specs.Loop.{Ending, tested, limited, refused, Run, run}
 use Rattle.solver.specs.Step.{nextBy}
 use Rattle.solver.specs.Guess.{Begun, answered, stopped, looping, normalisedBegun}
@@ -30,16 +31,21 @@ overExpiry expiry (answered v) = answered (v ⊘ sqrtOf binary64 expiry)
 overExpiry expiry (stopped n) = stopped n
 overExpiry expiry (looping branch beta step st) = looping branch beta step st
 
+-- the price from which on no volatility is looked for: the strike for a Call and the forward for a Put, as in the Rust, or by the textbook the other one
+abbrev pub capOf : RuleSet → OptionType → Float → Float → Float
+capOf set Call forward strike = cond (set .«textbook_cap») forward strike
+capOf set Put forward strike = cond (set .«textbook_cap») strike forward
+
 -- The two sentinels that are found before normalising are reported as they are; what is answered after it is divided by √expiry, an above-maximum sentinel too.
 unfoldable pub acceptedBegun : RuleSet → Float → Float → Float → Float → OptionType → Begun
 acceptedBegun set price forward strike expiry kind =
     let intrinsic = maxOf (times kind (forward ⊖ strike)) +0 in
     let x = lnOf (forward ⊘ strike) in
     let root = sqrtOf binary64 forward ⊗ sqrtOf binary64 strike in
-    let direct = overExpiry expiry (normalisedBegun (set .elementary) (price ⊘ root) x kind) in
-    let mapped = overExpiry expiry (normalisedBegun (set .elementary) (maxOf (price ⊖ intrinsic) +0 ⊘ root) x (negated kind)) in
+    let direct = overExpiry expiry (normalisedBegun set (price ⊘ root) x kind) in
+    let mapped = overExpiry expiry (normalisedBegun set (maxOf (price ⊖ intrinsic) +0 ⊘ root) x (negated kind)) in
     let guessed = cond (lt +0 (times kind x)) mapped direct in
-    cond (lt price intrinsic) (answered MIN) (cond (le (set .cap kind forward strike) price) (answered MAX) guessed)
+    cond (lt price intrinsic) (answered MIN) (cond (le (capOf set kind forward strike) price) (answered MAX) guessed)
 
 -- 1, 2, 3, 4 in this order, or 0 where none is met
 unfoldable pub inputNumber : Float → Float → Float → Float → ℕ

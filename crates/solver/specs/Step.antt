@@ -2,7 +2,7 @@
 use mathlib.Core.Bool.{Bool, cond, _&&_, _||_}
 use lib.Ieee.{Float, neg, lt, le}
 use Rattle.elementary.specs.Ops.{_⊕_, _⊖_, _⊗_, _⊘_, float, +0, half, one, two, EPSILON, MIN, quarter}
-use Rattle.elementary.specs.Rules.{Rules}
+use Rattle.elementary.specs.declared.rule_set.RuleSet.{RuleSet}
 use Rattle.elementary.specs.Methods.{absOf, maxOf, squareOf}
 use Rattle.elementary.specs.Ln.{lnOf}
 use Rattle.prices.specs.declared.answer.Answer.{Answer}
@@ -117,20 +117,20 @@ withPrice (Value b) f = f b
 withPrice (Number n) f = Refused n
 
 -- a step with these formulas of ds and of s after
-abbrev pub stepBy : (Float → Float → Float → Ends → Float) → (Float → Float → Float) → Rules → Float → Float → State → Stepped
-stepBy dsOf afterOf rules x beta st = withPrice (callOf rules x (st .s)) (λ b. Went (stateAfter dsOf afterOf beta st b (vegaOf x (st .s))) (recordOf dsOf afterOf beta st b (vegaOf x (st .s))))
+abbrev pub stepBy : (Float → Float → Float → Ends → Float) → (Float → Float → Float) → RuleSet → Float → Float → State → Stepped
+stepBy dsOf afterOf set x beta st = withPrice (callOf set x (st .s)) (λ b. Went (stateAfter dsOf afterOf beta st b (vegaOf x (st .s))) (recordOf dsOf afterOf beta st b (vegaOf x (st .s))))
 
 -- branch 1
-unfoldable pub lowerStep : Rules → Float → Float → State → Stepped
-lowerStep rules x beta st = stepBy (lowerDs x beta) halved rules x beta st
+unfoldable pub lowerStep : RuleSet → Float → Float → State → Stepped
+lowerStep set x beta st = stepBy (lowerDs x beta) halved set x beta st
 
 -- branch 4
-unfoldable pub upperStep : Rules → Float → Float → Float → State → Stepped
-upperStep rules b-max x beta st = stepBy (upperDs b-max x beta) halved rules x beta st
+unfoldable pub upperStep : RuleSet → Float → Float → Float → State → Stepped
+upperStep set b-max x beta st = stepBy (upperDs b-max x beta) halved set x beta st
 
 -- branches 2, 3 and 5
-unfoldable pub generalStep : Rules → Float → Float → State → Stepped
-generalStep rules x beta st = stepBy (generalDs x beta) plain rules x beta st
+unfoldable pub generalStep : RuleSet → Float → Float → State → Stepped
+generalStep set x beta st = stepBy (generalDs x beta) plain set x beta st
 
 -- ---- what a state leads to
 

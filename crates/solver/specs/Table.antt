@@ -7,7 +7,7 @@ use lib.IntN.{pos}
 use lib.ListN.{replicate}
 use lib.Ieee.{Float, inf, neg}
 use Rattle.elementary.specs.Ops.{bits, float, +0, quarter, one, two, four, MAX, MIN}
-use Rattle.elementary.specs.Rules.{rules-0}
+use Rattle.elementary.specs.RuleSets.{rule-set-0}
 use Rattle.elementary.specs.Cody.{erfcOf, erfcxOf}
 use Rattle.prices.specs.declared.inputs.OptionType.{OptionType}
 use Rattle.prices.specs.declared.inputs.OptionType.the-variants.{Call, Put}
@@ -15,7 +15,6 @@ use Rattle.prices.specs.Answers.{numberOf, valueOf}
 use Rattle.prices.specs.Black.{asymptoticOf}
 use Rattle.prices.specs.RationalCubic.{interpolationOf}
 use Rattle.solver.specs.declared.state.Solution.{Solution}
-use Rattle.solver.specs.RuleSets.{rule-set-0}
 use Rattle.solver.specs.Answers.{numberIn, volatilityIn, branchIn, endingIn, stepsIn}
 use Rattle.solver.specs.Solve.{solveOf, solveWithTrail}
 use Rattle.solver.specs.Book.{filedBytes}
@@ -55,7 +54,7 @@ pub record Table : Type 0 where
   -- Put −0.0/100/100/1: +0
   pub P6 : Gives (solved (neg +0) (float 100) (float 100) one Put) +0
   -- erfc(0) = 1
-  pub P7 : erfcOf rules-0 +0 ≡ one
+  pub P7 : erfcOf rule-set-0 +0 ≡ one
   -- erfcx(−27) = f64::MAX
   pub P8 : erfcxOf (neg (float 27)) ≡ MAX
   -- the cubic with x = x_l = x_r = 1, y 2 and 4, at any slopes and any r: 3

@@ -15,7 +15,7 @@ ghost use mathlib.Core.Path.{_≡_};
 ghost use mathlib.Core.List.{_++_};
 ghost use Prim.Native.Nat.{_+_, _*_, _≤_};
 ghost use lib.ListN.{length, drop};
-ghost use Rattle.solver.specs.RuleSets.{rule-set-0};
+ghost use Rattle.elementary.specs.RuleSets.{rule-set-0};
 ghost use Rattle.solver.specs.Solve.{solveOf, stepsOf};
 ghost use Rattle.solver.specs.Trail.{part};
 ghost use Rattle.solver.specs.Book.{kindByte, limitBits, filedBytes, stepsFrom, kindFrom, allZero, inLayout, isHeld, resolved as resolvedOf, agrees as agreesOf, checked as checkedOf, readOf, recheckOf, filed, fileOf};

@@ -23,7 +23,7 @@ use prices::rational_cubic::rational_cubic_interpolation;
 ghost use mathlib.Core.Path.{_≡_};
 ghost use mathlib.Core.Bool.{cond};
 ghost use Rattle.elementary.specs.Ops.{_⊗_, +0};
-ghost use Rattle.elementary.specs.Rules.{rules-0};
+ghost use Rattle.elementary.specs.RuleSets.{rule-set-0};
 ghost use Rattle.solver.specs.Inside.Branch.{branchStep};
 ghost use Rattle.solver.specs.Inside.Market.{Shared, Begins};
 ghost use Rattle.solver.specs.Guess as Guess;
@@ -57,7 +57,7 @@ fn is_below_horizon(x: f64) -> bool
 // ---- the maps
 
 fn inverse_f_lower_map(x: f64, f: f64) -> f64
-    ensures { λ r. ⌜ r ≡ inverseFLowerMap rules-0 x f ⌝ }
+    ensures { λ r. ⌜ r ≡ inverseFLowerMap rule-set-0 x f ⌝ }
 {
     if is_below_horizon(f) {
         0.0
@@ -71,7 +71,7 @@ fn inverse_f_lower_map(x: f64, f: f64) -> f64
 }
 
 fn compute_f_upper_map_and_first_two_derivatives(x: f64, s: f64) -> Mapped
-    ensures { λ r. ⌜ r ≡ upperMap rules-0 x s ⌝ }
+    ensures { λ r. ⌜ r ≡ upperMap rule-set-0 x s ⌝ }
 {
     let f = standard_normal_cdf(-0.5 * s);
     if is_below_horizon(x) {
@@ -102,7 +102,7 @@ fn lower_map_f(x: f64, ax: f64, phi3: f64) -> f64
 }
 
 fn compute_f_lower_map_and_first_two_derivatives(x: f64, s: f64) -> Mapped
-    ensures { λ r. ⌜ r ≡ lowerMap rules-0 x s ⌝ }
+    ensures { λ r. ⌜ r ≡ lowerMap rule-set-0 x s ⌝ }
 {
     let ax = abs(x);
     let z = SQRT_ONE_OVER_THREE * ax / s;
@@ -131,7 +131,7 @@ fn compute_f_lower_map_and_first_two_derivatives(x: f64, s: f64) -> Mapped
 // ---- the first s of each branch
 
 fn lower_guess(x: f64, beta: f64, b_l: f64, s_l: f64) -> Answer
-    ensures { λ r. ⌜ r ≡ lowerGuess rules-0 x beta «b_l» «s_l» ⌝ }
+    ensures { λ r. ⌜ r ≡ lowerGuess rule-set-0 x beta «b_l» «s_l» ⌝ }
 {
     let m = compute_f_lower_map_and_first_two_derivatives(x, s_l);
     let f_l = m.f;
@@ -209,7 +209,7 @@ fn upper_f(beta: f64, b_max: f64, b_h: f64, m: Mapped) -> Answer
 }
 
 fn upper_guess(x: f64, beta: f64, b_max: f64, b_h: f64, s_h: f64) -> Answer
-    ensures { λ r. ⌜ r ≡ upperGuess rules-0 x beta «b_max» «b_h» «s_h» ⌝ }
+    ensures { λ r. ⌜ r ≡ upperGuess rule-set-0 x beta «b_max» «b_h» «s_h» ⌝ }
 {
     let m = compute_f_upper_map_and_first_two_derivatives(x, s_h);
     match upper_f(beta, b_max, b_h, m) {
@@ -245,7 +245,7 @@ fn start_at(left: f64, right: f64, s: f64) -> State
 // A loop from its guess; a refusal passes up.
 fn looping(branch: u8, m: Market, left: f64, right: f64, guess: Answer) -> Start
     requires { ⌜ Shared m ⌝ }
-    ensures { λ r. ⌜ Begins rules-0 r (withValue guess (λ s. Guess.looping branch (m .beta) (branchStep rules-0 branch (m .«b_max») (m .x) (m .beta)) (startAt left right s))) ⌝ }
+    ensures { λ r. ⌜ Begins rule-set-0 r (withValue guess (λ s. Guess.looping branch (m .beta) (branchStep rule-set-0 branch (m .«b_max») (m .x) (m .beta)) (startAt left right s))) ⌝ }
 {
     match guess {
         Answer::Value(s) => Start::Looping(branch, m, start_at(left, right, s)),
@@ -256,7 +256,7 @@ fn looping(branch: u8, m: Market, left: f64, right: f64, guess: Answer) -> Start
 // Below b_c: branches 1 and 2.
 fn lower_start(m: Market, s_c: f64, b_c: f64, v_c: f64) -> Start
     requires { ⌜ Shared m ⌝ }
-    ensures { λ r. ⌜ Begins rules-0 r (lowerBegun rules-0 (m .x) (m .beta) «s_c» «b_c» «v_c») ⌝ }
+    ensures { λ r. ⌜ Begins rule-set-0 r (lowerBegun rule-set-0 (m .x) (m .beta) «s_c» «b_c» «v_c») ⌝ }
 {
     let s_l = s_c - b_c / v_c;
     let p = priced(m, s_l);
@@ -275,7 +275,7 @@ fn lower_start(m: Market, s_c: f64, b_c: f64, v_c: f64) -> Start
 // Above b_h: branches 4 and 5.
 fn tail_start(m: Market, b_h: f64, s_h: f64) -> Start
     requires { ⌜ Shared m ⌝ }
-    ensures { λ r. ⌜ Begins rules-0 r (tailBegun rules-0 (m .x) (m .beta) (m .«b_max») «b_h» «s_h») ⌝ }
+    ensures { λ r. ⌜ Begins rule-set-0 r (tailBegun rule-set-0 (m .x) (m .beta) (m .«b_max») «b_h» «s_h») ⌝ }
 {
     let guess = upper_guess(m.x, m.beta, m.b_max, b_h, s_h);
     if m.beta > 0.5 * m.b_max {
@@ -297,7 +297,7 @@ fn upper_place(b_max: f64, s_c: f64, b_c: f64, v_c: f64) -> f64
 // From b_c on: branches 3, 4 and 5.
 fn upper_start(m: Market, s_c: f64, b_c: f64, v_c: f64) -> Start
     requires { ⌜ Shared m ⌝ }
-    ensures { λ r. ⌜ Begins rules-0 r (upperBegun rules-0 (m .x) (m .beta) (m .«b_max») «s_c» «b_c» «v_c») ⌝ }
+    ensures { λ r. ⌜ Begins rule-set-0 r (upperBegun rule-set-0 (m .x) (m .beta) (m .«b_max») «s_c» «b_c» «v_c») ⌝ }
 {
     let s_h = upper_place(m.b_max, s_c, b_c, v_c);
     let p = priced(m, s_h);
@@ -315,7 +315,7 @@ fn upper_start(m: Market, s_c: f64, b_c: f64, v_c: f64) -> Start
 // From the price at √(2 |x|) on.
 fn guessed_start(m: Market) -> Start
     requires { ⌜ Shared m ⌝ }
-    ensures { λ r. ⌜ Begins rules-0 r (guessedBegun rules-0 (m .x) (m .beta) (m .«b_max»)) ⌝ }
+    ensures { λ r. ⌜ Begins rule-set-0 r (guessedBegun rule-set-0 (m .x) (m .beta) (m .«b_max»)) ⌝ }
 {
     let s_c = sqrt(2.0 * abs(m.x));
     let p = priced(m, s_c);
@@ -330,7 +330,7 @@ fn guessed_start(m: Market) -> Start
 
 // From the target and x after all mapping.
 fn mapped_start(x: f64, beta: f64) -> Start
-    ensures { λ r. ⌜ Begins rules-0 r (mappedBegun rules-0 x beta) ⌝ }
+    ensures { λ r. ⌜ Begins rule-set-0 r (mappedBegun rule-set-0 x beta) ⌝ }
 {
     if beta <= 0.0 {
         return Start::Answered(0.0);
@@ -353,7 +353,7 @@ fn mapped_start(x: f64, beta: f64) -> Start
 
 // The Rust's unchecked_normalised_implied_volatility_.., up to its loops.
 pub(crate) fn normalised_start(beta: f64, x: f64, option_type: OptionType) -> Start
-    ensures { λ r. ⌜ Begins rules-0 r (normalisedBegun rules-0 beta x «option_type») ⌝ }
+    ensures { λ r. ⌜ Begins rule-set-0 r (normalisedBegun rule-set-0 beta x «option_type») ⌝ }
 {
     let mapped_x = option_type.times(x);
     if mapped_x > 0.0 {

@@ -6,7 +6,7 @@ ghost use mathlib.Core.Path.{_≡_};
 ghost use mathlib.Core.List.{[], _∷_};
 ghost use Prim.Native.Nat.{_+_, _≤_};
 ghost use lib.ListN.{length};
-ghost use Rattle.solver.specs.RuleSets.{rule-set-0};
+ghost use Rattle.elementary.specs.RuleSets.{rule-set-0};
 ghost use Rattle.solver.specs.Trail.{laid};
 ghost use Rattle.solver.specs.Listing.{decimalBy, hexDigit, hexBy, spaced, answerBytes, answerAt, lineOf, lineIn};
 

@@ -2,7 +2,7 @@
 use prices::point::PriceAndVega;
 use prices::point::price_and_vega;
 ghost use mathlib.Core.Path.{_≡_};
-ghost use Rattle.elementary.specs.Rules.{rules-0};
+ghost use Rattle.elementary.specs.RuleSets.{rule-set-0};
 ghost use Rattle.prices.specs.Vega.{vegaOf};
 ghost use Rattle.prices.specs.Black.{callOf};
 ghost use Rattle.prices.specs.Inside.Point.{priceAndVega};
@@ -19,7 +19,7 @@ pub struct Market {
 // The price and the vega at s.
 pub(crate) fn priced(m: Market, s: f64) -> PriceAndVega
     requires { ⌜ Shared m ⌝ }
-    ensures { λ r. ⌜ r ≡ priceAndVega (callOf rules-0 (m .x) s) (vegaOf (m .x) s) ⌝ }
+    ensures { λ r. ⌜ r ≡ priceAndVega (callOf rule-set-0 (m .x) s) (vegaOf (m .x) s) ⌝ }
 {
     price_and_vega(m.x, s, m.b_max, m.down)
 }

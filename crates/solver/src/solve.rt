@@ -20,14 +20,13 @@ ghost use mathlib.Core.Path.{_≡_};
 ghost use mathlib.Core.Bool.{true};
 ghost use Prim.Native.Nat.{_*_, _≤_};
 ghost use lib.ListN.{length};
-ghost use Rattle.elementary.specs.Rules.{rules-0};
-ghost use Rattle.solver.specs.RuleSets.{rule-set-0, rustCap};
+ghost use Rattle.elementary.specs.RuleSets.{rule-set-0};
 ghost use Rattle.solver.specs.Loop.{run as runOf};
 ghost use Rattle.solver.specs.Step.{nextBy};
 ghost use Rattle.solver.specs.Inside.Branch.{branchStep};
 ghost use Rattle.solver.specs.Inside.Market.{Shared, SharedIn, begunFrom, Begins};
 ghost use Rattle.solver.specs.Inside.Trail.{keptAfter};
-ghost use Rattle.solver.specs.Solve.{overExpiry, acceptedBegun, inputNumber, ran, solvingWith, solveOf, solveWithTrail, stepsOf};
+ghost use Rattle.solver.specs.Solve.{capOf, overExpiry, acceptedBegun, inputNumber, ran, solvingWith, solveOf, solveWithTrail, stepsOf};
 ghost use Rattle.solver.specs.Trail.{trailAfter};
 
 const IMPLIED_VOLATILITY_MAXIMUM_ITERATIONS: u32 = 2;
@@ -59,7 +58,7 @@ pub(crate) fn input_number(price: f64, forward: f64, strike: f64, expiry: f64) -
 
 // The price from which on no volatility is looked for.
 fn max_price(option_type: OptionType, forward: f64, strike: f64) -> f64
-    ensures { λ r. ⌜ r ≡ rustCap «option_type» forward strike ⌝ }
+    ensures { λ r. ⌜ r ≡ capOf rule-set-0 «option_type» forward strike ⌝ }
 {
     match option_type {
         OptionType::Call => strike,
@@ -70,7 +69,7 @@ fn max_price(option_type: OptionType, forward: f64, strike: f64) -> f64
 // A volatility over one unit of time, as one over the expiry.
 fn over_expiry(expiry: f64, start: Start) -> Start
     requires { ⌜ SharedIn start ⌝ }
-    ensures { λ r. ⌜ Begins rules-0 r (overExpiry expiry (begunFrom rules-0 start)) ⌝ }
+    ensures { λ r. ⌜ Begins rule-set-0 r (overExpiry expiry (begunFrom rule-set-0 start)) ⌝ }
 {
     match start {
         Start::Answered(v) => Start::Answered(v / sqrt(expiry)),
@@ -86,7 +85,7 @@ fn accepted_start(
     expiry: f64,
     option_type: OptionType,
 ) -> Start
-    ensures { λ r. ⌜ Begins rules-0 r (acceptedBegun rule-set-0 price forward strike expiry «option_type») ⌝ }
+    ensures { λ r. ⌜ Begins rule-set-0 r (acceptedBegun rule-set-0 price forward strike expiry «option_type») ⌝ }
 {
     let intrinsic = max(option_type.times(forward - strike), 0.0);
     if price < intrinsic {
@@ -120,8 +119,8 @@ fn run(
     keep: bool,
 ) -> Solution
     requires { ⌜ Shared m ⌝ ∗ ⌜ (keep ≡ true → 48 * limit ≤ length (now trail)) ⌝ }
-    ensures { λ r. ⌜ r ≡ ran branch root (runOf (nextBy (branchStep rules-0 branch (m .«b_max») (m .x) (m .beta))) limit start) .answer ⌝ }
-    ensures { λ _. ⌜ now (trail .exit) ≡ keptAfter keep (runOf (nextBy (branchStep rules-0 branch (m .«b_max») (m .x) (m .beta))) limit start .records) (now (trail .entry)) ⌝ }
+    ensures { λ r. ⌜ r ≡ ran branch root (runOf (nextBy (branchStep rule-set-0 branch (m .«b_max») (m .x) (m .beta))) limit start) .answer ⌝ }
+    ensures { λ _. ⌜ now (trail .exit) ≡ keptAfter keep (runOf (nextBy (branchStep rule-set-0 branch (m .«b_max») (m .x) (m .beta))) limit start .records) (now (trail .entry)) ⌝ }
 {
     let mut st = start;
     let mut steps: u32 = 0;

@@ -11,7 +11,7 @@ use elementary::methods::abs;
 use elementary::methods::max;
 use elementary::methods::powi_2;
 ghost use mathlib.Core.Path.{_≡_};
-ghost use Rattle.elementary.specs.Rules.{rules-0};
+ghost use Rattle.elementary.specs.RuleSets.{rule-set-0};
 ghost use Rattle.solver.specs.Inside.Market.{Shared};
 ghost use Rattle.solver.specs.Step.{householderFactor, endsAfter, toMiddle, halleyOf, hh3Of, lowerDs, upperDs, generalDs, isClose};
 ghost use Rattle.solver.specs.Inside.Branch.{branchDs, branchAfter, branchStep};
@@ -146,7 +146,7 @@ fn branch_after(branch: u8, s: f64, ds: f64) -> f64
 // One Householder step of the branch's loop.
 pub(crate) fn step(branch: u8, m: Market, st: State) -> Stepped
     requires { ⌜ Shared m ⌝ }
-    ensures { λ r. ⌜ r ≡ branchStep rules-0 branch (m .«b_max») (m .x) (m .beta) st ⌝ }
+    ensures { λ r. ⌜ r ≡ branchStep rule-set-0 branch (m .«b_max») (m .x) (m .beta) st ⌝ }
 {
     let s = st.s;
     let p = priced(m, s);

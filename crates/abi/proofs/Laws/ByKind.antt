@@ -11,7 +11,7 @@ use Rattle.solver.specs.declared.state.Solution.{Solution}
 use Rattle.solver.specs.declared.state.Solution.the-variants.{Refused}
 use Rattle.solver.specs.declared.state.Filing.{Filing}
 use Rattle.solver.specs.declared.state.Filing.the-variants.{Refused as NotFiled}
-use Rattle.solver.specs.RuleSets.{rule-set-0}
+use Rattle.elementary.specs.RuleSets.{rule-set-0}
 use Rattle.solver.specs.Solve.{Solving, solveWithTrail, stepsOf}
 use Rattle.solver.specs.Trail.{trailAfter}
 use Rattle.solver.specs.Book.{FiledBook, fileOf}

@@ -22,7 +22,7 @@ use Rattle.elementary.specs.Ops.{_⊕_, _⊖_, _⊗_, _⊘_, float, +0, 
 use Rattle.elementary.specs.Floor.{floorOf}
 use Rattle.elementary.specs.Exp.{LARGEST, LEAST, LOG2-E, expSum, scaled, expK, expR, expInner, expOf}
 use Rattle.elementary.specs.Cody.{THRESHOLD, FRAC-1-SQRT-PI, XBIG, erfcxAboveThreshold, erfcAbs, erfcOf, A, B, C, D, P, Q, dIntOf, tildeOf, smoothenedExponentialOfNegativeSquare, abOf, cdOf, pqOf}
-use Rattle.elementary.specs.Rules.{Rules}
+use Rattle.elementary.specs.declared.rule_set.RuleSet.{RuleSet}
 use Rattle.elementary.specs.Methods.{absOf}
 use Rattle.elementary.specs.NormalDistribution.{FRAC-1-SQRT-2, cdfOf, lowest, highest}
 use Rattle.elementary.proofs.Laws.Compare.{equal-itself}
@@ -445,12 +445,12 @@ either : {x y : Float} {b : ℕ} (t : Bool) → AtMost x b → AtMost y b → At
 either true h k = h
 either false h k = k
 
-outside-at-most : (rules : Rules) {y : Float} → T (fits binary64 y) → Side y false 39 → AtMost (erfcAbs rules y) (2 ^ 481)
+outside-at-most : (set : RuleSet) {y : Float} → T (fits binary64 y) → Side y false 39 → AtMost (erfcAbs set y) (2 ^ 481)
 unfolding erfcAbs
-outside-at-most rules {y} f h =
+outside-at-most set {y} f h =
     let factor = factor-at-most f h in
     let far = mul-at-most {a = 1} (2 ^ 481) (pow-exact 481 (lit< tt)) (lit≤ tt) (unsigned zero-side) factor in
-    either (le XBIG y) (either (rules .far-factor) far (unsigned (wider (2 ^ 481) (lit≤ tt) zero-side)))
+    either (le XBIG y) (either (set .«far_factor») far (unsigned (wider (2 ^ 481) (lit≤ tt) zero-side)))
     (mul-at-most (2 ^ 481) (pow-exact 481 (lit< tt)) (lit≤ tt) (above-threshold h) factor)
 
 abs-side : {x : Float} {b : ℕ} → AtMost x b → Side (absOf x) false b
@@ -463,15 +463,15 @@ threshold-value : HasValue THRESHOLD false 15 32
 unfolding ofBits
 threshold-value = (refl, refl)
 
-pub erfc-at-most : (rules : Rules) {x : Float} → T (fits binary64 x) → AtMost x 39 → AtMost (erfcOf rules x) (2 ^ 482)
+pub erfc-at-most : (set : RuleSet) {x : Float} → T (fits binary64 x) → AtMost x 39 → AtMost (erfcOf set x) (2 ^ 482)
 unfolding erfcOf
-erfc-at-most rules {x} f h = go (le (absOf x) THRESHOLD) refl
+erfc-at-most set {x} f h = go (le (absOf x) THRESHOLD) refl
   where
     y : Side (absOf x) false 39
     y = abs-side h
 
-    outside : AtMost (erfcAbs rules (absOf x)) (2 ^ 481)
-    outside = outside-at-most rules (abs-fits x f) y
+    outside : AtMost (erfcAbs set (absOf x)) (2 ^ 481)
+    outside = outside-at-most set (abs-fits x f) y
 
     centre : le (absOf x) THRESHOLD ≡ true → AtMost (one ⊖ x ⊗ abOf (absOf x ⊗ absOf x)) (2 ^ 482)
     centre t =
@@ -480,7 +480,7 @@ erfc-at-most rules {x} f h = go (le (absOf x) THRESHOLD) refl
         sub-at-most (2 ^ 482) (pow-exact 482 (lit< tt)) (lit≤ tt) (unsigned one-side) (mul-at-most (2 ^ 23) (pow-exact 23 (lit< tt)) (lit≤ tt) h (unsigned (ab-side z)))
 
     go : (t : Bool) → le (absOf x) THRESHOLD ≡ t
-        → AtMost (cond t (one ⊖ x ⊗ abOf (absOf x ⊗ absOf x)) (cond (lt x +0) (two ⊖ erfcAbs rules (absOf x)) (erfcAbs rules (absOf x)))) (2 ^ 482)
+        → AtMost (cond t (one ⊖ x ⊗ abOf (absOf x ⊗ absOf x)) (cond (lt x +0) (two ⊖ erfcAbs set (absOf x)) (erfcAbs set (absOf x)))) (2 ^ 482)
     go true t = centre t
     go false t =
         either (lt x +0) (sub-at-most (2 ^ 482) (pow-exact 482 (lit< tt)) (lit≤ tt) (unsigned two-side) outside)
@@ -490,11 +490,11 @@ frac-2-side : Side FRAC-1-SQRT-2 false 1
 unfolding ofBits
 frac-2-side = record { sized = (refl, lit≤ tt) }
 
-pub cdf-at-most : (rules : Rules) {y : Float} → AtMost y 39 → AtMost (cdfOf rules y) (2 ^ 482)
+pub cdf-at-most : (set : RuleSet) {y : Float} → AtMost y 39 → AtMost (cdfOf set y) (2 ^ 482)
 unfolding cdfOf
-cdf-at-most rules {y} h =
+cdf-at-most set {y} h =
     mul-at-most (2 ^ 482) (pow-exact 482 (lit< tt)) (lit≤ tt) (unsigned half-side)
-    (erfc-at-most rules (mul-fits binary64 (neg y) FRAC-1-SQRT-2) (mul-at-most 39 (small-exact 39 (lit≤ tt)) (lit≤ tt) (unsigned (neg-side (h .side))) (unsigned frac-2-side)))
+    (erfc-at-most set (mul-fits binary64 (neg y) FRAC-1-SQRT-2) (mul-at-most 39 (small-exact 39 (lit≤ tt)) (lit≤ tt) (unsigned (neg-side (h .side))) (unsigned frac-2-side)))
 
 -- from −39 to 39
 range-39 : (y : Float) → T (le lowest y) → T (le y highest) → AtMost y 39
@@ -509,5 +509,5 @@ range-39 (fin false m e) a b =
     let l = le→fractions false false (m * up e) 39 (down e) 1 (down-pos e) (lit< tt) (fin false m e) highest (refl, refl) (refl, refl) b in
     unsigned {s = false} (record { sized = (refl, omega arith) })
 
-pub cdf-finite : (rules : Rules) (y : Float) → T (le lowest y) → T (le y highest) → T (finite (cdfOf rules y))
-cdf-finite rules y a b = side-finite (cdf-at-most rules (range-39 y a b) .side)
+pub cdf-finite : (set : RuleSet) (y : Float) → T (le lowest y) → T (le y highest) → T (finite (cdfOf set y))
+cdf-finite set y a b = side-finite (cdf-at-most set (range-39 y a b) .side)

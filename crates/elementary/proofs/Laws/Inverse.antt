@@ -7,7 +7,7 @@ use lib.Dec.{T, lit≤}
 use lib.Ieee.{Float, nan, inf, fin, mul, div, sub, neg, eq, lt, le, ne, ofBits, ofInt, toSigned}
 use lib.Ieee.Scale.{finite}
 use Rattle.elementary.specs.Ops.{+0, one}
-use Rattle.elementary.specs.Rules.{Rules}
+use Rattle.elementary.specs.declared.rule_set.RuleSet.{RuleSet}
 use Rattle.elementary.specs.Methods.{absOf}
 use Rattle.elementary.specs.Floor.{floorOf}
 use Rattle.elementary.specs.Exp.{expOf, expInner, expSum, scaled}
@@ -47,19 +47,19 @@ around cdf (suc n) p lo hi h = around cdf n p _ _ (go (lt (cdf (midOf lo hi)) p)
     go false t = record { under = h .under; over = t; lo-range = h .lo-range; hi-range = mid-range (h .lo-range) (h .hi-range) }
 
 -- ---- at the two first ends
-at-lowest : (rules : Rules) → cdfOf rules lowest ≡ +0
+at-lowest : (set : RuleSet) → cdfOf set lowest ≡ +0
 unfolding cdfOf erfcOf absOf erfcAbs smoothenedExponentialOfNegativeSquare tildeOf expOf expInner expSum scaled floorOf mul sub div neg ofBits ofInt toSigned lt le ne
-at-lowest rules = go (rules .far-factor)
+at-lowest set = go (set .«far_factor»)
   where
-    go : (b : Bool) → cdfOf (record { far-factor = b }) lowest ≡ +0
+    go : (b : Bool) → cdfOf (record { «textbook_cap» = set .«textbook_cap»; «far_factor» = b }) lowest ≡ +0
     go true = refl
     go false = refl
 
-at-highest : (rules : Rules) → cdfOf rules highest ≡ one
+at-highest : (set : RuleSet) → cdfOf set highest ≡ one
 unfolding cdfOf erfcOf absOf erfcAbs smoothenedExponentialOfNegativeSquare tildeOf expOf expInner expSum scaled floorOf mul sub div neg ofBits ofInt toSigned lt le ne
-at-highest rules = go (rules .far-factor)
+at-highest set = go (set .«far_factor»)
   where
-    go : (b : Bool) → cdfOf (record { far-factor = b }) highest ≡ one
+    go : (b : Bool) → cdfOf (record { «textbook_cap» = set .«textbook_cap»; «far_factor» = b }) highest ≡ one
     go true = refl
     go false = refl
 
@@ -83,26 +83,26 @@ positive (fin s m e) n h = go (lt +0 (fin s m e)) refl
     go true t = t
     go false t = absurd (true≢false (sym (le-of-not-lt +0 (fin s m e) tt tt t) ∙ h))
 
-pub lowest-under : (rules : Rules) (p : Float) → ne p p ≡ false → le p +0 ≡ false → lt (cdfOf rules lowest) p ≡ true
-lowest-under rules p n h = rw (at-lowest rules) (positive p n h)
+pub lowest-under : (set : RuleSet) (p : Float) → ne p p ≡ false → le p +0 ≡ false → lt (cdfOf set lowest) p ≡ true
+lowest-under set p n h = rw (at-lowest set) (positive p n h)
 
-pub highest-over : (rules : Rules) (p : Float) → le one p ≡ false → lt (cdfOf rules highest) p ≡ false
-highest-over rules p h = rw (at-highest rules) (not-lt-of-not-le one p h)
+pub highest-over : (set : RuleSet) (p : Float) → le one p ≡ false → lt (cdfOf set highest) p ≡ false
+highest-over set p h = rw (at-highest set) (not-lt-of-not-le one p h)
 
 -- ---- the theorem
-inverse-is-hi : (rules : Rules) (p : Float) → lt +0 p ≡ true → lt p one ≡ true → inverseOf rules p ≡ endsOf rules p .hi
+inverse-is-hi : (set : RuleSet) (p : Float) → lt +0 p ≡ true → lt p one ≡ true → inverseOf set p ≡ endsOf set p .hi
 unfolding inverseOf
-inverse-is-hi rules p above-0 below-1 = rw (equal-itself p (between-finite p above-0 below-1), not-le-of-lt +0 p above-0, not-le-of-lt p one below-1)
+inverse-is-hi set p above-0 below-1 = rw (equal-itself p (between-finite p above-0 below-1), not-le-of-lt +0 p above-0, not-le-of-lt p one below-1)
 
-pub inverse-brackets : (rules : Rules) (p : Float) → lt +0 p ≡ true → lt p one ≡ true → Brackets rules p (endsOf rules p .lo) (endsOf rules p .hi)
+pub inverse-brackets : (set : RuleSet) (p : Float) → lt +0 p ≡ true → lt p one ≡ true → Brackets set p (endsOf set p .lo) (endsOf set p .hi)
 unfolding endsOf
-inverse-brackets rules p above-0 below-1 =
-    let begun : Around (cdfOf rules) p lowest highest =
-    record { under = rw (at-lowest rules) above-0; over = rw (at-highest rules) (lt-asym p one below-1); lo-range = lowest-range; hi-range = highest-range } in
-    let h = around (cdfOf rules) 64 p lowest highest begun in
-    let hi = bisected (cdfOf rules) 64 p lowest highest .hi in
+inverse-brackets set p above-0 below-1 =
+    let begun : Around (cdfOf set) p lowest highest =
+    record { under = rw (at-lowest set) above-0; over = rw (at-highest set) (lt-asym p one below-1); lo-range = lowest-range; hi-range = highest-range } in
+    let h = around (cdfOf set) 64 p lowest highest begun in
+    let hi = bisected (cdfOf set) 64 p lowest highest .hi in
     record {
       under = h .under;
-      over = le-of-not-lt (cdfOf rules hi) p (side-finite (cdf-at-most rules (h .hi-range) .side)) (between-finite p above-0 below-1) (h .over);
-      inverse = inverse-is-hi rules p above-0 below-1;
+      over = le-of-not-lt (cdfOf set hi) p (side-finite (cdf-at-most set (h .hi-range) .side)) (between-finite p above-0 below-1) (h .over);
+      inverse = inverse-is-hi set p above-0 below-1;
     }

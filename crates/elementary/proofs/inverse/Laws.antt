@@ -6,7 +6,7 @@ use Prim.Native.Nat.{ℕ, zero, suc, _+_, _-_, _≤_, _<_}
 use native.Mathlib.Omega.{arith}
 use lib.ListN.{getD}
 use lib.Ieee.{Float, nan, lt}
-use Rattle.elementary.specs.Rules.{rules-0}
+use Rattle.elementary.specs.declared.rule_set.RuleSet.{RuleSet}
 use Rattle.elementary.specs.Inside.Each.{Each}
 use Rattle.elementary.specs.NormalDistribution.{cdfOf, midOf, bisected, endsOf}
 use Rattle.elementary.specs.Inside.Turns.{After}
@@ -31,33 +31,33 @@ unfolding bisected
 stays-high cdf zero p lo hi o e = refl
 stays-high cdf (suc n) p lo hi o e = ap (λ z. z .hi) (turn-down cdf n p lo hi (rw e o)) ∙ rw e (stays-high cdf n p lo hi o e)
 
-pub ends-low : (p lo hi : Float) (i : ℕ) → After p lo hi i → midOf lo hi ≡ lo → hi ≡ endsOf rules-0 p .hi
-ends-low p lo hi i h e = sym (ap (λ z. z .hi) (h .rest) ∙ stays-low (cdfOf rules-0) (64 - i) p lo hi (h .under) e)
+pub ends-low : {set : RuleSet} (p lo hi : Float) (i : ℕ) → After set p lo hi i → midOf lo hi ≡ lo → hi ≡ endsOf set p .hi
+ends-low {set} p lo hi i h e = sym (ap (λ z. z .hi) (h .rest) ∙ stays-low (cdfOf set) (64 - i) p lo hi (h .under) e)
 
-pub ends-high : (p lo hi : Float) (i : ℕ) → After p lo hi i → midOf lo hi ≡ hi → hi ≡ endsOf rules-0 p .hi
-ends-high p lo hi i h e = sym (ap (λ z. z .hi) (h .rest) ∙ stays-high (cdfOf rules-0) (64 - i) p lo hi (h .over) e)
+pub ends-high : {set : RuleSet} (p lo hi : Float) (i : ℕ) → After set p lo hi i → midOf lo hi ≡ hi → hi ≡ endsOf set p .hi
+ends-high {set} p lo hi i h e = sym (ap (λ z. z .hi) (h .rest) ∙ stays-high (cdfOf set) (64 - i) p lo hi (h .over) e)
 
 -- ---- after i turns
 one-less : (i : ℕ) → i < 64 → 64 - i ≡ suc (64 - (i + 1))
 one-less i l = omega arith
 
-pub went-up : (p lo hi : Float) (i : ℕ) → After p lo hi i → i < 64 → lt (cdfOf rules-0 (midOf lo hi)) p ≡ true → After p (midOf lo hi) hi (i + 1)
-went-up p lo hi i h l t = record { bound = omega arith; under = t; over = h .over; rest = h .rest ∙ rw (one-less i l) (turn-up (cdfOf rules-0) (64 - (i + 1)) p lo hi t) }
+pub went-up : {set : RuleSet} (p lo hi : Float) (i : ℕ) → After set p lo hi i → i < 64 → lt (cdfOf set (midOf lo hi)) p ≡ true → After set p (midOf lo hi) hi (i + 1)
+went-up {set} p lo hi i h l t = record { bound = omega arith; under = t; over = h .over; rest = h .rest ∙ rw (one-less i l) (turn-up (cdfOf set) (64 - (i + 1)) p lo hi t) }
 
-pub went-down : (p lo hi : Float) (i : ℕ) → After p lo hi i → i < 64 → lt (cdfOf rules-0 (midOf lo hi)) p ≡ false → After p lo (midOf lo hi) (i + 1)
-went-down p lo hi i h l t = record { bound = omega arith; under = h .under; over = t; rest = h .rest ∙ rw (one-less i l) (turn-down (cdfOf rules-0) (64 - (i + 1)) p lo hi t) }
+pub went-down : {set : RuleSet} (p lo hi : Float) (i : ℕ) → After set p lo hi i → i < 64 → lt (cdfOf set (midOf lo hi)) p ≡ false → After set p lo (midOf lo hi) (i + 1)
+went-down {set} p lo hi i h l t = record { bound = omega arith; under = h .under; over = t; rest = h .rest ∙ rw (one-less i l) (turn-down (cdfOf set) (64 - (i + 1)) p lo hi t) }
 
-pub done : (p lo hi : Float) (i : ℕ) → After p lo hi i → 64 ≤ i → hi ≡ endsOf rules-0 p .hi
+pub done : {set : RuleSet} (p lo hi : Float) (i : ℕ) → After set p lo hi i → 64 ≤ i → hi ≡ endsOf set p .hi
 unfolding bisected
-done p lo hi i h l = let z : 64 - i ≡ 0 = omega arith in sym (ap (λ e. e .hi) (rw z at (h .rest)))
+done {set} p lo hi i h l = let z : 64 - i ≡ 0 = omega arith in sym (ap (λ e. e .hi) (rw z at (h .rest)))
 
 -- ---- what a test on a computed value says of the definition
-pub judged : (v x p : Float) (b : Bool) → v ≡ cdfOf rules-0 x → lt v p ≡ b → lt (cdfOf rules-0 x) p ≡ b
-judged v x p b e t = rw (← e) t
+pub judged : (set : RuleSet) (v x p : Float) (b : Bool) → v ≡ cdfOf set x → lt v p ≡ b → lt (cdfOf set x) p ≡ b
+judged set v x p b e t = rw (← e) t
 
-pub moved : {p lo lo' hi hi' : Float} {i : ℕ} → lo ≡ lo' → hi ≡ hi' → After p lo' hi' i → After p lo hi i
+pub moved : {set : RuleSet} {p lo lo' hi hi' : Float} {i : ℕ} → lo ≡ lo' → hi ≡ hi' → After set p lo' hi' i → After set p lo hi i
 moved a b h = rw (a, b) h
 
 -- a value at a point is the cdf's at every float that is the point
-pub at-point : (x f : List Float) (k : ℕ) (mid : Float) → Each (cdfOf rules-0) x f → k < 8 → mid ≡ getD x k nan → getD f k nan ≡ cdfOf rules-0 mid
-at-point x f k mid h l e = h k l ∙ ap (cdfOf rules-0) (sym e)
+pub at-point : (set : RuleSet) (x f : List Float) (k : ℕ) (mid : Float) → Each (cdfOf set) x f → k < 8 → mid ≡ getD x k nan → getD f k nan ≡ cdfOf set mid
+at-point set x f k mid h l e = h k l ∙ ap (cdfOf set) (sym e)

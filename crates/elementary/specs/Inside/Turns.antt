@@ -3,12 +3,12 @@ use mathlib.Core.Path.{_≡_}
 use mathlib.Core.Bool.{true, false}
 use Prim.Native.Nat.{ℕ, _-_, _≤_}
 use lib.Ieee.{Float, lt}
-use Rattle.elementary.specs.Rules.{rules-0}
+use Rattle.elementary.specs.declared.rule_set.RuleSet.{RuleSet}
 use Rattle.elementary.specs.NormalDistribution.{cdfOf, bisected, endsOf}
 
 -- the ends stand on both sides of p, and the turns that are left lead to the result
-pub record After (p lo hi : Float) (i : ℕ) : Type 0 where
+pub record After (set : RuleSet) (p lo hi : Float) (i : ℕ) : Type 0 where
   pub bound : i ≤ 64
-  pub under : lt (cdfOf rules-0 lo) p ≡ true
-  pub over : lt (cdfOf rules-0 hi) p ≡ false
-  pub rest : endsOf rules-0 p ≡ bisected (cdfOf rules-0) (64 - i) p lo hi
+  pub under : lt (cdfOf set lo) p ≡ true
+  pub over : lt (cdfOf set hi) p ≡ false
+  pub rest : endsOf set p ≡ bisected (cdfOf set) (64 - i) p lo hi

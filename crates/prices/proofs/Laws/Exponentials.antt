@@ -5,7 +5,7 @@ use Prim.Native.Nat.{ℕ}
 use native.Mathlib.Omega.{arith}
 use lib.Ieee.{Float, lt, le}
 use Rattle.elementary.specs.Ops.{_⊗_, +0}
-use Rattle.elementary.specs.Rules.{Rules}
+use Rattle.elementary.specs.declared.rule_set.RuleSet.{RuleSet}
 use Rattle.elementary.specs.Methods.{absOf}
 use Rattle.prices.specs.declared.answer.Answer.{Answer}
 use Rattle.prices.specs.declared.answer.Answer.the-variants.{Value, Refused}
@@ -16,30 +16,30 @@ use Rattle.prices.specs.Inside.Point.{priceAndVega}
 use Rattle.prices.proofs.Laws.Refusals.{CallAnswer, price, outside-the-region, either, region-answer, call-answer, seven-not-0}
 
 -- at exp(x / 2) and exp(−x / 2)
-module _ (rules : Rules) (x s : Float) where
-  pub codys-own : codysWith rules (upOf x) (downOf x) x s ≡ codysOf rules x s
+module _ (set : RuleSet) (x s : Float) where
+  pub codys-own : codysWith set (upOf x) (downOf x) x s ≡ codysOf set x s
   unfolding codysWith twoBWith codysOf
   codys-own = refl
 
-  region-own : regionWith rules (upOf x) (downOf x) x s ≡ regionOf rules x s
+  region-own : regionWith set (upOf x) (downOf x) x s ≡ regionOf set x s
   unfolding regionWith regionOf
   region-own = rw codys-own
 
-  out-own : outOfTheMoneyWith rules (upOf x) (downOf x) x s ≡ outOfTheMoney rules x s
+  out-own : outOfTheMoneyWith set (upOf x) (downOf x) x s ≡ outOfTheMoney set x s
   unfolding outOfTheMoneyWith outOfTheMoney
   out-own = rw region-own
 
-pub at-own-exponentials : (rules : Rules) (x s : Float) → callWith rules (upOf x) (downOf x) x s ≡ callOf rules x s
+pub at-own-exponentials : (set : RuleSet) (x s : Float) → callWith set (upOf x) (downOf x) x s ≡ callOf set x s
 unfolding callAt
-at-own-exponentials rules x s = go (lt +0 x) refl
+at-own-exponentials set x s = go (lt +0 x) refl
   where
-    go : (b : Bool) → lt +0 x ≡ b → cond b (callOf rules x s) (outOfTheMoneyWith rules (upOf x) (downOf x) x s) ≡ callOf rules x s
+    go : (b : Bool) → lt +0 x ≡ b → cond b (callOf set x s) (outOfTheMoneyWith set (upOf x) (downOf x) x s) ≡ callOf set x s
     go true e = refl
-    go false e = rw (e, out-own rules x s)
+    go false e = rw (e, out-own set x s)
 
-with-answer : (rules : Rules) (up down x s : Float) → CallAnswer (callWith rules up down x s)
+with-answer : (set : RuleSet) (up down x s : Float) → CallAnswer (callWith set up down x s)
 unfolding outOfTheMoneyWith regionWith
-with-answer rules up down x s = either (lt +0 x) (call-answer 1 rules x s) (either (le s (absOf x ⊗ +0)) price (region-answer x s (codysWith rules up down x s)))
+with-answer set up down x s = either (lt +0 x) (call-answer 1 set x s) (either (le s (absOf x ⊗ +0)) price (region-answer x s (codysWith set up down x s)))
 
 -- number 0 tells a price, and any other a refusal
 pub price-told : (a : Answer) → CallAnswer a → (v : Float) (p : PriceAndVega) → p ≡ priceAndVega a v → p .number ≡ 0 → a ≡ Value (p .price)
@@ -55,5 +55,5 @@ vega-told (Value b) v p e = rw e refl
 vega-told (Refused k) v p e = rw e refl
 
 -- so number 0 from price_and_vega tells the price, whatever exponentials it is given
-pub with-price-told : (rules : Rules) (up down x s v : Float) (p : PriceAndVega) → p ≡ priceAndVega (callWith rules up down x s) v → p .number ≡ 0 → callWith rules up down x s ≡ Value (p .price)
-with-price-told rules up down x s v p e n = price-told _ (with-answer rules up down x s) v p e n
+pub with-price-told : (set : RuleSet) (up down x s v : Float) (p : PriceAndVega) → p ≡ priceAndVega (callWith set up down x s) v → p .number ≡ 0 → callWith set up down x s ≡ Value (p .price)
+with-price-told set up down x s v p e n = price-told _ (with-answer set up down x s) v p e n

@@ -6,7 +6,7 @@ use Prim.Native.Nat.{ℕ, _*_}
 use lib.IntN.{ℤ, pos}
 use lib.Ieee.{Float, nan, inf, fin, binary64, up, down, mul, neg, lt, ofBits}
 use Rattle.elementary.specs.Ops.{_⊖_, _⊗_, +0, one}
-use Rattle.elementary.specs.Rules.{Rules}
+use Rattle.elementary.specs.declared.rule_set.RuleSet.{RuleSet}
 use Rattle.elementary.specs.Methods.{maxOf}
 use Rattle.elementary.proofs.Laws.Sign.{with-sign}
 use Rattle.prices.specs.declared.inputs.OptionType.{OptionType}
@@ -52,19 +52,19 @@ other-kind Put y = sym (neg-neg _) ∙ ap neg (sym (minus-one y))
 pub other-kind-out : (kind : OptionType) (y : Float) → lt +0 (times kind y) ≡ true → lt +0 (times (negated kind) y) ≡ false
 other-kind-out kind y h = rw (other-kind kind y) (not-above (times kind y) h)
 
-pub call-turns : (rules : Rules) (x s : Float) → callOf rules x s ≡ cond (lt +0 x) (added (intrinsicOf x Call) (callOf rules (neg x) s)) (outOfTheMoney rules x s)
+pub call-turns : (set : RuleSet) (x s : Float) → callOf set x s ≡ cond (lt +0 x) (added (intrinsicOf x Call) (callOf set (neg x) s)) (outOfTheMoney set x s)
 unfolding callAt
-call-turns rules x s = go (lt +0 x) refl
+call-turns set x s = go (lt +0 x) refl
   where
-    go : (b : Bool) → lt +0 x ≡ b → cond b (added (intrinsicOf x Call) (outOfTheMoney rules (neg x) s)) (outOfTheMoney rules x s) ≡ cond b (added (intrinsicOf x Call) (callOf rules (neg x) s)) (outOfTheMoney rules x s)
+    go : (b : Bool) → lt +0 x ≡ b → cond b (added (intrinsicOf x Call) (outOfTheMoney set (neg x) s)) (outOfTheMoney set x s) ≡ cond b (added (intrinsicOf x Call) (callOf set (neg x) s)) (outOfTheMoney set x s)
     go true h = rw (not-above x h) refl
     go false h = refl
 
-module _ (rules : Rules) (f k s e : Float) (kind : OptionType) where
-  pub in-turns : lt +0 (times kind (f ⊖ k)) ≡ true → blackAt 1 rules f k s e kind ≡ added (maxOf (times kind (f ⊖ k)) +0) (blackAt 1 rules f k s e (negated kind))
+module _ (set : RuleSet) (f k s e : Float) (kind : OptionType) where
+  pub in-turns : lt +0 (times kind (f ⊖ k)) ≡ true → blackAt 1 set f k s e kind ≡ added (maxOf (times kind (f ⊖ k)) +0) (blackAt 1 set f k s e (negated kind))
   unfolding blackAt
   in-turns h = rw (h, other-kind-out kind (f ⊖ k) h)
 
-  pub out-stays : lt +0 (times kind (f ⊖ k)) ≡ false → blackAt 1 rules f k s e kind ≡ priceOf rules f k s e kind
+  pub out-stays : lt +0 (times kind (f ⊖ k)) ≡ false → blackAt 1 set f k s e kind ≡ priceOf set f k s e kind
   unfolding blackAt
   out-stays h = rw h

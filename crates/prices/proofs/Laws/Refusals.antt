@@ -7,7 +7,7 @@ use Prim.Native.Nat.{ℕ, zero, suc}
 use native.Mathlib.Omega.{arith}
 use lib.Ieee.{Float, neg, lt, le}
 use Rattle.elementary.specs.Ops.{_⊖_, _⊗_, _⊘_, +0, half}
-use Rattle.elementary.specs.Rules.{Rules}
+use Rattle.elementary.specs.declared.rule_set.RuleSet.{RuleSet}
 use Rattle.elementary.specs.Methods.{absOf}
 use Rattle.elementary.proofs.Laws.Compare.{not-le-of-lt}
 use Rattle.prices.specs.declared.inputs.OptionType.{OptionType}
@@ -45,32 +45,32 @@ region-answer x s codys = either (isAsymptotic x s) (asymptotic-answer (x ⊘ s)
     go true l = small-t-answer (x ⊘ s) (half ⊗ s) l
     go false l = price
 
-out-answer : (rules : Rules) (x s : Float) → CallAnswer (outOfTheMoney rules x s)
+out-answer : (set : RuleSet) (x s : Float) → CallAnswer (outOfTheMoney set x s)
 unfolding outOfTheMoney regionOf
-out-answer rules x s = either (le s (absOf x ⊗ +0)) price (region-answer x s (codysOf rules x s))
+out-answer set x s = either (le s (absOf x ⊗ +0)) price (region-answer x s (codysOf set x s))
 
 added-answer : (v : Float) (a : Answer) → CallAnswer a → CallAnswer (added v a)
 added-answer v (Value b) h = price
 added-answer v (Refused n) h = h
 
-pub call-answer : (depth : ℕ) (rules : Rules) (x s : Float) → CallAnswer (callAt depth rules x s)
+pub call-answer : (depth : ℕ) (set : RuleSet) (x s : Float) → CallAnswer (callAt depth set x s)
 unfolding callAt
-call-answer zero rules x s = out-answer rules x s
-call-answer (suc d) rules x s = either (lt +0 x) (added-answer (intrinsicOf x Call) (callAt d rules (neg x) s) (call-answer d rules (neg x) s)) (out-answer rules x s)
+call-answer zero set x s = out-answer set x s
+call-answer (suc d) set x s = either (lt +0 x) (added-answer (intrinsicOf x Call) (callAt d set (neg x) s) (call-answer d set (neg x) s)) (out-answer set x s)
 
 scaled-answer : (v f : Float) (a : Answer) → CallAnswer a → CallAnswer (scaledUp v f a)
 scaled-answer v f (Value b) h = price
 scaled-answer v f (Refused n) h = h
 
-price-answer : (rules : Rules) (f k s e : Float) (kind : OptionType) → CallAnswer (priceOf rules f k s e kind)
+price-answer : (set : RuleSet) (f k s e : Float) (kind : OptionType) → CallAnswer (priceOf set f k s e kind)
 unfolding priceOf normalisedBlackOf
-price-answer rules f k s e kind = scaled-answer _ _ (callOf rules _ _) (call-answer 1 rules _ _)
+price-answer set f k s e kind = scaled-answer _ _ (callOf set _ _) (call-answer 1 set _ _)
 
-pub at-answer : (depth : ℕ) (rules : Rules) (f k s e : Float) (kind : OptionType) → CallAnswer (blackAt depth rules f k s e kind)
+pub at-answer : (depth : ℕ) (set : RuleSet) (f k s e : Float) (kind : OptionType) → CallAnswer (blackAt depth set f k s e kind)
 unfolding blackAt
-at-answer zero rules f k s e kind = price-answer rules f k s e kind
-at-answer (suc d) rules f k s e kind =
-    either (lt +0 (times kind (f ⊖ k))) (added-answer _ (blackAt d rules f k s e (negated kind)) (at-answer d rules f k s e (negated kind))) (price-answer rules f k s e kind)
+at-answer zero set f k s e kind = price-answer set f k s e kind
+at-answer (suc d) set f k s e kind =
+    either (lt +0 (times kind (f ⊖ k))) (added-answer _ (blackAt d set f k s e (negated kind)) (at-answer d set f k s e (negated kind))) (price-answer set f k s e kind)
 
 -- as numbers
 pub call-number : {a : Answer} → CallAnswer a → Is-0-or-7 (numberOf a)

@@ -3,7 +3,7 @@
 use mathlib.Core.Bool.{cond}
 use lib.Ieee.{Float, neg, lt, le}
 use Rattle.elementary.specs.Ops.{_⊕_, _⊖_, _⊗_, _⊘_, +0, half}
-use Rattle.elementary.specs.Rules.{Rules}
+use Rattle.elementary.specs.declared.rule_set.RuleSet.{RuleSet}
 use Rattle.elementary.specs.Methods.{absOf, maxOf}
 use Rattle.elementary.specs.Exp.{expOf}
 use Rattle.elementary.specs.Cody.{erfcOf, erfcxOf}
@@ -22,39 +22,39 @@ abbrev pub downOf : Float → Float
 downOf x = expOf (neg half ⊗ x)
 
 -- two_b of codysOf
-unfoldable pub twoBWith : Rules → Float → Float → Float → Float → Float → Float
-twoBWith rules up down exp-term q1 q2 =
-    let both-erfc = up ⊗ erfcOf rules q1 ⊖ down ⊗ erfcOf rules q2 in
-    let second-erfcx = up ⊗ erfcOf rules q1 ⊖ exp-term ⊗ erfcxOf q2 in
-    let first-erfcx = exp-term ⊗ erfcxOf q1 ⊖ down ⊗ erfcOf rules q2 in
+unfoldable pub twoBWith : RuleSet → Float → Float → Float → Float → Float → Float
+twoBWith set up down exp-term q1 q2 =
+    let both-erfc = up ⊗ erfcOf set q1 ⊖ down ⊗ erfcOf set q2 in
+    let second-erfcx = up ⊗ erfcOf set q1 ⊖ exp-term ⊗ erfcxOf q2 in
+    let first-erfcx = exp-term ⊗ erfcxOf q1 ⊖ down ⊗ erfcOf set q2 in
     let both-erfcx = exp-term ⊗ (erfcxOf q1 ⊖ erfcxOf q2) in
     cond (lt q1 CODYS-THRESHOLD) (cond (lt q2 CODYS-THRESHOLD) both-erfc second-erfcx) (cond (lt q2 CODYS-THRESHOLD) first-erfcx both-erfcx)
 
 -- codysOf
-unfoldable pub codysWith : Rules → Float → Float → Float → Float → Float
-codysWith rules up down x s =
+unfoldable pub codysWith : RuleSet → Float → Float → Float → Float → Float
+codysWith set up down x s =
     let h = x ⊘ s in
     let t = half ⊗ s in
-    maxOf (half ⊗ twoBWith rules up down (bell h t) (MINUS-FRAC ⊗ (h ⊕ t)) (MINUS-FRAC ⊗ (h ⊖ t))) +0
+    maxOf (half ⊗ twoBWith set up down (bell h t) (MINUS-FRAC ⊗ (h ⊕ t)) (MINUS-FRAC ⊗ (h ⊖ t))) +0
 
 -- regionOf
-unfoldable pub regionWith : Rules → Float → Float → Float → Float → Answer
-regionWith rules up down x s =
+unfoldable pub regionWith : RuleSet → Float → Float → Float → Float → Answer
+regionWith set up down x s =
     let asymptotic = asymptoticOf (x ⊘ s) (half ⊗ s) in
     let small-t = smallTOf (x ⊘ s) (half ⊗ s) in
-    let codys = Value (codysWith rules up down x s) in
+    let codys = Value (codysWith set up down x s) in
     cond (isAsymptotic x s) asymptotic (cond (lt (half ⊗ s) SMALL-T) small-t codys)
 
 -- outOfTheMoney
-unfoldable pub outOfTheMoneyWith : Rules → Float → Float → Float → Float → Answer
-outOfTheMoneyWith rules up down x s =
+unfoldable pub outOfTheMoneyWith : RuleSet → Float → Float → Float → Float → Answer
+outOfTheMoneyWith set up down x s =
     let intrinsic = Value (intrinsicOf x Call) in
-    let region = regionWith rules up down x s in
+    let region = regionWith set up down x s in
     cond (le s (absOf x ⊗ +0)) intrinsic region
 
 -- callOf; in the money the exponentials of x are not asked for
-abbrev pub callWith : Rules → Float → Float → Float → Float → Answer
-callWith rules up down x s =
-    let mapped = callOf rules x s in
-    let direct = outOfTheMoneyWith rules up down x s in
+abbrev pub callWith : RuleSet → Float → Float → Float → Float → Answer
+callWith set up down x s =
+    let mapped = callOf set x s in
+    let direct = outOfTheMoneyWith set up down x s in
     cond (lt +0 x) mapped direct

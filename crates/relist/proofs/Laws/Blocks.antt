@@ -5,7 +5,7 @@ use Prim.Native.Nat.{ℕ, zero, suc, _+_, _*_, _/_, _≤_}
 use native.Mathlib.Omega.{arith}
 use lib.ListN.{length, take, drop, length-append, length-drop}
 use lib.Seq.{take-append-le, drop-append-le}
-use Rattle.solver.specs.RuleSets.{rule-set-0}
+use Rattle.elementary.specs.RuleSets.{rule-set-0}
 use Rattle.solver.specs.Listing.{lineOf}
 use Rattle.relist.specs.Lines.{linesBy, linesOf}
 

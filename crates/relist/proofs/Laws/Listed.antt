@@ -7,7 +7,7 @@ use native.Mathlib.Nat.{zero-add, eq-zero-or-pos}
 use native.Mathlib.Omega.{arith}
 use lib.ListN.{length, take, drop, length-append, length-drop, drop-of-length-le}
 use lib.Seq.{take-all, drop-drop}
-use Rattle.solver.specs.RuleSets.{rule-set-0}
+use Rattle.elementary.specs.RuleSets.{rule-set-0}
 use Rattle.solver.specs.Trail.{laid}
 use Rattle.solver.specs.Listing.{lineOf}
 use Rattle.solver.proofs.Laws.Laid.{Put, put-both, put-none}

@@ -5,7 +5,7 @@ use mathlib.Core.Logic.{_⊎_, inl, inr}
 use Prim.Native.Nat.{ℕ}
 use native.Mathlib.Omega.{arith}
 use lib.Ieee.{Float, nan, inf, fin, lt}
-use Rattle.elementary.specs.Rules.{Rules}
+use Rattle.elementary.specs.declared.rule_set.RuleSet.{RuleSet}
 use Rattle.elementary.proofs.Laws.Compare.{lt-asym}
 use Rattle.prices.specs.declared.answer.Answer.{Answer}
 use Rattle.prices.specs.declared.answer.Answer.the-variants.{Value, Refused as Number}
@@ -36,7 +36,7 @@ pub record Moved (beta : Float) (st st′ : State) (r : Record) : Type 0 where
   pub left : st′ .left ≡ r .left
   pub right : st′ .right ≡ r .right
 
-module _ (dsOf : Float → Float → Float → Ends → Float) (afterOf : Float → Float → Float) (rules : Rules) (x beta : Float) where
+module _ (dsOf : Float → Float → Float → Ends → Float) (afterOf : Float → Float → Float) (set : RuleSet) (x beta : Float) where
   -- the record and the state of a completed step, and its s after
   pub record Completed (st st′ : State) (r : Record) : Type 0 where
     pub moved : Moved beta st st′ r
@@ -45,8 +45,8 @@ module _ (dsOf : Float → Float → Float → Ends → Float) (afterOf : Float 
     pub after : r .after ≡ afterOf (st .s) ds
     pub next-s : st′ .s ≡ r .after
 
-  pub completed : (st st′ : State) (r : Record) → nextBy (stepBy dsOf afterOf rules x beta) st ≡ goes r st′ → Completed st st′ r
-  completed st st′ r e = priced (callOf rules x (st .s)) (went (stepBy dsOf afterOf rules x beta) st st′ r e)
+  pub completed : (st st′ : State) (r : Record) → nextBy (stepBy dsOf afterOf set x beta) st ≡ goes r st′ → Completed st st′ r
+  completed st st′ r e = priced (callOf set x (st .s)) (went (stepBy dsOf afterOf set x beta) st st′ r e)
     where
       S : Float → State
       S b = stateAfter dsOf afterOf beta st b (vegaOf x (st .s))

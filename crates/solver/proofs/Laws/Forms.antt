@@ -9,25 +9,24 @@ use lib.Ieee.{Float, binary64, neg, lt, le, fits}
 use lib.Ieee.Fits.{mul-fits, div-fits, cond-fits}
 use lib.Ieee.Bits.{ofBits-fits}
 use Rattle.elementary.specs.Ops.{_⊖_, _⊗_, _⊘_, +0, half, two}
-use Rattle.elementary.specs.Rules.{Rules}
+use Rattle.elementary.specs.declared.rule_set.RuleSet.{RuleSet}
 use Rattle.elementary.proofs.Laws.Bits.{abs-fits}
 use Rattle.elementary.specs.NormalDistribution.{inverseOf, inverseFUpperMapOf}
 use Rattle.prices.specs.declared.inputs.OptionType.{OptionType}
 use Rattle.prices.specs.declared.answer.Answer.{Answer}
 use Rattle.solver.specs.declared.state.State.{State}
 use Rattle.solver.specs.declared.state.Stepped.{Stepped}
-use Rattle.solver.specs.RuleSets.{RuleSet}
 use Rattle.solver.specs.Step.{lowerStep, upperStep, generalStep}
 use Rattle.solver.specs.Guess.{isBelowHorizon, inverseFLowerMap, onValue, lowerGuess, middleGuess, upperMap, upperGuess, Begun, answered, stopped, looping, withValue, lowerBegun, tailBegun, upperBegun, mappedBegun, normalisedBegun}
 use Rattle.solver.specs.Solve.{overExpiry, acceptedBegun, inputNumber, begunOf}
 use Rattle.solver.proofs.Laws.Numbers.{Passes, value, cubic, region, call-passes, cubic-passes, upper-f-passes, Refusal, trail-number, cubic-number, region-number, input-number}
 
 pub data LoopForm : ℕ → Float → (State → Stepped) → State → Type 0 where
-  lower : (rules : Rules) (x : Float) {beta : Float} {st : State} → T (fits binary64 (st .s)) → LoopForm 1 beta (lowerStep rules x beta) st
-  upper : (rules : Rules) (b-max x : Float) {beta : Float} {st : State} → T (fits binary64 (st .s)) → LoopForm 4 beta (upperStep rules b-max x beta) st
-  lower-middle : (rules : Rules) (x : Float) {beta : Float} {st : State} → LoopForm 2 beta (generalStep rules x beta) st
-  upper-middle : (rules : Rules) (x : Float) {beta : Float} {st : State} → LoopForm 3 beta (generalStep rules x beta) st
-  upper-tail : (rules : Rules) (x : Float) {beta : Float} {st : State} → LoopForm 5 beta (generalStep rules x beta) st
+  lower : (set : RuleSet) (x : Float) {beta : Float} {st : State} → T (fits binary64 (st .s)) → LoopForm 1 beta (lowerStep set x beta) st
+  upper : (set : RuleSet) (b-max x : Float) {beta : Float} {st : State} → T (fits binary64 (st .s)) → LoopForm 4 beta (upperStep set b-max x beta) st
+  lower-middle : (set : RuleSet) (x : Float) {beta : Float} {st : State} → LoopForm 2 beta (generalStep set x beta) st
+  upper-middle : (set : RuleSet) (x : Float) {beta : Float} {st : State} → LoopForm 3 beta (generalStep set x beta) st
+  upper-tail : (set : RuleSet) (x : Float) {beta : Float} {st : State} → LoopForm 5 beta (generalStep set x beta) st
 
 -- what a run can begin with; `short` says whether its trail is too short
 pub data BeginForm (short : Bool) : Begun → Type 0 where
@@ -52,41 +51,41 @@ module _ {short : Bool} where
   on-value cubic g f h = ended cubic-number
   on-value region g f h = ended region-number
 
-lower-fits : (rules : Rules) (x f : Float) → T (fits binary64 (inverseFLowerMap rules x f))
+lower-fits : (set : RuleSet) (x f : Float) → T (fits binary64 (inverseFLowerMap set x f))
 unfolding inverseFLowerMap
-lower-fits rules x f = cond-fits binary64 (isBelowHorizon f) +0 _ (ofBits-fits binary64 0) (abs-fits _ (div-fits binary64 x _))
+lower-fits set x f = cond-fits binary64 (isBelowHorizon f) +0 _ (ofBits-fits binary64 0) (abs-fits _ (div-fits binary64 x _))
 
-upper-fits : (rules : Rules) (f : Float) → T (fits binary64 (inverseFUpperMapOf rules f))
+upper-fits : (set : RuleSet) (f : Float) → T (fits binary64 (inverseFUpperMapOf set f))
 unfolding inverseFUpperMapOf
-upper-fits rules f = mul-fits binary64 (neg two) (inverseOf rules f)
+upper-fits set f = mul-fits binary64 (neg two) (inverseOf set f)
 
 module _ {short : Bool} where
-  lower-form : (rules : Rules) (x beta s-c b-c v-c : Float) → BeginForm short (lowerBegun rules x beta s-c b-c v-c)
+  lower-form : (set : RuleSet) (x beta s-c b-c v-c : Float) → BeginForm short (lowerBegun set x beta s-c b-c v-c)
   unfolding lowerBegun lowerGuess middleGuess
-  lower-form rules x beta s-c b-c v-c =
-      with-value (call-passes rules x (s-c ⊖ b-c ⊘ v-c)) _ (λ b-l.
+  lower-form set x beta s-c b-c v-c =
+      with-value (call-passes set x (s-c ⊖ b-c ⊘ v-c)) _ (λ b-l.
       either (lt beta b-l)
-      (on-value (cubic-passes _ _ _ _ _ _ _ _) _ _ (λ f. loop (lower rules x (lower-fits rules x _))))
-      (with-value (cubic-passes _ _ _ _ _ _ _ _) _ (λ s. loop (lower-middle rules x))))
+      (on-value (cubic-passes _ _ _ _ _ _ _ _) _ _ (λ f. loop (lower set x (lower-fits set x _))))
+      (with-value (cubic-passes _ _ _ _ _ _ _ _) _ (λ s. loop (lower-middle set x))))
 
-  tail-form : (rules : Rules) (x beta b-max b-h s-h : Float) → BeginForm short (tailBegun rules x beta b-max b-h s-h)
+  tail-form : (set : RuleSet) (x beta b-max b-h s-h : Float) → BeginForm short (tailBegun set x beta b-max b-h s-h)
   unfolding tailBegun upperGuess
-  tail-form rules x beta b-max b-h s-h =
-      on-value (upper-f-passes beta b-max b-h (upperMap rules x s-h)) _ _ (λ f.
-      either (lt (half ⊗ b-max) beta) (loop (upper rules b-max x (upper-fits rules _))) (loop (upper-tail rules x)))
+  tail-form set x beta b-max b-h s-h =
+      on-value (upper-f-passes beta b-max b-h (upperMap set x s-h)) _ _ (λ f.
+      either (lt (half ⊗ b-max) beta) (loop (upper set b-max x (upper-fits set _))) (loop (upper-tail set x)))
 
-  upper-form : (rules : Rules) (x beta b-max s-c b-c v-c : Float) → BeginForm short (upperBegun rules x beta b-max s-c b-c v-c)
+  upper-form : (set : RuleSet) (x beta b-max s-c b-c v-c : Float) → BeginForm short (upperBegun set x beta b-max s-c b-c v-c)
   unfolding upperBegun middleGuess
-  upper-form rules x beta b-max s-c b-c v-c =
-      with-value (call-passes rules x _) _ (λ b-h.
-      either (le beta b-h) (with-value (cubic-passes _ _ _ _ _ _ _ _) _ (λ s. loop (upper-middle rules x))) (tail-form rules x beta b-max b-h _))
+  upper-form set x beta b-max s-c b-c v-c =
+      with-value (call-passes set x _) _ (λ b-h.
+      either (le beta b-h) (with-value (cubic-passes _ _ _ _ _ _ _ _) _ (λ s. loop (upper-middle set x))) (tail-form set x beta b-max b-h _))
 
-  mapped-form : (rules : Rules) (x beta : Float) → BeginForm short (mappedBegun rules x beta)
+  mapped-form : (set : RuleSet) (x beta : Float) → BeginForm short (mappedBegun set x beta)
   unfolding mappedBegun
-  mapped-form rules x beta =
+  mapped-form set x beta =
       either (le beta +0) known
       (either (lt beta +0) known
-      (either (le _ beta) known (with-value (call-passes rules x _) _ (λ b-c. either (lt beta b-c) (lower-form rules x beta _ b-c _) (upper-form rules x beta _ _ b-c _)))))
+      (either (le _ beta) known (with-value (call-passes set x _) _ (λ b-c. either (lt beta b-c) (lower-form set x beta _ b-c _) (upper-form set x beta _ _ b-c _)))))
 
   over-form : (expiry : Float) (b : Begun) → BeginForm short b → BeginForm short (overExpiry expiry b)
   over-form expiry (answered v) h = known
@@ -96,7 +95,7 @@ module _ {short : Bool} where
   accepted-form : (set : RuleSet) (price forward strike expiry : Float) (kind : OptionType) → BeginForm short (acceptedBegun set price forward strike expiry kind)
   unfolding acceptedBegun normalisedBegun
   accepted-form set price forward strike expiry kind =
-      either (lt price _) known (either (le _ price) known (either (lt +0 _) (over-form expiry _ (mapped-form (set .elementary) _ _)) (over-form expiry _ (mapped-form (set .elementary) _ _))))
+      either (lt price _) known (either (le _ price) known (either (lt +0 _) (over-form expiry _ (mapped-form set _ _)) (over-form expiry _ (mapped-form set _ _))))
 
   number-form : {b : Begun} (k : ℕ) → (k ≡ 0) ⊎ Refusal short k → BeginForm short b → BeginForm short (cond (eqb k 0) b (stopped k))
   number-form k (inl z) f = rw z f

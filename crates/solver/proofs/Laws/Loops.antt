@@ -10,7 +10,7 @@ use lib.Dec.{T}
 use lib.ListN.{length}
 use lib.Ieee.{Float, binary64, fits}
 use lib.Ieee.Fits.{add-fits}
-use Rattle.elementary.specs.Rules.{Rules}
+use Rattle.elementary.specs.declared.rule_set.RuleSet.{RuleSet}
 use Rattle.elementary.specs.Sqrt.{sqrtOf}
 use Rattle.solver.specs.declared.state.State.{State}
 use Rattle.solver.specs.declared.state.Record.{Record}
@@ -96,9 +96,9 @@ half-from : (r : Record) (s ds : Float) → r .s ≡ s → r .after ≡ halved s
 half-from r s ds a b f = rw (a, b) (leaves-half s ds f)
 
 -- a loop's run, from the formula of its ds and of its s after
-module _ (dsOf : Float → Float → Float → Ends → Float) (afterOf : Float → Float → Float) (rules : Rules) (x beta : Float) (root : Float) (n : ℕ) (st : State) where
+module _ (dsOf : Float → Float → Float → Ends → Float) (afterOf : Float → Float → Float) (set : RuleSet) (x beta : Float) (root : Float) (n : ℕ) (st : State) where
   abbrev step : State → Stepped
-  step = stepBy dsOf afterOf rules x beta
+  step = stepBy dsOf afterOf set x beta
 
   abbrev w : Run State Record
   w = run (nextBy step) n st
@@ -107,7 +107,7 @@ module _ (dsOf : Float → Float → Float → Ends → Float) (afterOf : Float 
   HalfSteps = (i : ℕ) (r : Record) → At (w .records) i r → LeavesHalf r
 
   move : (q q′ : State) (r : Record) → nextBy step q ≡ goes r q′ → Moved beta q q′ r
-  move q q′ r e = completed dsOf afterOf rules x beta q q′ r e .moved
+  move q q′ r e = completed dsOf afterOf set x beta q q′ r e .moved
 
   in-loop : (branch : ℕ) → (1 ≤ branch) × (branch ≤ 5) → ((branch ≡ 1) ⊎ (branch ≡ 4) → HalfSteps) → LoopRecords branch beta (st .left) (st .right) (w .records) × LoopAnswer n branch (ran branch root w .answer)
   in-loop branch range half = (
@@ -120,17 +120,17 @@ module _ (dsOf : Float → Float → Float → Ends → Float) (afterOf : Float 
       right-is = right-from step beta move n st;
       half-step = half;
     },
-    loop-answer branch range root n w (loop-ends dsOf afterOf rules x beta n st) (counts (nextBy step) (not-limited step) n st),
+    loop-answer branch range root n w (loop-ends dsOf afterOf set x beta n st) (counts (nextBy step) (not-limited step) n st),
   )
 
 -- a step whose s after is `halved`
-half-steps : (dsOf : Float → Float → Float → Ends → Float) (rules : Rules) (x beta root : Float) (n : ℕ) (st : State) → T (fits binary64 (st .s)) → HalfSteps dsOf halved rules x beta root n st
-half-steps dsOf rules x beta root n st f i r a =
-    every (nextBy (stepBy dsOf halved rules x beta)) (λ q. T (fits binary64 (q .s))) LeavesHalf
+half-steps : (dsOf : Float → Float → Float → Ends → Float) (set : RuleSet) (x beta root : Float) (n : ℕ) (st : State) → T (fits binary64 (st .s)) → HalfSteps dsOf halved set x beta root n st
+half-steps dsOf set x beta root n st f i r a =
+    every (nextBy (stepBy dsOf halved set x beta)) (λ q. T (fits binary64 (q .s))) LeavesHalf
     (λ q q′ p e g.
-    let h = completed dsOf halved rules x beta q q′ p e in
+    let h = completed dsOf halved set x beta q q′ p e in
     (rw (h .next-s, h .after) (add-fits binary64 (q .s) _), half-from p (q .s) (h .ds) (h .from-s) (h .after) g))
-    (trace (nextBy (stepBy dsOf halved rules x beta)) n st) f a
+    (trace (nextBy (stepBy dsOf halved set x beta)) n st) f a
 
 neither : {branch : ℕ} {A : Type 0} → (branch ≡ 1 → ⊥) → (branch ≡ 4 → ⊥) → (branch ≡ 1) ⊎ (branch ≡ 4) → A
 neither f g (inl e) = absurd (f e)
@@ -139,16 +139,16 @@ neither f g (inr e) = absurd (g e)
 loop-run : (branch : ℕ) (beta : Float) (step : State → Stepped) (st : State) → LoopForm branch beta step st → (root : Float) (n : ℕ)
     → LoopRecords branch beta (st .left) (st .right) (run (nextBy step) n st .records) × LoopAnswer n branch (ran branch root (run (nextBy step) n st) .answer)
 unfolding lowerStep upperStep generalStep
-loop-run branch beta step st (lower rules x f) root n =
-    in-loop (lowerDs x beta) halved rules x beta root n st 1 (omega arith, omega arith) (λ o. half-steps (lowerDs x beta) rules x beta root n st f)
-loop-run branch beta step st (upper rules b-max x f) root n =
-    in-loop (upperDs b-max x beta) halved rules x beta root n st 4 (omega arith, omega arith) (λ o. half-steps (upperDs b-max x beta) rules x beta root n st f)
-loop-run branch beta step st (lower-middle rules x) root n =
-    in-loop (generalDs x beta) plain rules x beta root n st 2 (omega arith, omega arith) (neither (λ e. omega arith) (λ e. omega arith))
-loop-run branch beta step st (upper-middle rules x) root n =
-    in-loop (generalDs x beta) plain rules x beta root n st 3 (omega arith, omega arith) (neither (λ e. omega arith) (λ e. omega arith))
-loop-run branch beta step st (upper-tail rules x) root n =
-    in-loop (generalDs x beta) plain rules x beta root n st 5 (omega arith, omega arith) (neither (λ e. omega arith) (λ e. omega arith))
+loop-run branch beta step st (lower set x f) root n =
+    in-loop (lowerDs x beta) halved set x beta root n st 1 (omega arith, omega arith) (λ o. half-steps (lowerDs x beta) set x beta root n st f)
+loop-run branch beta step st (upper set b-max x f) root n =
+    in-loop (upperDs b-max x beta) halved set x beta root n st 4 (omega arith, omega arith) (λ o. half-steps (upperDs b-max x beta) set x beta root n st f)
+loop-run branch beta step st (lower-middle set x) root n =
+    in-loop (generalDs x beta) plain set x beta root n st 2 (omega arith, omega arith) (neither (λ e. omega arith) (λ e. omega arith))
+loop-run branch beta step st (upper-middle set x) root n =
+    in-loop (generalDs x beta) plain set x beta root n st 3 (omega arith, omega arith) (neither (λ e. omega arith) (λ e. omega arith))
+loop-run branch beta step st (upper-tail set x) root n =
+    in-loop (generalDs x beta) plain set x beta root n st 5 (omega arith, omega arith) (neither (λ e. omega arith) (λ e. omega arith))
 
 pub one-run : {short : Bool} (b : Begun) → BeginForm short b → (expiry : Float) (n : ℕ) → OneRun n b (solvingOf b expiry n)
 unfolding solvingOf

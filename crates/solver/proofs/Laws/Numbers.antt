@@ -6,7 +6,7 @@ use Prim.Native.Nat.{ℕ}
 use lib.Ieee.{Float, neg, lt, le}
 use Rattle.elementary.specs.Ops.{_⊖_, EPSILON}
 use Rattle.elementary.specs.Methods.{absOf}
-use Rattle.elementary.specs.Rules.{Rules}
+use Rattle.elementary.specs.declared.rule_set.RuleSet.{RuleSet}
 use Rattle.prices.specs.declared.answer.Answer.{Answer}
 use Rattle.prices.specs.declared.answer.Answer.the-variants.{Value, Refused as Number}
 use Rattle.prices.specs.Black.{callOf, isPositiveNormal, isFinite}
@@ -26,8 +26,8 @@ use Rattle.prices.specs.Vega.{vegaOf}
 use Rattle.solver.proofs.Laws.Runs.{ends-as}
 
 -- what layer 2 says: a price is refused with no number but 7
-pub call-refusal : (rules : Rules) (x s : Float) (n : ℕ) → callOf rules x s ≡ Number n → n ≡ 7
-call-refusal rules x s n = go (call-answer 1 rules x s)
+pub call-refusal : (set : RuleSet) (x s : Float) (n : ℕ) → callOf set x s ≡ Number n → n ≡ 7
+call-refusal set x s n = go (call-answer 1 set x s)
   where
     go : {a : Answer} → CallAnswer a → a ≡ Number n → n ≡ 7
     go a-price e = cc
@@ -39,12 +39,12 @@ pub data Passes : Answer → Type 0 where
   cubic : Passes (Number 6)
   region : Passes (Number 7)
 
-pub call-passes : (rules : Rules) (x s : Float) → Passes (callOf rules x s)
-call-passes rules x s = go (callOf rules x s) refl
+pub call-passes : (set : RuleSet) (x s : Float) → Passes (callOf set x s)
+call-passes set x s = go (callOf set x s) refl
   where
-    go : (a : Answer) → callOf rules x s ≡ a → Passes a
+    go : (a : Answer) → callOf set x s ≡ a → Passes a
     go (Value v) e = value
-    go (Number n) e = rw (call-refusal rules x s n e) region
+    go (Number n) e = rw (call-refusal set x s n e) region
 
 either : (c : Bool) {a b : Answer} → Passes a → Passes b → Passes (cond c a b)
 either true h k = h
@@ -87,9 +87,9 @@ OnlySeven (tested st) = Unit
 OnlySeven (limited st) = Unit
 OnlySeven (refused n) = n ≡ 7
 
-module _ (dsOf : Float → Float → Float → Ends → Float) (afterOf : Float → Float → Float) (rules : Rules) (x beta : Float) where
-  step-refusal : (st : State) (n : ℕ) → stepBy dsOf afterOf rules x beta st ≡ Refused n → n ≡ 7
-  step-refusal st n = go (callOf rules x (st .s)) refl
+module _ (dsOf : Float → Float → Float → Ends → Float) (afterOf : Float → Float → Float) (set : RuleSet) (x beta : Float) where
+  step-refusal : (st : State) (n : ℕ) → stepBy dsOf afterOf set x beta st ≡ Refused n → n ≡ 7
+  step-refusal st n = go (callOf set x (st .s)) refl
     where
       S : Float → State
       S b = stateAfter dsOf afterOf beta st b (vegaOf x (st .s))
@@ -97,19 +97,19 @@ module _ (dsOf : Float → Float → Float → Ends → Float) (afterOf : Float 
       R : Float → Record
       R b = recordOf dsOf afterOf beta st b (vegaOf x (st .s))
 
-      go : (a : Answer) → callOf rules x (st .s) ≡ a → withPrice a (λ b. Went (S b) (R b)) ≡ Refused n → n ≡ 7
+      go : (a : Answer) → callOf set x (st .s) ≡ a → withPrice a (λ b. Went (S b) (R b)) ≡ Refused n → n ≡ 7
       go (Value b) q e = cc
-      go (Number k) q e = cc (call-refusal rules x (st .s) k q)
+      go (Number k) q e = cc (call-refusal set x (st .s) k q)
 
-  next-ends : (st : State) (e : Ending State) → nextBy (stepBy dsOf afterOf rules x beta) st ≡ ends e → OnlySeven e
+  next-ends : (st : State) (e : Ending State) → nextBy (stepBy dsOf afterOf set x beta) st ≡ ends e → OnlySeven e
   next-ends st (tested q) h = tt
   next-ends st (limited q) h = tt
-  next-ends st (refused n) h = step-refusal st n (go (isClose st) (stepBy dsOf afterOf rules x beta st) h)
+  next-ends st (refused n) h = step-refusal st n (go (isClose st) (stepBy dsOf afterOf set x beta st) h)
     where
       go : (c : Bool) (w : Stepped) → cond c (ends (tested st)) (turnOf w) ≡ ends (refused n) → w ≡ Refused n
       go true w e = cc
       go false (Went q r) e = cc
       go false (Refused k) e = cc
 
-  pub loop-ends : (n : ℕ) (st : State) → OnlySeven (run (nextBy (stepBy dsOf afterOf rules x beta)) n st .ending)
-  loop-ends n st = ends-as (nextBy (stepBy dsOf afterOf rules x beta)) OnlySeven (λ q. tt) next-ends n st
+  pub loop-ends : (n : ℕ) (st : State) → OnlySeven (run (nextBy (stepBy dsOf afterOf set x beta)) n st .ending)
+  loop-ends n st = ends-as (nextBy (stepBy dsOf afterOf set x beta)) OnlySeven (λ q. tt) next-ends n st

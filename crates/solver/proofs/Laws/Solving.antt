@@ -9,12 +9,11 @@ use native.Mathlib.Nat.{mul-comm}
 use borrow.Author.Tests.{ne-eqb, ltb-false}
 use lib.Dec.{ltb}
 use lib.Ieee.{Float}
-use Rattle.elementary.specs.Rules.{rules-0}
+use Rattle.elementary.specs.RuleSets.{rule-set-0}
 use Rattle.prices.specs.declared.inputs.OptionType.{OptionType}
 use Rattle.solver.specs.declared.state.Solution.{Solution}
 use Rattle.solver.specs.declared.state.Solution.the-variants.{Refused}
 use Rattle.solver.specs.declared.state.Start.{Start}
-use Rattle.solver.specs.RuleSets.{rule-set-0}
 use Rattle.solver.specs.Inside.Market.{begunFrom}
 use Rattle.solver.specs.Solve.{acceptedBegun, inputNumber, begunOf, Solving, solvingOf, solvingWith}
 use Rattle.solver.specs.Inside.Trail.{keptAfter}
@@ -33,7 +32,7 @@ module _ (keep : Bool) (bytes : ℕ) (price forward strike expiry : Float) (kind
     unfolding solvingWith solvingOf begunOf
     by-trail t = rw (← e, h, t)
 
-    pub by-start : (keep && ltb bytes (48 * n)) ≡ false → (s : Start) → begunFrom rules-0 s ≡ acceptedBegun rule-set-0 price forward strike expiry kind → (s′ : Start) → s ≡ s′ → w ≡ solvingOf (begunFrom rules-0 s′) expiry n
+    pub by-start : (keep && ltb bytes (48 * n)) ≡ false → (s : Start) → begunFrom rule-set-0 s ≡ acceptedBegun rule-set-0 price forward strike expiry kind → (s′ : Start) → s ≡ s′ → w ≡ solvingOf (begunFrom rule-set-0 s′) expiry n
     unfolding solvingWith begunOf
     by-start t s b s′ g = rw (← g, b, ← e, h, t)
 

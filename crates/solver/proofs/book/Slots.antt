@@ -10,7 +10,7 @@ use lib.Dec.{ltb, leb}
 use lib.ListN.{length, take, drop}
 use Rattle.solver.specs.declared.state.Checking.{Checking}
 use Rattle.solver.specs.declared.state.Checking.the-variants.{Refused}
-use Rattle.solver.specs.RuleSets.{RuleSet}
+use Rattle.elementary.specs.declared.rule_set.RuleSet.{RuleSet}
 use Rattle.solver.specs.Book.{slots, isHeld, recordAt, Read, readOf, recheckOf, resolved, checked}
 
 both : (a b : Bool) → (a && b) ≡ true → (a ≡ true) × (b ≡ true)

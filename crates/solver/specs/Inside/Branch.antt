@@ -3,7 +3,7 @@ use mathlib.Core.Bool.{cond}
 use Prim.Native.Nat.{ℕ}
 use lib.Dec.{eqb}
 use lib.Ieee.{Float}
-use Rattle.elementary.specs.Rules.{Rules}
+use Rattle.elementary.specs.declared.rule_set.RuleSet.{RuleSet}
 use Rattle.solver.specs.declared.state.State.{State}
 use Rattle.solver.specs.declared.state.Ends.{Ends}
 use Rattle.solver.specs.declared.state.Stepped.{Stepped}
@@ -22,5 +22,5 @@ abbrev pub branchAfter : ℕ → Float → Float → Float
 branchAfter branch s ds = cond (eqb branch 1) (halved s ds) (cond (eqb branch 4) (halved s ds) (plain s ds))
 
 -- the step
-abbrev pub branchStep : Rules → ℕ → Float → Float → Float → State → Stepped
-branchStep rules branch b-max x beta = stepBy (branchDs branch b-max x beta) (branchAfter branch) rules x beta
+abbrev pub branchStep : RuleSet → ℕ → Float → Float → Float → State → Stepped
+branchStep set branch b-max x beta = stepBy (branchDs branch b-max x beta) (branchAfter branch) set x beta

@@ -1,6 +1,6 @@
 -- The exponentials that the code hands along with x, and what it yields where a run begins. Definitions only.
 use mathlib.Core.Path.{_≡_}
-use Rattle.elementary.specs.Rules.{Rules}
+use Rattle.elementary.specs.declared.rule_set.RuleSet.{RuleSet}
 use Rattle.prices.specs.Inside.Exponentials.{upOf, downOf}
 use Rattle.solver.specs.declared.market.Market.{Market}
 use Rattle.solver.specs.declared.state.Start.{Start}
@@ -20,12 +20,12 @@ SharedIn (Stopped n) = Unit
 SharedIn (Looping branch m st) = Shared m
 
 -- what the code's three cases say; the branch tells the loop's step
-abbrev pub begunFrom : Rules → Start → Begun
-begunFrom rules (Answered v) = answered v
-begunFrom rules (Stopped n) = stopped n
-begunFrom rules (Looping branch m st) = looping branch (m .beta) (branchStep rules branch (m .«b_max») (m .x) (m .beta)) st
+abbrev pub begunFrom : RuleSet → Start → Begun
+begunFrom set (Answered v) = answered v
+begunFrom set (Stopped n) = stopped n
+begunFrom set (Looping branch m st) = looping branch (m .beta) (branchStep set branch (m .«b_max») (m .x) (m .beta)) st
 
 -- the code's start says what b says, and a loop's exponentials are those of its x
-pub record Begins (rules : Rules) (start : Start) (b : Begun) : Type 0 where
-  pub begun : begunFrom rules start ≡ b
+pub record Begins (set : RuleSet) (start : Start) (b : Begun) : Type 0 where
+  pub begun : begunFrom set start ≡ b
   pub shared : SharedIn start

@@ -8,7 +8,7 @@ use lib.ListN.{length}
 use lib.Ieee.{Float}
 use Rattle.prices.specs.declared.inputs.OptionType.{OptionType}
 use Rattle.solver.specs.declared.state.Solution.{Solution}
-use Rattle.solver.specs.RuleSets.{RuleSet}
+use Rattle.elementary.specs.declared.rule_set.RuleSet.{RuleSet}
 use Rattle.solver.specs.Answers.{numberIn, isSolved, stepsIn}
 use Rattle.solver.specs.Listing.{lineOf}
 use Rattle.solver.specs.Promises.Demand3.{Trail, LongEnough, runOf}

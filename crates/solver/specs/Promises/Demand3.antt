@@ -13,7 +13,7 @@ use Rattle.elementary.specs.Ops.{_⊘_, bits, two}
 use Rattle.prices.specs.declared.inputs.OptionType.{OptionType}
 use Rattle.solver.specs.declared.state.Record.{Record}
 use Rattle.solver.specs.declared.state.Solution.{Solution}
-use Rattle.solver.specs.RuleSets.{RuleSet}
+use Rattle.elementary.specs.declared.rule_set.RuleSet.{RuleSet}
 use Rattle.solver.specs.Guess.{Begun, answered, stopped, looping}
 use Rattle.solver.specs.Solve.{begunOf, Solving, solveOf, solveWithTrail, stepsOf}
 use Rattle.solver.specs.Answers.{numberIn, volatilityIn, branchIn, endingIn, stepsIn}

@@ -4,12 +4,15 @@ use borrow.Author.Needs.{needs}
 use Rattle.elementary.proofs.cody.erfc_abs.Statement.{statement}
 use Rattle.elementary.proofs.cody.erfc_abs.Tie as tie
 
+far-arm-requires : tie.Need-far-arm-requires
+far-arm-requires c κs = search needs
+
 erfcx-above-threshold-requires : tie.Need-erfcx-above-threshold-requires
 erfcx-above-threshold-requires c κs = search needs
 
 returns : tie.Need-returns
 unfolding erfcAbs
-returns c = rw (c .if1 .taken, c .before .pre)
+returns c = rw (c .before .if1 .taken, ← c .before .before .pre) (c .far-arm .ensures)
 
 returns-2 : tie.Need-returns-2
 unfolding erfcAbs
@@ -19,6 +22,7 @@ pub erfc-abs-spec : {M : Type 1} → statement M
 erfc-abs-spec =
     tie.close
     (tie.spec
+    far-arm-requires
     erfcx-above-threshold-requires
     returns
     returns-2)

@@ -19,11 +19,11 @@ array-read-known-2 c = search needs
 known-requires : tie.Need-known-requires
 known-requires c κs = c .cdfs .ensures 0 (omega arith)
 
-turned-requires : tie.Need-turned-requires
-turned-requires c κs = search needs
+bisection-step-requires : tie.Need-bisection-step-requires
+bisection-step-requires c κs = search needs
 
-walk-requires : tie.Need-walk-requires
-walk-requires c κs = search needs
+apply-guessed-steps-requires : tie.Need-apply-guessed-steps-requires
+apply-guessed-steps-requires c κs = search needs
 
 returns : tie.Need-returns
 returns c = search needs
@@ -37,6 +37,6 @@ batch-spec =
     array-read-known
     array-read-known-2
     known-requires
-    turned-requires
-    walk-requires
+    bisection-step-requires
+    apply-guessed-steps-requires
     returns)

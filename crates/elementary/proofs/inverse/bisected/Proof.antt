@@ -10,10 +10,10 @@ use Rattle.elementary.proofs.inverse.bisected.Statement.{statement}
 use Rattle.elementary.proofs.inverse.bisected.Tie as tie
 
 abbrev Inv-loop : tie.InvT-loop
-Inv-loop p guess a e at₀ at = After p (at .lo) (at .hi) (at .i)
+Inv-loop set p guess a e at₀ at = After set p (at .lo) (at .hi) (at .i)
 
 abbrev μ-loop : tie.MeasureT-loop
-μ-loop p guess a e at₀ at = 64 - at .i
+μ-loop set p guess a e at₀ at = 64 - at .i
 
 approximation-requires : tie.Need-approximation-requires Inv-loop μ-loop
 approximation-requires c κs = search needs

@@ -6,8 +6,8 @@ use Rattle.elementary.proofs.inverse.known.Tie as tie
 same-requires : tie.Need-same-requires
 same-requires c κs = search needs
 
-standard-normal-cdf-requires : tie.Need-standard-normal-cdf-requires
-standard-normal-cdf-requires c κs = search needs
+standard-normal-cdf-under-requires : tie.Need-standard-normal-cdf-under-requires
+standard-normal-cdf-under-requires c κs = search needs
 
 returns : tie.Need-returns
 returns c = rw (c .before .same .ensures (c .if1 .taken)) (c .before .before .pre)
@@ -16,4 +16,4 @@ returns-2 : tie.Need-returns-2
 returns-2 c = search needs
 
 pub known-spec : {M : Type 1} → statement M
-known-spec = tie.close (tie.spec same-requires standard-normal-cdf-requires returns returns-2)
+known-spec = tie.close (tie.spec same-requires standard-normal-cdf-under-requires returns returns-2)

@@ -5,28 +5,27 @@ use native.Mathlib.Omega.{arith}
 use Rattle.elementary.specs.Inside.Each.{Of}
 use Rattle.elementary.proofs.Laws.Eight.{Filled, begun, next, filled}
 use borrow.Author.Needs.{needs}
-use Rattle.elementary.specs.Rules.{rules-0}
 use Rattle.elementary.specs.NormalDistribution.{cdfOf}
 use Rattle.elementary.proofs.normal_distribution.inner_cdfs.Statement.{statement}
 use Rattle.elementary.proofs.normal_distribution.inner_cdfs.Tie as tie
 
 abbrev Inv-loop : tie.InvT-loop
-Inv-loop x r₀ j₀ r j = Filled (Of (cdfOf rules-0) x) r j
+Inv-loop set x r₀ j₀ r j = Filled (Of (cdfOf set) x) r j
 
 abbrev μ-loop : tie.MeasureT-loop
-μ-loop x r₀ j₀ r j = 8 - j
+μ-loop set x r₀ j₀ r j = 8 - j
 
 loop-holds : tie.Need-loop-holds Inv-loop μ-loop
 loop-holds c = begun _ _ refl
 
-mul-standard-normal-cdf : tie.Need-mul-standard-normal-cdf Inv-loop μ-loop
-mul-standard-normal-cdf c = search needs
+mul-standard-normal-cdf-under : tie.Need-mul-standard-normal-cdf-under Inv-loop μ-loop
+mul-standard-normal-cdf-under c = search needs
 
-array-read-standard-normal-cdf : tie.Need-array-read-standard-normal-cdf Inv-loop μ-loop
-array-read-standard-normal-cdf c = search needs
+array-read-standard-normal-cdf-under : tie.Need-array-read-standard-normal-cdf-under Inv-loop μ-loop
+array-read-standard-normal-cdf-under c = search needs
 
-standard-normal-cdf-requires : tie.Need-standard-normal-cdf-requires Inv-loop μ-loop
-standard-normal-cdf-requires c κs = search needs
+standard-normal-cdf-under-requires : tie.Need-standard-normal-cdf-under-requires Inv-loop μ-loop
+standard-normal-cdf-under-requires c κs = search needs
 
 mul-r : tie.Need-mul-r Inv-loop μ-loop
 mul-r c = search needs
@@ -41,7 +40,7 @@ loop-less : tie.Need-loop-less Inv-loop μ-loop
 loop-less c = omega arith
 
 loop-again : tie.Need-loop-again Inv-loop μ-loop
-loop-again c = next _ _ _ _ (c .before .loop-test .taken) (c .standard-normal-cdf .ensures) (c .before .before .loop .inv)
+loop-again c = next _ _ _ _ (c .before .loop-test .taken) (c .standard-normal-cdf-under .ensures) (c .before .before .loop .inv)
 
 returns : tie.Need-returns Inv-loop μ-loop
 returns c = filled (c .before .loop .inv) (c .loop-test .left)
@@ -53,9 +52,9 @@ inner-cdfs-spec =
     Inv-loop
     μ-loop
     loop-holds
-    mul-standard-normal-cdf
-    array-read-standard-normal-cdf
-    standard-normal-cdf-requires
+    mul-standard-normal-cdf-under
+    array-read-standard-normal-cdf-under
+    standard-normal-cdf-under-requires
     mul-r
     array-write-r
     add-j

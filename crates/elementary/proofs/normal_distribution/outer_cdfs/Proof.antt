@@ -6,22 +6,22 @@ use Rattle.elementary.proofs.Laws.Eight.{Filled, begun, next, filled}
 use borrow.Author.Needs.{needs}
 use lib.Ieee.{Float, neg}
 use Rattle.elementary.specs.Ops.{_⊗_, half}
-use Rattle.elementary.specs.Rules.{rules-0}
+use Rattle.elementary.specs.declared.rule_set.RuleSet.{RuleSet}
 use Rattle.elementary.specs.Inside.Each.{Of}
 use Rattle.elementary.specs.Cody.{erfcOf, smoothenedExponentialOfNegativeSquare}
 use Rattle.elementary.specs.NormalDistribution.{FRAC-1-SQRT-2, cdfOf}
 use Rattle.elementary.proofs.normal_distribution.outer_cdfs.Statement.{statement}
 use Rattle.elementary.proofs.normal_distribution.outer_cdfs.Tie as tie
 
-cdf-of : (x e : Float) → e ≡ erfcOf rules-0 (neg x ⊗ FRAC-1-SQRT-2) → half ⊗ e ≡ cdfOf rules-0 x
+cdf-of : (set : RuleSet) (x e : Float) → e ≡ erfcOf set (neg x ⊗ FRAC-1-SQRT-2) → half ⊗ e ≡ cdfOf set x
 unfolding cdfOf
-cdf-of x e h = rw h
+cdf-of set x e h = rw h
 
 abbrev Inv-loop : tie.InvT-loop
-Inv-loop a e x f r₀ j₀ r j = Filled (Of (cdfOf rules-0) x) r j
+Inv-loop set a e x f r₀ j₀ r j = Filled (Of (cdfOf set) x) r j
 
 abbrev μ-loop : tie.MeasureT-loop
-μ-loop a e x f r₀ j₀ r j = 8 - j
+μ-loop set a e x f r₀ j₀ r j = 8 - j
 
 sizes-requires : tie.Need-sizes-requires Inv-loop μ-loop
 sizes-requires c κs = search needs
@@ -61,7 +61,7 @@ loop-less : tie.Need-loop-less Inv-loop μ-loop
 loop-less c = omega arith
 
 loop-again : tie.Need-loop-again Inv-loop μ-loop
-loop-again c = next _ _ _ _ (c .before .loop-test .taken) (cdf-of _ _ (c .erfc-with .ensures)) (c .before .before .loop .inv)
+loop-again c = next _ _ _ _ (c .before .loop-test .taken) (cdf-of _ _ _ (c .erfc-with .ensures)) (c .before .before .loop .inv)
 
 returns : tie.Need-returns Inv-loop μ-loop
 returns c = filled (c .before .loop .inv) (c .loop-test .left)

@@ -6,7 +6,7 @@ use native.Mathlib.Omega.{arith}
 use lib.Ieee.{Float, lt}
 use Rattle.elementary.specs.Ops.{_⊖_, +0}
 use Rattle.elementary.specs.Methods.{maxOf}
-use Rattle.elementary.specs.Rules.{rules-0}
+use Rattle.elementary.specs.RuleSets.{rule-set-0}
 use Rattle.prices.specs.declared.inputs.OptionType.{OptionType}
 use Rattle.prices.specs.declared.answer.Answer.{Answer}
 use Rattle.prices.specs.Inputs.{negated, times}
@@ -27,10 +27,10 @@ use Rattle.prices.proofs.black.+black_at.Tie.{close}
 
 module _ (forward strike sigma expiry : Float) where
   abbrev at : ℕ → OptionType → Answer
-  at depth kind = blackAt depth rules-0 forward strike sigma expiry kind
+  at depth kind = blackAt depth rule-set-0 forward strike sigma expiry kind
 
   abbrev out-of-the-money : OptionType → Answer
-  out-of-the-money kind = priceOf rules-0 forward strike sigma expiry kind
+  out-of-the-money kind = priceOf rule-set-0 forward strike sigma expiry kind
 
   out : (depth : ℕ) (kind : OptionType) (r : Answer) → depth ≡ 0 → r ≡ out-of-the-money kind → r ≡ at depth kind
   unfolding blackAt

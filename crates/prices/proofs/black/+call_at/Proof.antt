@@ -5,7 +5,7 @@ use Prim.Native.Nat.{ℕ, zero, suc, _-_, _<_}
 use native.Mathlib.Omega.{arith}
 use lib.Ieee.{Float, neg, lt}
 use Rattle.elementary.specs.Ops.{+0}
-use Rattle.elementary.specs.Rules.{rules-0}
+use Rattle.elementary.specs.RuleSets.{rule-set-0}
 use Rattle.prices.specs.declared.inputs.OptionType.the-variants.{Call}
 use Rattle.prices.specs.declared.answer.Answer.{Answer}
 use Rattle.prices.specs.Intrinsic.{intrinsicOf}
@@ -23,18 +23,18 @@ use Rattle.prices.proofs.black.+call_at.{statement}
 use Rattle.prices.proofs.black.+call_at.Tie.{close}
 
 module _ (x s : Float) where
-  out : (depth : ℕ) (r : Answer) → depth ≡ 0 → r ≡ outOfTheMoney rules-0 x s → r ≡ callAt depth rules-0 x s
+  out : (depth : ℕ) (r : Answer) → depth ≡ 0 → r ≡ outOfTheMoney rule-set-0 x s → r ≡ callAt depth rule-set-0 x s
   unfolding callAt
   out zero r e h = h
   out (suc d) r e h = absurd (omega arith)
 
-  mapped : (depth : ℕ) (i : Float) (inner r : Answer) → (depth ≡ 0 → ⊥) → lt +0 x ≡ true → i ≡ intrinsicOf x Call → inner ≡ callAt (depth - 1) rules-0 (neg x) s
-      → r ≡ added i inner → r ≡ callAt depth rules-0 x s
+  mapped : (depth : ℕ) (i : Float) (inner r : Answer) → (depth ≡ 0 → ⊥) → lt +0 x ≡ true → i ≡ intrinsicOf x Call → inner ≡ callAt (depth - 1) rule-set-0 (neg x) s
+      → r ≡ added i inner → r ≡ callAt depth rule-set-0 x s
   unfolding callAt
   mapped zero i inner r n t a b h = absurd (n refl)
   mapped (suc d) i inner r n t a b h = let e : suc d - 1 ≡ d = omega arith in h ∙ rw (t, a, b, e)
 
-  direct : (depth : ℕ) (r : Answer) → (depth ≡ 0 → ⊥) → lt +0 x ≡ false → r ≡ outOfTheMoney rules-0 x s → r ≡ callAt depth rules-0 x s
+  direct : (depth : ℕ) (r : Answer) → (depth ≡ 0 → ⊥) → lt +0 x ≡ false → r ≡ outOfTheMoney rule-set-0 x s → r ≡ callAt depth rule-set-0 x s
   unfolding callAt
   direct zero r n t h = absurd (n refl)
   direct (suc d) r n t h = rw t h

@@ -8,7 +8,7 @@ use lib.Ieee.{Float}
 use Rattle.solver.specs.declared.state.Solution.{Solution}
 use Rattle.solver.specs.declared.state.Solution.the-variants.{Solved, Refused}
 use Rattle.solver.specs.declared.state.Checking.the-variants.{Agrees, Differs, Refused as NotChecked}
-use Rattle.solver.specs.RuleSets.{rule-set-0}
+use Rattle.elementary.specs.RuleSets.{rule-set-0}
 use Rattle.solver.specs.Book.{resolved, agrees, checked}
 use borrow.Author.Needs.{needs}
 use Rattle.solver.proofs.book.checked.Statement.{statement}

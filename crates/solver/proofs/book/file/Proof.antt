@@ -14,7 +14,7 @@ use Rattle.prices.specs.declared.inputs.OptionType.{OptionType}
 use Rattle.solver.specs.declared.state.Solution.{Solution}
 use Rattle.solver.specs.declared.state.Filing.{Filing}
 use Rattle.solver.specs.declared.state.Filing.the-variants.{Refused as NotFiled}
-use Rattle.solver.specs.RuleSets.{rule-set-0}
+use Rattle.elementary.specs.RuleSets.{rule-set-0}
 use Rattle.solver.specs.Solve.{inputNumber, solveOf, stepsOf}
 use Rattle.solver.specs.Book.{filed, fileOf}
 use borrow.Author.Needs.{needs}

@@ -5,7 +5,7 @@ use Prim.Native.Nat.{_+_, _*_, _≤_}
 use native.Mathlib.Omega.{arith}
 use denote.Ref.{now}
 use lib.ListN.{length}
-use Rattle.solver.specs.RuleSets.{rule-set-0}
+use Rattle.elementary.specs.RuleSets.{rule-set-0}
 use Rattle.solver.specs.Book.{isHeld}
 use Rattle.solver.proofs.book.Slots.{inside, recheck-held, recheck-none}
 use borrow.Author.Needs.{needs}

@@ -10,7 +10,7 @@ use lib.ListN.{getD}
 use Rattle.prices.specs.declared.inputs.OptionType.{OptionType}
 use Rattle.solver.specs.declared.state.Solution.{Solution}
 use Rattle.solver.specs.declared.state.Solution.the-variants.{Refused}
-use Rattle.solver.specs.RuleSets.{rule-set-0}
+use Rattle.elementary.specs.RuleSets.{rule-set-0}
 use Rattle.solver.specs.Solve.{solveOf}
 use Rattle.solver.specs.Trail.{numberAt, floatAt}
 use Rattle.solver.specs.Book.{kindFrom, stepsFrom, inLayout, resolved}

@@ -2,7 +2,7 @@
 use mathlib.Core.Path.{_≡_, refl}
 use mathlib.Core.Bool.{cond}
 use lib.Ieee.{lt}
-use Rattle.elementary.specs.Rules.{rules-0}
+use Rattle.elementary.specs.RuleSets.{rule-set-0}
 use Rattle.solver.specs.Guess.{withValue, lowerBegun, upperBegun, guessedBegun}
 use Rattle.solver.proofs.Laws.Priced.{price-is, refusal-is, vega-is}
 use borrow.Author.Needs.{needs}
@@ -23,8 +23,8 @@ guessed : (c : tie.Else1) →
     let p = c .before .before .priced .result in
     let s-c = c .before .before .before .sqrt .result in
     let m = c .before .before .before .before .before .args .m in
-    guessedBegun rules-0 (m .x) (m .beta) (m .«b_max»)
-    ≡ cond (lt (m .beta) (p .price)) (lowerBegun rules-0 (m .x) (m .beta) s-c (p .price) (p .vega)) (upperBegun rules-0 (m .x) (m .beta) (m .«b_max») s-c (p .price) (p .vega))
+    guessedBegun rule-set-0 (m .x) (m .beta) (m .«b_max»)
+    ≡ cond (lt (m .beta) (p .price)) (lowerBegun rule-set-0 (m .x) (m .beta) s-c (p .price) (p .vega)) (upperBegun rule-set-0 (m .x) (m .beta) (m .«b_max») s-c (p .price) (p .vega))
 unfolding withValue
 guessed c =
     let priced = c .before .before .priced .ensures in

@@ -1,5 +1,5 @@
 -- `market::priced` meets its contract: the exponentials are those of x. Assumes nothing.
-use Rattle.elementary.specs.Rules.{rules-0}
+use Rattle.elementary.specs.RuleSets.{rule-set-0}
 use Rattle.prices.proofs.Laws.Exponentials.{at-own-exponentials}
 use borrow.Author.Needs.{needs}
 use Rattle.solver.proofs.market.priced.Statement.{statement}
@@ -11,7 +11,7 @@ price-and-vega-requires c κs = search needs
 returns : tie.Need-returns
 returns c =
     let shared = c .before .pre in
-    rw (← at-own-exponentials rules-0 (c .before .args .m .x) (c .before .args .s), ← shared .up-is, ← shared .down-is) (c .price-and-vega .ensures)
+    rw (← at-own-exponentials rule-set-0 (c .before .args .m .x) (c .before .args .s), ← shared .up-is, ← shared .down-is) (c .price-and-vega .ensures)
 
 pub priced-spec : {M : Type 1} → statement M
 priced-spec = tie.close (tie.spec price-and-vega-requires returns)

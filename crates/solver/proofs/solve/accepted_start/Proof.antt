@@ -3,10 +3,9 @@ use mathlib.Core.Path.{_≡_, refl}
 use mathlib.Core.Bool.{cond}
 use lib.Ieee.{lt}
 use Rattle.elementary.specs.Ops.{_⊖_, _⊗_, _⊘_, +0}
-use Rattle.elementary.specs.Rules.{rules-0}
+use Rattle.elementary.specs.RuleSets.{rule-set-0}
 use Rattle.elementary.specs.Methods.{maxOf}
 use Rattle.prices.specs.Inputs.{negated}
-use Rattle.solver.specs.RuleSets.{rule-set-0}
 use Rattle.solver.specs.Guess.{normalisedBegun}
 use Rattle.solver.specs.Solve.{overExpiry, acceptedBegun}
 use borrow.Author.Needs.{needs}
@@ -63,7 +62,7 @@ guessed : (c : tie.After-times2) →
     let root = c .before .before .sqrt .result ⊗ c .before .sqrt2 .result in
     let mapped = maxOf (a .price ⊖ at-max .max .result) +0 ⊘ root in
     acceptedBegun rule-set-0 (a .price) (a .forward) (a .strike) (a .expiry) (a .option-type)
-    ≡ cond (lt +0 (c .times2 .result)) (overExpiry (a .expiry) (normalisedBegun rules-0 mapped x (negated (a .option-type)))) (overExpiry (a .expiry) (normalisedBegun rules-0 (a .price ⊘ root) x (a .option-type)))
+    ≡ cond (lt +0 (c .times2 .result)) (overExpiry (a .expiry) (normalisedBegun rule-set-0 mapped x (negated (a .option-type)))) (overExpiry (a .expiry) (normalisedBegun rule-set-0 (a .price ⊘ root) x (a .option-type)))
 unfolding acceptedBegun
 guessed c =
     let at-ln = c .before .before .before in

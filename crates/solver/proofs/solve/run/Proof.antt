@@ -8,7 +8,7 @@ use native.Mathlib.Omega.{arith}
 use borrow.Author.Needs.{needs}
 use Rattle.solver.proofs.Laws.Reached.{Reached, none-wrote, one-more, goes-on, stops, runs-out, next-goes, next-refused, next-tested, ended}
 use Rattle.solver.proofs.Laws.Parts.{part-laid}
-use Rattle.elementary.specs.Rules.{rules-0}
+use Rattle.elementary.specs.RuleSets.{rule-set-0}
 use Rattle.solver.specs.declared.state.State.{State}
 use Rattle.solver.specs.declared.state.Stepped.{Stepped}
 use Rattle.solver.specs.Loop.{tested, limited, refused, run}
@@ -19,7 +19,7 @@ use Rattle.solver.proofs.solve.run.Statement.{statement}
 use Rattle.solver.proofs.solve.run.Tie as tie
 
 abbrev Inv-loop : tie.InvT-loop
-Inv-loop branch m root limit trail₀ keep st₀ steps₀ trail st steps = Reached (nextBy (branchStep rules-0 branch (m .«b_max») (m .x) (m .beta))) limit keep st₀ trail₀ trail st steps
+Inv-loop branch m root limit trail₀ keep st₀ steps₀ trail st steps = Reached (nextBy (branchStep rule-set-0 branch (m .«b_max») (m .x) (m .beta))) limit keep st₀ trail₀ trail st steps
 
 abbrev μ-loop : tie.MeasureT-loop
 μ-loop branch m root limit trail₀ keep st₀ steps₀ trail st steps = limit - steps
@@ -75,7 +75,7 @@ loop-again c =
     let at = room .before in
     let a = at .before .before .args in
     let inv = at .loop .inv in
-    let step-of : State → Stepped = branchStep rules-0 (a .branch) (a .m .«b_max») (a .m .x) (a .m .beta) in
+    let step-of : State → Stepped = branchStep rule-set-0 (a .branch) (a .m .«b_max») (a .m .x) (a .m .beta) in
     let st′ = next .0 .0 in
     let r = next .0 .1 .0 in
     record {
@@ -104,7 +104,7 @@ returns c =
     let at = room .before in
     let a = at .before .before .args in
     let inv = at .loop .inv in
-    let step-of : State → Stepped = branchStep rules-0 (a .branch) (a .m .«b_max») (a .m .x) (a .m .beta) in
+    let step-of : State → Stepped = branchStep rule-set-0 (a .branch) (a .m .«b_max») (a .m .x) (a .m .beta) in
     let n = c .before .n .given in
     let next = nextBy step-of in
     let w = run next (a .limit) (a .start) in
@@ -119,7 +119,7 @@ returns-2 c =
     let at = c .before .before .before in
     let a = at .before .before .args in
     let inv = at .loop .inv in
-    let step-of : State → Stepped = branchStep rules-0 (a .branch) (a .m .«b_max») (a .m .x) (a .m .beta) in
+    let step-of : State → Stepped = branchStep rule-set-0 (a .branch) (a .m .«b_max») (a .m .x) (a .m .beta) in
     let next = nextBy step-of in
     let all = run next (a .limit) (a .start) in
     let st = at .loop .st in

@@ -1,18 +1,18 @@
--- `inverse::walk` meets its contract: each turn is one of `turned`'s. Assumes nothing.
+-- `inverse::apply_guessed_steps` meets its contract: each turn is one of `bisection_step`'s. Assumes nothing.
 use mathlib.Core.Path.{refl}
 use Prim.Native.Nat.{_-_, _≤_}
 use native.Mathlib.Omega.{arith}
 use borrow.Author.Needs.{needs}
 use Rattle.elementary.specs.Inside.Turns.{After}
 use Rattle.elementary.proofs.inverse.Laws.{at-point}
-use Rattle.elementary.proofs.inverse.walk.Statement.{statement}
-use Rattle.elementary.proofs.inverse.walk.Tie as tie
+use Rattle.elementary.proofs.inverse.apply_guessed_steps.Statement.{statement}
+use Rattle.elementary.proofs.inverse.apply_guessed_steps.Tie as tie
 
 abbrev Inv-loop : tie.InvT-loop
-Inv-loop p x f at₀ j₀ at j = (j ≤ 8) × (at₀ .i ≤ at .i) × After p (at .lo) (at .hi) (at .i)
+Inv-loop set p x f at₀ j₀ at j = (j ≤ 8) × (at₀ .i ≤ at .i) × After set p (at .lo) (at .hi) (at .i)
 
 abbrev μ-loop : tie.MeasureT-loop
-μ-loop p x f at₀ j₀ at j = 8 - j
+μ-loop set p x f at₀ j₀ at j = 8 - j
 
 loop-holds : tie.Need-loop-holds Inv-loop μ-loop
 loop-holds c = (search needs, search needs, c .pre .0)
@@ -29,17 +29,17 @@ array-read-same c = search needs
 same-requires : tie.Need-same-requires Inv-loop μ-loop
 same-requires c κs = search needs
 
-mul-turned : tie.Need-mul-turned Inv-loop μ-loop
-mul-turned c = search needs
+mul-bisection-step : tie.Need-mul-bisection-step Inv-loop μ-loop
+mul-bisection-step c = search needs
 
-array-read-turned : tie.Need-array-read-turned Inv-loop μ-loop
-array-read-turned c = search needs
+array-read-bisection-step : tie.Need-array-read-bisection-step Inv-loop μ-loop
+array-read-bisection-step c = search needs
 
-turned-requires : tie.Need-turned-requires Inv-loop μ-loop
-turned-requires c κs =
+bisection-step-requires : tie.Need-bisection-step-requires Inv-loop μ-loop
+bisection-step-requires c κs =
     let inside = c .before .before .before .before .before in
     let start = inside .before .before in
-    let v = at-point (start .args .t3) (start .args .t4) _ _ (start .pre .1) (inside .loop-test .taken) (c .before .same .ensures (c .if2 .taken)) in
+    let v = at-point _ (start .args .t4) (start .args .t5) _ _ (start .pre .1) (inside .loop-test .taken) (c .before .same .ensures (c .if2 .taken)) in
     (inside .before .loop .inv .2, (search needs, (refl, v)))
 
 returns-2 : tie.Need-returns-2 Inv-loop μ-loop
@@ -52,13 +52,13 @@ loop-less : tie.Need-loop-less Inv-loop μ-loop
 loop-less c = search needs
 
 loop-again : tie.Need-loop-again Inv-loop μ-loop
-loop-again c = (search needs, omega (arith, c .turned .ensures .1), c .turned .ensures .0)
+loop-again c = (search needs, omega (arith, c .bisection-step .ensures .1), c .bisection-step .ensures .0)
 
 returns-3 : tie.Need-returns-3 Inv-loop μ-loop
 returns-3 c = let inv = c .before .loop .inv in (inv .2, inv .1)
 
-pub walk-spec : {M : Type 1} → statement M
-walk-spec =
+pub apply-guessed-steps-spec : {M : Type 1} → statement M
+apply-guessed-steps-spec =
     tie.close
     (tie.spec
     Inv-loop
@@ -68,9 +68,9 @@ walk-spec =
     mul-same
     array-read-same
     same-requires
-    mul-turned
-    array-read-turned
-    turned-requires
+    mul-bisection-step
+    array-read-bisection-step
+    bisection-step-requires
     returns-2
     add-j
     loop-less

@@ -1,11 +1,10 @@
--- `normal_distribution::inverse_normal_cdf` meets its contract: each way out is the arm that the tests before it leave. Assumes nothing.
+-- `normal_distribution::inverse_normal_cdf_under` meets its contract: each way out is the arm that the tests before it leave. Assumes nothing.
 use lib.Ieee.{div, neg, ofBits}
 use lib.Ieee.Compare.{differs-from-itself}
-use Rattle.elementary.specs.Rules.{rules-0}
 use Rattle.elementary.specs.NormalDistribution.{inverseOf}
 use Rattle.elementary.proofs.Laws.Inverse.{lowest-under, highest-over}
-use Rattle.elementary.proofs.normal_distribution.inverse_normal_cdf.Statement.{statement}
-use Rattle.elementary.proofs.normal_distribution.inverse_normal_cdf.Tie as tie
+use Rattle.elementary.proofs.normal_distribution.inverse_normal_cdf_under.Statement.{statement}
+use Rattle.elementary.proofs.normal_distribution.inverse_normal_cdf_under.Tie as tie
 
 returns : tie.Need-returns
 unfolding inverseOf
@@ -20,11 +19,11 @@ unfolding inverseOf div ofBits
 returns-3 c = rw (c .before .before .if1 .left, c .before .if2 .left, c .if3 .taken)
 
 bisected-requires : tie.Need-bisected-requires
-bisected-requires c κs = (lowest-under rules-0 _ (c .before .before .if1 .left) (c .before .if2 .left), highest-over rules-0 _ (c .if3 .left))
+bisected-requires c κs = (lowest-under _ _ (c .before .before .if1 .left) (c .before .if2 .left), highest-over _ _ (c .if3 .left))
 
 returns-4 : tie.Need-returns-4
 unfolding inverseOf
 returns-4 c = rw (c .before .before .before .if1 .left, c .before .before .if2 .left, c .before .if3 .left) (c .bisected .ensures)
 
-pub inverse-normal-cdf-spec : {M : Type 1} → statement M
-inverse-normal-cdf-spec = tie.close (tie.spec returns returns-2 returns-3 bisected-requires returns-4)
+pub inverse-normal-cdf-under-spec : {M : Type 1} → statement M
+inverse-normal-cdf-under-spec = tie.close (tie.spec returns returns-2 returns-3 bisected-requires returns-4)

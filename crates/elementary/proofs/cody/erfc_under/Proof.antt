@@ -1,8 +1,8 @@
--- `cody::erfc` meets its contract: each way out is the arm that the test leaves. Assumes nothing.
+-- `cody::erfc_under` meets its contract: each way out is the arm that the test leaves. Assumes nothing.
 use Rattle.elementary.specs.Cody.{erfcOf}
 use borrow.Author.Needs.{needs}
-use Rattle.elementary.proofs.cody.erfc.Statement.{statement}
-use Rattle.elementary.proofs.cody.erfc.Tie as tie
+use Rattle.elementary.proofs.cody.erfc_under.Statement.{statement}
+use Rattle.elementary.proofs.cody.erfc_under.Tie as tie
 
 abs-requires : tie.Need-abs-requires
 abs-requires c κs = search needs
@@ -25,6 +25,6 @@ returns-2 : tie.Need-returns-2
 unfolding erfcOf
 returns-2 c = rw (c .outside .ensures, ← c .before .before .before .abs .ensures, c .before .before .if1 .left)
 
-pub erfc-spec : {M : Type 1} → statement M
-erfc-spec =
+pub erfc-under-spec : {M : Type 1} → statement M
+erfc-under-spec =
     tie.close (tie.spec abs-requires ab-requires returns smoothened-exponential-of-negative-square-requires outside-requires returns-2)

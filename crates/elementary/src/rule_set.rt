@@ -1,0 +1,14 @@
+// What a rule set (document 02's term) decides, carried by value through everything that it reaches.
+pub struct RuleSet {
+    // From which price on solve looks for no volatility. By the textbook it is the forward for a Call
+    // and the strike for a Put; in the Rust the strike for a Call and the forward for a Put.
+    pub textbook_cap: bool,
+    // Whether erfc's exponential factor multiplies the 0 of its far arm too, which is NaN at infinity.
+    pub far_factor: bool,
+}
+
+// The rules of document 01, which are the Rust's.
+pub const RULE_SET_0: RuleSet = RuleSet {
+    textbook_cap: false,
+    far_factor: true,
+};
