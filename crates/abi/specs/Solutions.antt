@@ -6,15 +6,15 @@ use lib.Dec.{eqb}
 use lib.IntN.{ℤ}
 use lib.Ieee.{Float}
 use Rattle.prices.specs.declared.inputs.OptionType.the-variants.{Call, Put}
-use Rattle.solver.specs.declared.state.Solution.{Solution}
-use Rattle.solver.specs.declared.state.Solution.the-variants.{Refused}
-use Rattle.solver.specs.declared.state.Filing.{Filing}
-use Rattle.solver.specs.declared.state.Filing.the-variants.{Refused as NotFiled}
-use Rattle.solver.specs.declared.state.Checking.{Checking}
+use Rattle.solver.specs.declared.answers.Solution.{Solution}
+use Rattle.solver.specs.declared.answers.Solution.the-variants.{Refused}
+use Rattle.solver.specs.declared.answers.Filing.{Filing}
+use Rattle.solver.specs.declared.answers.Filing.the-variants.{Refused as NotFiled}
+use Rattle.solver.specs.declared.answers.Checking.{Checking}
 use Rattle.solver.specs.Answers.{numberIn, branchIn, endingIn, stepsIn, filingNumber, filingSteps, checkingNumber, checkingAgrees, checkingSteps}
 use Rattle.elementary.specs.RuleSets.{rule-set-0}
-use Rattle.solver.specs.Solve.{Solving, solveOf, solveWithTrail, stepsOf}
-use Rattle.solver.specs.Book.{FiledBook, fileOf, Read}
+use Rattle.solver.specs.Solve.{SolveResult, solveOf, solveWithTrail, stepsOf}
+use Rattle.solver.specs.Book.{FileResult, fileOf, Read}
 
 -- number, branch, ending and steps in one word: bytes 0, 1 and 2, and from byte 4 on the steps
 abbrev pub outcomeFrom : ℕ → ℕ → ℕ → ℕ → ℕ
@@ -39,7 +39,7 @@ agreesByte a = cond (checkingAgrees a) 1 0
 -- ---- a kind as document 01's byte; any other byte is refused before all else, with its number for a kind outside the layout
 
 -- solve with a trail of so many bytes
-unfoldable pub solvingAt : ℕ → Float → Float → Float → Float → ℤ → ℕ → Solving
+unfoldable pub solvingAt : ℕ → Float → Float → Float → Float → ℤ → ℕ → SolveResult
 solvingAt kind price forward strike expiry limit bytes =
     let call = solveWithTrail rule-set-0 price forward strike expiry Call (stepsOf limit) bytes in
     let put = solveWithTrail rule-set-0 price forward strike expiry Put (stepsOf limit) bytes in
@@ -53,7 +53,7 @@ untrailedAt kind price forward strike expiry n =
     cond (eqb kind 1) call (cond (eqb kind 2) put (Refused 24 0))
 
 -- file, into slot `used` of the book
-unfoldable pub filingAt : ℕ → Float → Float → Float → Float → ℤ → List ℕ → ℕ → FiledBook
+unfoldable pub filingAt : ℕ → Float → Float → Float → Float → ℤ → List ℕ → ℕ → FileResult
 filingAt kind price forward strike expiry limit book used =
     let call = fileOf price forward strike expiry Call limit book used rule-set-0 in
     let put = fileOf price forward strike expiry Put limit book used rule-set-0 in

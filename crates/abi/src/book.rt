@@ -10,8 +10,8 @@ ghost use Rattle.abi.specs.Solutions.{filingOutcome, checkingOutcome, ag
 use crate::solve::outcome_from;
 use elementary::methods::float_of;
 use prices::inputs::OptionType;
-use solver::state::Checking;
-use solver::state::Filing;
+use solver::answers::Checking;
+use solver::answers::Filing;
 
 // The used count after it, 0 where it is refused.
 fn filed(answer: Filing, outcome: &mut u64) -> u64

@@ -14,7 +14,7 @@ use solver::solve::implied_volatility_from_a_transformed_rational_guess;
 use solver::solve::implied_volatility_from_a_transformed_rational_guess_with_limited_iterations;
 use solver::solve::solve_without_trail;
 use solver::solve::steps_of;
-use solver::state::Solution;
+use solver::answers::Solution;
 
 // Number, branch, ending and steps in one word.
 pub(crate) fn outcome_from(number: u8, branch: u8, ending: u8, steps: u32) -> u64

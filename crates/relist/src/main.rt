@@ -7,7 +7,7 @@ ghost use mathlib.Core.Path.{_≡_};
 ghost use Prim.Native.Nat.{_+_, _*_, _≤_, _<_, min};
 ghost use lib.ListN.{length};
 ghost use Rattle.elementary.specs.RuleSets.{rule-set-0};
-ghost use Rattle.solver.specs.Trail.{laid};
+ghost use Rattle.solver.specs.LittleEndian.{overwritten};
 ghost use Rattle.solver.specs.Listing.{lineOf};
 ghost use Rattle.relist.specs.Lines.{linesOf, stepOf};
 ghost use Rattle.relist.specs.Inside.Steps.{After, End};
@@ -153,7 +153,7 @@ fn list(first: u64, block: &[u8], lines: &mut [u8]) -> usize
     requires { ⌜ first + length (now block) < 18446744073709551616 ⌝ }
     requires { ⌜ 2 * length (now block) + 128 ≤ length (now lines) ⌝ }
     ensures { λ r. ⌜ r ≡ length (linesOf first (now (block .entry))) ⌝ }
-    ensures { λ _. ⌜ now (lines .exit) ≡ laid 0 (linesOf first (now (block .entry))) (now (lines .entry)) ⌝ }
+    ensures { λ _. ⌜ now (lines .exit) ≡ overwritten 0 (linesOf first (now (block .entry))) (now (lines .entry)) ⌝ }
 {
     let mut index = first;
     let mut at: usize = 0;
@@ -183,7 +183,7 @@ fn end_of(at: usize, length: usize) -> usize
 fn line_at(index: u64, bytes: &[u8], lines: &mut [u8], at: usize) -> usize
     requires { ⌜ at + 128 ≤ length (now lines) ⌝ }
     ensures { λ r. ⌜ r ≡ length (lineOf rule-set-0 index (now (bytes .entry))) ⌝ }
-    ensures { λ _. ⌜ now (lines .exit) ≡ laid at (lineOf rule-set-0 index (now (bytes .entry))) (now (lines .entry)) ⌝ }
+    ensures { λ _. ⌜ now (lines .exit) ≡ overwritten at (lineOf rule-set-0 index (now (bytes .entry))) (now (lines .entry)) ⌝ }
 {
     line(index, bytes, &mut lines[at..])
 }

@@ -7,9 +7,9 @@ use elementary::methods::bits_of;
 use elementary::methods::float_of;
 use prices::inputs::OptionType;
 use solver::solve::implied_volatility_from_a_transformed_rational_guess_with_limited_iterations;
-use solver::state::Checking;
-use solver::state::Filing;
-use solver::state::Solution;
+use solver::answers::Checking;
+use solver::answers::Filing;
+use solver::answers::Solution;
 
 // A word, and document 01's number, 0 for none.
 pub struct Word {

@@ -6,11 +6,11 @@ pub mod Half
 pub mod Numbers
 pub mod Forms
 pub mod Loops
-pub mod Priced
+pub mod PriceAndVega
 pub mod Reached
-pub mod Solving
+pub mod SolveCases
 -- Lists and bytes.
-pub mod Laid
+pub mod Overwritten
 pub mod Trails
 pub mod Lines
 pub mod Parts

@@ -9,8 +9,8 @@ use borrow.Author.Tests.{le-ltb}
 use lib.Ieee.{Float}
 use Rattle.prices.specs.declared.inputs.OptionType.{OptionType}
 use Rattle.elementary.specs.declared.rule_set.RuleSet.{RuleSet}
-use Rattle.solver.specs.Guess.{Begun}
-use Rattle.solver.specs.Solve.{begunOf, Solving, solvingOf, solvingWith, solveOf, solveWithTrail, stepsOf}
+use Rattle.solver.specs.Guess.{Start}
+use Rattle.solver.specs.Solve.{startOf, SolveResult, resultFrom, solveKeeping, solveOf, solveWithTrail, stepsOf}
 use Rattle.solver.specs.Promises.Demand3.{Trail, none, of-bytes, LongEnough, runOf, beginOf, OneRun, Sentences, Demand-3}
 use Rattle.solver.specs.Promises.Answers.{Numbers, Solve-numbers, Line-length}
 use Rattle.solver.specs.Table.{Table}
@@ -31,25 +31,25 @@ not-short n none l = refl
 not-short n (of-bytes k) l = le-ltb k (48 * stepsOf n) l
 
 module _ (set : RuleSet) (price forward strike expiry : Float) (kind : OptionType) where
-  abbrev run : ℤ → Trail → Solving
+  abbrev run : ℤ → Trail → SolveResult
   run = runOf set price forward strike expiry kind
 
-  abbrev begin : ℤ → Trail → Begun
+  abbrev begin : ℤ → Trail → Start
   begin = beginOf set price forward strike expiry kind
 
-  abbrev begun : Bool → Begun
-  begun short = begunOf set short price forward strike expiry kind
+  abbrev begun : Bool → Start
+  begun short = startOf set short price forward strike expiry kind
 
   begin-is : (n : ℤ) (t : Trail) → begin n t ≡ begun (isShort n t)
   begin-is n none = refl
   begin-is n (of-bytes k) = refl
 
-  run-is : (n : ℤ) (t : Trail) → run n t ≡ solvingOf (begun (isShort n t)) expiry (stepsOf n)
-  unfolding solveOf solveWithTrail solvingWith
+  run-is : (n : ℤ) (t : Trail) → run n t ≡ resultFrom (begun (isShort n t)) expiry (stepsOf n)
+  unfolding solveOf solveWithTrail solveKeeping
   run-is n none = refl
   run-is n (of-bytes k) = refl
 
-  long-run-is : (n : ℤ) (t : Trail) → LongEnough n t → run n t ≡ solvingOf (begun false) expiry (stepsOf n)
+  long-run-is : (n : ℤ) (t : Trail) → LongEnough n t → run n t ≡ resultFrom (begun false) expiry (stepsOf n)
   long-run-is n t l = rw (run-is n t, not-short n t l)
 
   form : (n : ℤ) (t : Trail) → BeginForm (isShort n t) (begun (isShort n t))

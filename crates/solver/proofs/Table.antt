@@ -10,19 +10,19 @@ use Rattle.elementary.specs.Ln.{lnOf, lnInner, lnAt, lnSum, placeOf, significan
 use Rattle.elementary.specs.Cody.{erfcOf, erfcxOf}
 use Rattle.prices.specs.Black.{asymptoticOf}
 use Rattle.prices.specs.RationalCubic.{isInfinite, interpolationOf}
-use Rattle.solver.specs.declared.state.Solution.{Solution}
-use Rattle.solver.specs.declared.state.Solution.the-variants.{Solved}
-use Rattle.solver.specs.Guess.{normalisedBegun, mappedBegun}
-use Rattle.solver.specs.Book.{filedBytes, resolved}
+use Rattle.solver.specs.declared.answers.Solution.{Solution}
+use Rattle.solver.specs.declared.answers.Solution.the-variants.{Solved}
+use Rattle.solver.specs.Guess.{normalisedStart, mappedStart}
+use Rattle.solver.specs.Book.{bookRecordBytes, solveRecord}
 use Rattle.solver.specs.Listing.{decimalBy, hexBy, answerAt, lineOf}
-use Rattle.solver.specs.Solve.{acceptedBegun, inputNumber, begunOf, solvingOf, solvingWith, solveOf, solveWithTrail}
+use Rattle.solver.specs.Solve.{acceptedStart, inputNumber, startOf, resultFrom, solveKeeping, solveOf, solveWithTrail}
 use Rattle.solver.specs.Table.{Gives, Table}
 
 gives : (a : Solution) (v : Float) → a ≡ Solved v 0 0 0 → Gives a v
 gives a v e = rw e (record { number = refl; value = refl; branch = refl; ending = refl; steps = refl })
 
 pub rows : Table
-unfolding lineOf answerAt resolved filedBytes decimalBy hexBy toBits solveOf solveWithTrail solvingWith solvingOf begunOf inputNumber acceptedBegun normalisedBegun mappedBegun erfcOf erfcxOf interpolationOf asymptoticOf sqrtOf roundRoot isqrt rootBy inUnits lnOf lnInner lnAt lnSum placeOf significandOf expOf expInner expSum scaled floorOf maxOf absOf add sub mul div neg ofBits ofInt toSigned round units size lt le eq ne
+unfolding lineOf answerAt solveRecord bookRecordBytes decimalBy hexBy toBits solveOf solveWithTrail solveKeeping resultFrom startOf inputNumber acceptedStart normalisedStart mappedStart erfcOf erfcxOf interpolationOf asymptoticOf sqrtOf roundRoot isqrt rootBy inUnits lnOf lnInner lnAt lnSum placeOf significandOf expOf expInner expSum scaled floorOf maxOf absOf add sub mul div neg ofBits ofInt toSigned round units size lt le eq ne
 rows = record {
   P1 = gives _ _ refl;
   P2 = gives _ _ refl;

@@ -2,43 +2,43 @@
 use mathlib.Core.Bool.{Bool, true, false}
 use Prim.Native.Nat.{ℕ}
 use lib.Ieee.{Float, nan}
-use Rattle.solver.specs.declared.state.Solution.{Solution}
-use Rattle.solver.specs.declared.state.Solution.the-variants.{Solved, Refused}
-use Rattle.solver.specs.declared.state.Filing.{Filing}
-use Rattle.solver.specs.declared.state.Filing.the-variants.{Filed, Refused as NotFiled}
-use Rattle.solver.specs.declared.state.Checking.{Checking}
-use Rattle.solver.specs.declared.state.Checking.the-variants.{Agrees, Differs, Refused as NotChecked}
+use Rattle.solver.specs.declared.answers.Solution.{Solution}
+use Rattle.solver.specs.declared.answers.Solution.the-variants.{Solved, Refused}
+use Rattle.solver.specs.declared.answers.Filing.{Filing}
+use Rattle.solver.specs.declared.answers.Filing.the-variants.{Filed, Refused as NotFiled}
+use Rattle.solver.specs.declared.answers.Checking.{Checking}
+use Rattle.solver.specs.declared.answers.Checking.the-variants.{Agrees, Differs, Refused as NotChecked}
 
 -- ---- solve's
 
 -- 0 where it answers
 abbrev pub numberIn : Solution → ℕ
-numberIn (Solved v branch ending steps) = 0
+numberIn (Solved a) = 0
 numberIn (Refused number steps) = number
 
 -- a refusal has none; NaN stands for it
 abbrev pub volatilityIn : Solution → Float
-volatilityIn (Solved v branch ending steps) = v
+volatilityIn (Solved a) = a .volatility
 volatilityIn (Refused number steps) = nan
 
 -- whether there is an answer
 abbrev pub isSolved : Solution → Bool
-isSolved (Solved v branch ending steps) = true
+isSolved (Solved a) = true
 isSolved (Refused number steps) = false
 
 -- 0 where it is refused
 abbrev pub branchIn : Solution → ℕ
-branchIn (Solved v branch ending steps) = branch
+branchIn (Solved a) = a .branch
 branchIn (Refused number steps) = 0
 
 -- 0 where it is refused
 abbrev pub endingIn : Solution → ℕ
-endingIn (Solved v branch ending steps) = ending
+endingIn (Solved a) = a .ending
 endingIn (Refused number steps) = 0
 
 -- the completed steps
 abbrev pub stepsIn : Solution → ℕ
-stepsIn (Solved v branch ending steps) = steps
+stepsIn (Solved a) = a .steps
 stepsIn (Refused number steps) = steps
 
 -- ---- file's

@@ -21,8 +21,8 @@ use Rattle.prices.specs.Vega.{vegaOf}
 use Rattle.prices.specs.Black.{callOf}
 use Rattle.prices.specs.RationalCubic.{interpolationOf, convexParameterOf}
 use Rattle.solver.specs.declared.state.State.{State}
-use Rattle.solver.specs.declared.state.Mapped.{Mapped}
-use Rattle.solver.specs.declared.state.Stepped.{Stepped}
+use Rattle.solver.specs.declared.state.MapAndDerivatives.{MapAndDerivatives}
+use Rattle.solver.specs.declared.state.StepResult.{StepResult}
 use Rattle.solver.specs.Step.{lowerStep, upperStep, generalStep}
 
 -- The Rust's constants, as it rounds them.
@@ -60,7 +60,7 @@ inverseFLowerMap set x f =
     cond (isBelowHorizon f) +0 s
 
 -- the upper map at s, and its two derivatives
-unfoldable pub upperMap : RuleSet → Float → Float → Mapped
+unfoldable pub upperMap : RuleSet → Float → Float → MapAndDerivatives
 upperMap set x s =
     let w = squareOf (x ⊘ s) in
     let fp = neg half ⊗ expOf (half ⊗ w) in
@@ -69,7 +69,7 @@ upperMap set x s =
     record { f = cdfOf set (neg half ⊗ s); fp = cond horizon (neg half) fp; fpp = cond horizon +0 fpp }
 
 -- The second derivative divides by cdf(z), where the paper has the density.
-unfoldable pub lowerMap : RuleSet → Float → Float → Mapped
+unfoldable pub lowerMap : RuleSet → Float → Float → MapAndDerivatives
 lowerMap set x s =
     let ax = absOf x in
     let z = SQRT-ONE-OVER-THREE ⊗ ax ⊘ s in
@@ -108,7 +108,7 @@ middleGuess beta b-1 b-2 s-1 s-2 v-1 v-2 side =
     interpolationOf beta b-1 b-2 s-1 s-2 (one ⊘ v-1) (one ⊘ v-2) r
 
 -- f stays −f64::MAX where the second derivative is too large for the cubic
-abbrev pub upperF : Float → Float → Float → Mapped → Answer
+abbrev pub upperF : Float → Float → Float → MapAndDerivatives → Answer
 upperF beta b-max b-h m =
     let r = convexParameterOf b-h b-max (m .f) +0 (m .fp) (neg half) (m .fpp) true Left in
     let interpolated = interpolationOf beta b-h b-max (m .f) +0 (m .fp) (neg half) r in
@@ -126,16 +126,16 @@ upperGuess set x beta b-max b-h s-h =
 -- ---- where a run begins
 
 -- what a run begins with
-pub data Begun : Type 0 where
+pub data Start : Type 0 where
   -- answered before a guess: branch 0, ending 0
-  answered : Float → Begun
+  answered : Float → Start
   -- refused before a loop
-  stopped : ℕ → Begun
+  stopped : ℕ → Start
   -- the branch, the target, the loop's step and the state before the first one
-  looping : ℕ → Float → (State → Stepped) → State → Begun
+  looping : ℕ → Float → (State → StepResult) → State → Start
 
 -- a value goes on, a number ends the run
-unfoldable pub withValue : Answer → (Float → Begun) → Begun
+unfoldable pub withValue : Answer → (Float → Start) → Start
 withValue (Value b) f = f b
 withValue (Number n) f = stopped n
 
@@ -144,8 +144,8 @@ abbrev pub startAt : Float → Float → Float → State
 startAt left right s = record { s = s; ds = MIN; previous = +0; left = left; right = right }
 
 -- below b_c
-unfoldable pub lowerBegun : RuleSet → Float → Float → Float → Float → Float → Begun
-lowerBegun set x beta s-c b-c v-c =
+unfoldable pub lowerStart : RuleSet → Float → Float → Float → Float → Float → Start
+lowerStart set x beta s-c b-c v-c =
     let s-l = s-c ⊖ b-c ⊘ v-c in
     withValue (callOf set x s-l) (λ b-l.
     let loop-1 = withValue (lowerGuess set x beta b-l s-l) (λ s. looping 1 beta (lowerStep set x beta) (startAt MIN s-l s)) in
@@ -157,40 +157,40 @@ abbrev pub upperPlace : Float → Float → Float → Float → Float
 upperPlace b-max s-c b-c v-c = cond (lt MIN v-c) (s-c ⊕ (b-max ⊖ b-c) ⊘ v-c) s-c
 
 -- above b_h
-unfoldable pub tailBegun : RuleSet → Float → Float → Float → Float → Float → Begun
-tailBegun set x beta b-max b-h s-h =
-    let loop-4 : Float → Begun = λ s. looping 4 beta (upperStep set b-max x beta) (startAt s-h MAX s) in
-    let loop-5 : Float → Begun = λ s. looping 5 beta (generalStep set x beta) (startAt s-h MAX s) in
+unfoldable pub tailStart : RuleSet → Float → Float → Float → Float → Float → Start
+tailStart set x beta b-max b-h s-h =
+    let loop-4 : Float → Start = λ s. looping 4 beta (upperStep set b-max x beta) (startAt s-h MAX s) in
+    let loop-5 : Float → Start = λ s. looping 5 beta (generalStep set x beta) (startAt s-h MAX s) in
     withValue (upperGuess set x beta b-max b-h s-h) (λ s. cond (lt (half ⊗ b-max) beta) (loop-4 s) (loop-5 s))
 
 -- from b_c on
-unfoldable pub upperBegun : RuleSet → Float → Float → Float → Float → Float → Float → Begun
-upperBegun set x beta b-max s-c b-c v-c =
+unfoldable pub upperStart : RuleSet → Float → Float → Float → Float → Float → Float → Start
+upperStart set x beta b-max s-c b-c v-c =
     let s-h = upperPlace b-max s-c b-c v-c in
     withValue (callOf set x s-h) (λ b-h.
     let loop-3 = withValue (middleGuess beta b-c b-h s-c s-h v-c (vegaOf x s-h) Left) (λ s. looping 3 beta (generalStep set x beta) (startAt s-c s-h s)) in
-    let tail = tailBegun set x beta b-max b-h s-h in
+    let tail = tailStart set x beta b-max b-h s-h in
     cond (le beta b-h) loop-3 tail)
 
 -- from the price at √(2 |x|) on
-abbrev pub guessedBegun : RuleSet → Float → Float → Float → Begun
-guessedBegun set x beta b-max =
+abbrev pub guessedStart : RuleSet → Float → Float → Float → Start
+guessedStart set x beta b-max =
     let s-c = sqrtOf binary64 (two ⊗ absOf x) in
     let v-c = vegaOf x s-c in
     withValue (callOf set x s-c) (λ b-c.
-    let lower = lowerBegun set x beta s-c b-c v-c in
-    let upper = upperBegun set x beta b-max s-c b-c v-c in
+    let lower = lowerStart set x beta s-c b-c v-c in
+    let upper = upperStart set x beta b-max s-c b-c v-c in
     cond (lt beta b-c) lower upper)
 
 -- the target and x after all mapping
-unfoldable pub mappedBegun : RuleSet → Float → Float → Begun
-mappedBegun set x beta =
+unfoldable pub mappedStart : RuleSet → Float → Float → Start
+mappedStart set x beta =
     let b-max = expOf (half ⊗ x) in
-    let guessed = guessedBegun set x beta b-max in
+    let guessed = guessedStart set x beta b-max in
     cond (le beta +0) (answered +0) (cond (lt beta +0) (answered +0) (cond (le b-max beta) (answered MAX) guessed))
 
 -- unchecked_normalised_implied_volatility_.., up to its loops
-unfoldable pub normalisedBegun : RuleSet → Float → Float → OptionType → Begun
-normalisedBegun set beta x kind =
+unfoldable pub normalisedStart : RuleSet → Float → Float → OptionType → Start
+normalisedStart set beta x kind =
     let mapped = maxOf (beta ⊖ intrinsicOf x kind) +0 in
-    mappedBegun set (times kind x) (cond (lt +0 (times kind x)) mapped beta)
+    mappedStart set (times kind x) (cond (lt +0 (times kind x)) mapped beta)

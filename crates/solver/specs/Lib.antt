@@ -4,6 +4,7 @@ pub mod Step
 pub mod Guess
 pub mod Solve
 pub mod Answers
+pub mod LittleEndian
 pub mod Trail
 pub mod Book
 pub mod Listing

@@ -5,13 +5,13 @@ use Prim.Native.Nat.{ℕ, zero, suc}
 
 -- how a run ends: its test holds, its limit is reached, or a step meets a number
 pub data Ending (S : Type 0) : Type 0 where
-  tested limited : S → Ending S
-  refused : ℕ → Ending S
+  by-test by-limit : S → Ending S
+  by-refusal : ℕ → Ending S
 
 -- what a state leads to: a completed step, with its record and the state after it, or an ending
-pub data Turn (S R : Type 0) : Type 0 where
-  goes : R → S → Turn S R
-  ends : Ending S → Turn S R
+pub data Transition (S R : Type 0) : Type 0 where
+  advance : R → S → Transition S R
+  stop : Ending S → Transition S R
 
 -- a run is the records of its completed steps, and its ending
 pub record Run (S R : Type 0) : Type 0 where
@@ -24,11 +24,11 @@ module _ {S R : Type 0} where
   after rs w = record { records = rs ++ w .records; ending = w .ending }
 
   -- a step's record and then the rest, or the ending
-  abbrev pub follow : Turn S R → (S → Run S R) → Run S R
-  follow (goes r s) rest = after (r ∷ []) (rest s)
-  follow (ends e) rest = record { records = []; ending = e }
+  abbrev pub follow : Transition S R → (S → Run S R) → Run S R
+  follow (advance r s) rest = after (r ∷ []) (rest s)
+  follow (stop e) rest = record { records = []; ending = e }
 
   -- The run from a state, with a limit of n steps. One that has taken as many steps as its limit ends by it, also where the test then holds.
-  unfoldable pub run : (S → Turn S R) → ℕ → S → Run S R
-  run next zero s = record { records = []; ending = limited s }
+  unfoldable pub run : (S → Transition S R) → ℕ → S → Run S R
+  run next zero s = record { records = []; ending = by-limit s }
   run next (suc n) s = follow (next s) (run next n)

@@ -10,11 +10,11 @@ use Rattle.prices.specs.declared.answer.Answer.the-variants.{Value, Refused as 
 use Rattle.prices.specs.Vega.{vegaOf}
 use Rattle.prices.specs.Black.{callOf}
 use Rattle.solver.specs.declared.state.State.{State}
-use Rattle.solver.specs.declared.state.Ends.{Ends}
+use Rattle.solver.specs.declared.state.Bracket.{Bracket}
 use Rattle.solver.specs.declared.state.Record.{Record}
-use Rattle.solver.specs.declared.state.Stepped.{Stepped}
-use Rattle.solver.specs.declared.state.Stepped.the-variants.{Went, Refused}
-use Rattle.solver.specs.Loop.{Turn, goes, ends, tested, refused}
+use Rattle.solver.specs.declared.state.StepResult.{StepResult}
+use Rattle.solver.specs.declared.state.StepResult.the-variants.{Completed, Refused}
+use Rattle.solver.specs.Loop.{Transition, advance, stop, by-test, by-refusal}
 
 -- the factor that a third-order step puts on Newton's
 unfoldable pub householderFactor : Float → Float → Float → Float
@@ -23,14 +23,14 @@ householderFactor newton halley hh3 = (one ⊕ half ⊗ halley ⊗ newton) ⊘ (
 -- ---- the bracket
 
 -- The move after a price b at s: the right end becomes s where b lies above the target and s below that end; else the left end, where b lies below and s above it.
-abbrev pub endsAfter : Float → Float → Float → Float → Float → Ends
-endsAfter b beta s left right =
+abbrev pub bracketAfter : Float → Float → Float → Float → Float → Bracket
+bracketAfter b beta s left right =
     cond (lt beta b && lt s right) (record { left = left; right = s })
     (cond (lt b beta && lt left s) (record { left = s; right = right })
     (record { left = left; right = right }))
 
 -- the middle of the bracket, as a step from s
-abbrev pub toMiddle : Ends → Float → Float
+abbrev pub toMiddle : Bracket → Float → Float
 toMiddle bracket s = half ⊗ (bracket .left ⊕ bracket .right) ⊖ s
 
 -- ---- ds of each loop
@@ -44,7 +44,7 @@ abbrev pub hh3Of : Float → Float → Float → Float
 hh3Of halley x s = halley ⊗ halley ⊖ float 3 ⊗ squareOf (x ⊘ (s ⊗ s)) ⊖ quarter
 
 -- the lower loop, in ln b
-unfoldable pub lowerDs : Float → Float → Float → Float → Float → Ends → Float
+unfoldable pub lowerDs : Float → Float → Float → Float → Float → Bracket → Float
 lowerDs x beta s b bp bracket =
     let ln-b = lnOf b in
     let ln-beta = lnOf beta in
@@ -60,7 +60,7 @@ lowerDs x beta s b bp bracket =
     cond (le b +0 || le bp +0) middle ds
 
 -- the upper loop, in ln of what is left to the cap
-unfoldable pub upperDs : Float → Float → Float → Float → Float → Float → Ends → Float
+unfoldable pub upperDs : Float → Float → Float → Float → Float → Float → Bracket → Float
 upperDs b-max x beta s b bp bracket =
     let b-max-minus-b = b-max ⊖ b in
     let g = lnOf ((b-max ⊖ beta) ⊘ b-max-minus-b) in
@@ -75,7 +75,7 @@ upperDs b-max x beta s b bp bracket =
     cond (le b-max b || le bp MIN) middle ds
 
 -- The general loop. Here the half-step's max binds to the factor alone, so that s may fall below its half.
-unfoldable pub generalDs : Float → Float → Float → Float → Float → Ends → Float
+unfoldable pub generalDs : Float → Float → Float → Float → Float → Bracket → Float
 generalDs x beta s b bp bracket =
     let newton = (beta ⊖ b) ⊘ bp in
     let halley = halleyOf x s in
@@ -85,19 +85,19 @@ generalDs x beta s b bp bracket =
 -- ---- s after a step
 
 -- lower and upper loop: not below half of s
-abbrev pub halved : Float → Float → Float
-halved s ds = s ⊕ maxOf ds (neg half ⊗ s)
+abbrev pub atLeastHalf : Float → Float → Float
+atLeastHalf s ds = s ⊕ maxOf ds (neg half ⊗ s)
 
 -- general loop: the whole step
-abbrev pub plain : Float → Float → Float
-plain s ds = s ⊕ ds
+abbrev pub wholeStep : Float → Float → Float
+wholeStep s ds = s ⊕ ds
 
 -- ---- a step
 
 -- from the price b and the vega at s: the bracket, ds, the record, and the state after
-module _ (dsOf : Float → Float → Float → Ends → Float) (afterOf : Float → Float → Float) (beta : Float) (st : State) (b vega : Float) where
-  abbrev pub bracketOf : Ends
-  bracketOf = endsAfter b beta (st .s) (st .left) (st .right)
+module _ (dsOf : Float → Float → Float → Bracket → Float) (afterOf : Float → Float → Float) (beta : Float) (st : State) (b vega : Float) where
+  abbrev pub bracketOf : Bracket
+  bracketOf = bracketAfter b beta (st .s) (st .left) (st .right)
 
   -- the step's ds
   abbrev pub dsAt : Float
@@ -112,25 +112,25 @@ module _ (dsOf : Float → Float → Float → Ends → Float) (afterOf : Float 
   stateAfter = record { s = afterOf (st .s) dsAt; ds = dsAt; previous = st .ds; left = bracketOf .left; right = bracketOf .right }
 
 -- the price at s may be refused
-abbrev pub withPrice : Answer → (Float → Stepped) → Stepped
+abbrev pub withPrice : Answer → (Float → StepResult) → StepResult
 withPrice (Value b) f = f b
 withPrice (Number n) f = Refused n
 
 -- a step with these formulas of ds and of s after
-abbrev pub stepBy : (Float → Float → Float → Ends → Float) → (Float → Float → Float) → RuleSet → Float → Float → State → Stepped
-stepBy dsOf afterOf set x beta st = withPrice (callOf set x (st .s)) (λ b. Went (stateAfter dsOf afterOf beta st b (vegaOf x (st .s))) (recordOf dsOf afterOf beta st b (vegaOf x (st .s))))
+abbrev pub stepBy : (Float → Float → Float → Bracket → Float) → (Float → Float → Float) → RuleSet → Float → Float → State → StepResult
+stepBy dsOf afterOf set x beta st = withPrice (callOf set x (st .s)) (λ b. Completed (stateAfter dsOf afterOf beta st b (vegaOf x (st .s))) (recordOf dsOf afterOf beta st b (vegaOf x (st .s))))
 
 -- branch 1
-unfoldable pub lowerStep : RuleSet → Float → Float → State → Stepped
-lowerStep set x beta st = stepBy (lowerDs x beta) halved set x beta st
+unfoldable pub lowerStep : RuleSet → Float → Float → State → StepResult
+lowerStep set x beta st = stepBy (lowerDs x beta) atLeastHalf set x beta st
 
 -- branch 4
-unfoldable pub upperStep : RuleSet → Float → Float → Float → State → Stepped
-upperStep set b-max x beta st = stepBy (upperDs b-max x beta) halved set x beta st
+unfoldable pub upperStep : RuleSet → Float → Float → Float → State → StepResult
+upperStep set b-max x beta st = stepBy (upperDs b-max x beta) atLeastHalf set x beta st
 
 -- branches 2, 3 and 5
-unfoldable pub generalStep : RuleSet → Float → Float → State → Stepped
-generalStep set x beta st = stepBy (generalDs x beta) plain set x beta st
+unfoldable pub generalStep : RuleSet → Float → Float → State → StepResult
+generalStep set x beta st = stepBy (generalDs x beta) wholeStep set x beta st
 
 -- ---- what a state leads to
 
@@ -139,10 +139,10 @@ unfoldable pub isClose : State → Bool
 isClose st = le (absOf (st .ds)) (EPSILON ⊗ st .s)
 
 -- a completed step goes on, a refused one ends the run
-abbrev pub turnOf : Stepped → Turn State Record
-turnOf (Went st r) = goes r st
-turnOf (Refused n) = ends (refused n)
+abbrev pub transitionOf : StepResult → Transition State Record
+transitionOf (Completed st r) = advance r st
+transitionOf (Refused n) = stop (by-refusal n)
 
 -- The test comes before the step. `iterations` stays 0 in the Rust, so its bisection after three reversals is never taken.
-abbrev pub nextBy : (State → Stepped) → State → Turn State Record
-nextBy step st = let turn = turnOf (step st) in cond (isClose st) (ends (tested st)) turn
+abbrev pub nextBy : (State → StepResult) → State → Transition State Record
+nextBy step st = let turn = transitionOf (step st) in cond (isClose st) (stop (by-test st)) turn

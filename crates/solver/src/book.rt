@@ -1,24 +1,36 @@
 // The book: file, recheck and read, over records of 64 bytes.
+use crate::answers::Checking;
+use crate::answers::Filing;
+use crate::answers::ImpliedVolatility;
+use crate::answers::Solution;
+use crate::little_endian::float_at;
+use crate::little_endian::number_at;
+use crate::little_endian::put_float;
+use crate::little_endian::put_number_at;
+use crate::numbers::BOOK_FULL;
+use crate::numbers::LIMIT;
+use crate::numbers::NO_SUCH_RECORD;
+use crate::numbers::OUTSIDE_THE_LAYOUT;
+use crate::numbers::UPPER_REST;
+use crate::quote::Quote;
 use crate::solve::input_number;
-use crate::solve::solve_without_trail;
+use crate::solve::solve_quote;
 use crate::solve::steps_of;
-use crate::state::Checking;
-use crate::state::Filing;
-use crate::state::Solution;
-use crate::trail::float_at;
-use crate::trail::number_at;
-use crate::trail::put_float;
-use crate::trail::put_number_at;
 use elementary::methods::bits_of;
+use elementary::rule_set::RULE_SET_0;
+use elementary::rule_set::RuleSet;
 use prices::inputs::OptionType;
 ghost use mathlib.Core.Path.{_≡_};
 ghost use mathlib.Core.List.{_++_};
 ghost use Prim.Native.Nat.{_+_, _*_, _≤_};
 ghost use lib.ListN.{length, drop};
 ghost use Rattle.elementary.specs.RuleSets.{rule-set-0};
-ghost use Rattle.solver.specs.Solve.{solveOf, stepsOf};
-ghost use Rattle.solver.specs.Trail.{part};
-ghost use Rattle.solver.specs.Book.{kindByte, limitBits, filedBytes, stepsFrom, kindFrom, allZero, inLayout, isHeld, resolved as resolvedOf, agrees as agreesOf, checked as checkedOf, readOf, recheckOf, filed, fileOf};
+ghost use Rattle.solver.specs.Solve.{solveOf, quoteOf, stepsOf};
+ghost use Rattle.solver.specs.LittleEndian.{part};
+ghost use Rattle.solver.specs.Book.{kindByte, limitBits, bookRecordBytes, stepsFrom, kindFrom, quoteIn, allZero, inLayout, recordExists, solveRecord, agrees as agreesOf, checkingOf, readOf, recheckOf, fileAnswer, fileOf};
+
+// A record's bytes in the book.
+const RECORD_BYTES: usize = 64;
 
 // ---- a record's bytes
 
@@ -43,32 +55,20 @@ fn limit_bits(limit: i32) -> u64
 }
 
 // A record, at the start of `out`.
-fn put_filed(
-    out: &mut [u8],
-    price: f64,
-    forward: f64,
-    strike: f64,
-    expiry: f64,
-    option_type: OptionType,
-    limit: i32,
-    volatility: f64,
-    branch: u8,
-    ending: u8,
-    steps: u32,
-)
+fn put_book_record(out: &mut [u8], quote: Quote, limit: i32, a: ImpliedVolatility)
     requires { ⌜ 64 ≤ length (now out) ⌝ }
-    ensures { λ _. ⌜ now (out .exit) ≡ filedBytes price forward strike expiry «option_type» limit volatility branch ending steps ++ drop 64 (now (out .entry)) ⌝ }
+    ensures { λ _. ⌜ now (out .exit) ≡ bookRecordBytes quote limit a ++ drop 64 (now (out .entry)) ⌝ }
 {
-    put_float(out, 0, price);
-    put_float(out, 8, forward);
-    put_float(out, 16, strike);
-    put_float(out, 24, expiry);
-    put_float(out, 32, volatility);
+    put_float(out, 0, quote.price);
+    put_float(out, 8, quote.forward);
+    put_float(out, 16, quote.strike);
+    put_float(out, 24, quote.expiry);
+    put_float(out, 32, a.volatility);
     put_number_at(out, 40, 4, limit_bits(limit));
-    put_number_at(out, 44, 4, steps as u64);
-    put_number_at(out, 48, 1, kind_byte(option_type) as u64);
-    put_number_at(out, 49, 1, branch as u64);
-    put_number_at(out, 50, 1, ending as u64);
+    put_number_at(out, 44, 4, a.steps as u64);
+    put_number_at(out, 48, 1, kind_byte(quote.option_type) as u64);
+    put_number_at(out, 49, 1, a.branch as u64);
+    put_number_at(out, 50, 1, a.ending as u64);
     put_number_at(out, 51, 13, 0);
 }
 
@@ -115,83 +115,69 @@ fn in_layout(r: &[u8]) -> bool
     if kind != 1 && kind != 2 {
         return false;
     }
-    if r[49] > 5 {
+    if r[49] > UPPER_REST {
         return false;
     }
-    if r[50] > 2 {
+    if r[50] > LIMIT {
         return false;
     }
     is_spare_zero(r)
 }
 
-// A record solved again: 24, then solve's own numbers.
-pub(crate) fn resolved(r: &[u8]) -> Solution
+// The quote of a record whose bytes are inside the layout.
+fn quote_in(r: &[u8]) -> Quote
     requires { ⌜ 64 ≤ length (now r) ⌝ }
-    ensures { λ a. ⌜ a ≡ resolvedOf rule-set-0 (now (r .entry)) ⌝ }
+    ensures { λ q. ⌜ q ≡ quoteIn (now (r .entry)) ⌝ }
 {
-    if in_layout(r) {
-        return solve_without_trail(
-            float_at(r, 0),
-            float_at(r, 8),
-            float_at(r, 16),
-            float_at(r, 24),
-            kind_from(r[48]),
-            steps_from(number_at(r, 40, 4)),
-        );
+    Quote {
+        price: float_at(r, 0),
+        forward: float_at(r, 8),
+        strike: float_at(r, 16),
+        expiry: float_at(r, 24),
+        option_type: kind_from(r[48]),
     }
-    Solution::Refused(24, 0)
 }
 
-// Whether bytes 32 to 39, 44 to 47, 49 and 50 are these.
-fn agrees(r: &[u8], volatility: f64, branch: u8, ending: u8, steps: u32) -> bool
+// Solves a record again: 24, then solve's own numbers.
+pub(crate) fn solve_record(set: RuleSet, r: &[u8]) -> Solution
     requires { ⌜ 64 ≤ length (now r) ⌝ }
-    ensures { λ b. ⌜ b ≡ agreesOf (now (r .entry)) volatility branch ending steps ⌝ }
+    ensures { λ a. ⌜ a ≡ solveRecord set (now (r .entry)) ⌝ }
 {
-    if number_at(r, 32, 8) != bits_of(volatility) {
+    if in_layout(r) {
+        return solve_quote(set, quote_in(r), steps_from(number_at(r, 40, 4)));
+    }
+    Solution::Refused(OUTSIDE_THE_LAYOUT, 0)
+}
+
+// Whether bytes 32 to 39, 44 to 47, 49 and 50 are this answer's.
+fn agrees(r: &[u8], a: ImpliedVolatility) -> bool
+    requires { ⌜ 64 ≤ length (now r) ⌝ }
+    ensures { λ b. ⌜ b ≡ agreesOf (now (r .entry)) a ⌝ }
+{
+    if number_at(r, 32, 8) != bits_of(a.volatility) {
         return false;
     }
-    if number_at(r, 44, 4) != steps as u64 {
+    if number_at(r, 44, 4) != a.steps as u64 {
         return false;
     }
-    if r[49] != branch {
+    if r[49] != a.branch {
         return false;
     }
-    r[50] == ending
+    r[50] == a.ending
 }
 
 // ---- the book
 
 // Solves, files the solution in slot `used` and answers used + 1. A refusal leaves the book as it was.
-fn file_in_slot(
-    price: f64,
-    forward: f64,
-    strike: f64,
-    expiry: f64,
-    option_type: OptionType,
-    limit: i32,
-    book: &mut [u8],
-    used: u64,
-) -> Filing
+fn file_in_slot(set: RuleSet, quote: Quote, limit: i32, book: &mut [u8], used: u64) -> Filing
     requires { ⌜ used * 64 + 64 ≤ length (now book) ⌝ }
-    ensures { λ r. ⌜ r ≡ filed price forward strike expiry «option_type» limit (now (book .entry)) used (solveOf rule-set-0 price forward strike expiry «option_type» (stepsOf limit) .answer) .answer ⌝ }
-    ensures { λ _. ⌜ now (book .exit) ≡ filed price forward strike expiry «option_type» limit (now (book .entry)) used (solveOf rule-set-0 price forward strike expiry «option_type» (stepsOf limit) .answer) .book ⌝ }
+    ensures { λ r. ⌜ r ≡ fileAnswer quote limit (now (book .entry)) used (solveOf set quote (stepsOf limit) .answer) .answer ⌝ }
+    ensures { λ _. ⌜ now (book .exit) ≡ fileAnswer quote limit (now (book .entry)) used (solveOf set quote (stepsOf limit) .answer) .book ⌝ }
 {
-    match solve_without_trail(price, forward, strike, expiry, option_type, steps_of(limit)) {
-        Solution::Solved(volatility, branch, ending, steps) => {
-            let at = used as usize * 64;
-            put_filed(
-                &mut book[at..],
-                price,
-                forward,
-                strike,
-                expiry,
-                option_type,
-                limit,
-                volatility,
-                branch,
-                ending,
-                steps,
-            );
+    match solve_quote(set, quote, steps_of(limit)) {
+        Solution::Solved(a) => {
+            let at = used as usize * RECORD_BYTES;
+            put_book_record(&mut book[at..], quote, limit, a);
             Filing::Filed(used + 1)
         }
         Solution::Refused(n, steps) => Filing::Refused(n, steps),
@@ -200,6 +186,24 @@ fn file_in_slot(
 
 // Files the solution in slot `used` and answers used + 1, or a number: 1 to 4, 23, 22, then solve's.
 // A refusal leaves the book as it was.
+fn file_quote(set: RuleSet, quote: Quote, limit: i32, book: &mut [u8], used: u64) -> Filing
+    ensures { λ r. ⌜ r ≡ fileOf quote limit (now (book .entry)) used set .answer ⌝ }
+    ensures { λ _. ⌜ now (book .exit) ≡ fileOf quote limit (now (book .entry)) used set .book ⌝ }
+{
+    let number = input_number(quote);
+    if number != 0 {
+        return Filing::Refused(number, 0);
+    }
+    let slots = (book.len() / RECORD_BYTES) as u64;
+    if used > slots {
+        return Filing::Refused(NO_SUCH_RECORD, 0);
+    }
+    if used == slots {
+        return Filing::Refused(BOOK_FULL, 0);
+    }
+    file_in_slot(set, quote, limit, book, used)
+}
+
 pub fn file(
     price: f64,
     forward: f64,
@@ -210,50 +214,38 @@ pub fn file(
     book: &mut [u8],
     used: u64,
 ) -> Filing
-    ensures { λ r. ⌜ r ≡ fileOf price forward strike expiry «option_type» limit (now (book .entry)) used rule-set-0 .answer ⌝ }
-    ensures { λ _. ⌜ now (book .exit) ≡ fileOf price forward strike expiry «option_type» limit (now (book .entry)) used rule-set-0 .book ⌝ }
+    ensures { λ r. ⌜ r ≡ fileOf (quoteOf price forward strike expiry «option_type») limit (now (book .entry)) used rule-set-0 .answer ⌝ }
+    ensures { λ _. ⌜ now (book .exit) ≡ fileOf (quoteOf price forward strike expiry «option_type») limit (now (book .entry)) used rule-set-0 .book ⌝ }
 {
-    let number = input_number(price, forward, strike, expiry);
-    if number != 0 {
-        return Filing::Refused(number, 0);
-    }
-    let slots = (book.len() / 64) as u64;
-    if used > slots {
-        return Filing::Refused(23, 0);
-    }
-    if used == slots {
-        return Filing::Refused(22, 0);
-    }
-    file_in_slot(
+    let quote = Quote {
         price,
         forward,
         strike,
         expiry,
         option_type,
-        limit,
-        book,
-        used,
-    )
+    };
+    file_quote(RULE_SET_0, quote, limit, book, used)
 }
 
 // No 23: record k is among the used ones, and these are whole slots of the book.
-fn is_held(book: &[u8], used: u64, k: u64) -> bool
-    ensures { λ r. ⌜ r ≡ isHeld (now (book .entry)) used k ⌝ }
+fn record_exists(book: &[u8], used: u64, k: u64) -> bool
+    ensures { λ r. ⌜ r ≡ recordExists (now (book .entry)) used k ⌝ }
 {
     if k < used {
-        used <= (book.len() / 64) as u64
+        used <= (book.len() / RECORD_BYTES) as u64
     } else {
         false
     }
 }
 
-fn checked(r: &[u8]) -> Checking
+// Solves a record again and compares.
+fn check_record(set: RuleSet, r: &[u8]) -> Checking
     requires { ⌜ 64 ≤ length (now r) ⌝ }
-    ensures { λ a. ⌜ a ≡ checkedOf (now (r .entry)) (resolvedOf rule-set-0 (now (r .entry))) ⌝ }
+    ensures { λ a. ⌜ a ≡ checkingOf (now (r .entry)) (solveRecord set (now (r .entry))) ⌝ }
 {
-    match resolved(r) {
-        Solution::Solved(volatility, branch, ending, steps) => {
-            if agrees(r, volatility, branch, ending, steps) {
+    match solve_record(set, r) {
+        Solution::Solved(a) => {
+            if agrees(r, a) {
                 Checking::Agrees
             } else {
                 Checking::Differs
@@ -264,15 +256,21 @@ fn checked(r: &[u8]) -> Checking
 }
 
 // Solves record k again: whether what is filed agrees, or a number: 23, 24, 1 to 4, then 6 or 7.
+fn recheck_under(set: RuleSet, book: &[u8], used: u64, k: u64) -> Checking
+    ensures { λ r. ⌜ r ≡ recheckOf set (now (book .entry)) used k ⌝ }
+{
+    if record_exists(book, used, k) {
+        let at = k as usize * RECORD_BYTES;
+        let end = at + RECORD_BYTES;
+        return check_record(set, &book[at..end]);
+    }
+    Checking::Refused(NO_SUCH_RECORD, 0)
+}
+
 pub fn recheck(book: &[u8], used: u64, k: u64) -> Checking
     ensures { λ r. ⌜ r ≡ recheckOf rule-set-0 (now (book .entry)) used k ⌝ }
 {
-    if is_held(book, used, k) {
-        let at = k as usize * 64;
-        let end = at + 64;
-        return checked(&book[at..end]);
-    }
-    Checking::Refused(23, 0)
+    recheck_under(RULE_SET_0, book, used, k)
 }
 
 // Record k's own part of the book, and 0 in `number`; or an empty part, and 23 there.
@@ -280,12 +278,12 @@ pub fn read<'a>(book: &'a [u8], used: u64, k: u64, number: &mut u8) -> &'a [u8]
     ensures { λ r. ⌜ now r ≡ readOf (now (book .entry)) used k .bytes ⌝ }
     ensures { λ _. ⌜ now (number .exit) ≡ readOf (now (book .entry)) used k .number ⌝ }
 {
-    if is_held(book, used, k) {
+    if record_exists(book, used, k) {
         *number = 0;
-        let at = k as usize * 64;
-        let end = at + 64;
+        let at = k as usize * RECORD_BYTES;
+        let end = at + RECORD_BYTES;
         return &book[at..end];
     }
-    *number = 23;
+    *number = NO_SUCH_RECORD;
     &book[0..0]
 }

@@ -1,18 +1,26 @@
 // The guess of so_rational.rs, line by line: both maps, and for each branch the first s and the
 // starting ends.
-use crate::market::Market;
-use crate::market::priced;
-use crate::state::Mapped;
+use crate::normalised_market::NormalisedMarket;
+use crate::normalised_market::price_and_vega_at;
+use crate::numbers::LOWER;
+use crate::numbers::LOWER_MIDDLE;
+use crate::numbers::UPPER;
+use crate::numbers::UPPER_MIDDLE;
+use crate::numbers::UPPER_REST;
+use crate::state::MapAndDerivatives;
 use crate::state::Start;
 use crate::state::State;
 use elementary::exp::exp;
+use elementary::limits::MAX;
+use elementary::limits::MIN;
 use elementary::ln::powf_1_3;
 use elementary::methods::abs;
 use elementary::methods::max;
 use elementary::methods::powi_2;
-use elementary::normal_distribution::inverse_f_upper_map;
-use elementary::normal_distribution::inverse_normal_cdf;
-use elementary::normal_distribution::standard_normal_cdf;
+use elementary::normal_distribution::inverse_f_upper_map_under;
+use elementary::normal_distribution::inverse_normal_cdf_under;
+use elementary::normal_distribution::standard_normal_cdf_under;
+use elementary::rule_set::RuleSet;
 use elementary::sqrt::sqrt;
 use prices::answer::Answer;
 use prices::inputs::OptionType;
@@ -23,11 +31,10 @@ use prices::rational_cubic::rational_cubic_interpolation;
 ghost use mathlib.Core.Path.{_≡_};
 ghost use mathlib.Core.Bool.{cond};
 ghost use Rattle.elementary.specs.Ops.{_⊗_, +0};
-ghost use Rattle.elementary.specs.RuleSets.{rule-set-0};
 ghost use Rattle.solver.specs.Inside.Branch.{branchStep};
-ghost use Rattle.solver.specs.Inside.Market.{Shared, Begins};
+ghost use Rattle.solver.specs.Inside.Start.{HasExponentials, Implements};
 ghost use Rattle.solver.specs.Guess as Guess;
-ghost use Rattle.solver.specs.Guess.{TWO-PI-OVER-SQRT-TWENTY-SEVEN, isBelowHorizon, inverseFLowerMap, upperMap, lowerMap, lowerGuess, middleGuess, upperF, upperGuess, startAt, withValue, tailBegun, upperPlace, lowerBegun, upperBegun, guessedBegun, mappedBegun, normalisedBegun};
+ghost use Rattle.solver.specs.Guess.{TWO-PI-OVER-SQRT-TWENTY-SEVEN, isBelowHorizon, inverseFLowerMap, upperMap, lowerMap, lowerGuess, middleGuess, upperF, upperGuess, startAt, withValue, tailStart, upperPlace, lowerStart, upperStart, guessedStart, mappedStart, normalisedStart};
 
 const SQRT_DBL_MAX: f64 = 1.3407807929942596e154;
 
@@ -43,10 +50,6 @@ const PI: f64 = 3.141592653589793;
 
 const PI_OVER_SIX: f64 = PI / 6.0;
 
-const MAX: f64 = 1.7976931348623157e308;
-// f64::MIN, which is the largest number with its sign turned.
-const MIN: f64 = -1.7976931348623157e308;
-
 // Never: DENORMALISATION_CUTOFF is 0.
 fn is_below_horizon(x: f64) -> bool
     ensures { λ r. ⌜ r ≡ isBelowHorizon x ⌝ }
@@ -56,8 +59,8 @@ fn is_below_horizon(x: f64) -> bool
 
 // ---- the maps
 
-fn inverse_f_lower_map(x: f64, f: f64) -> f64
-    ensures { λ r. ⌜ r ≡ inverseFLowerMap rule-set-0 x f ⌝ }
+fn inverse_f_lower_map(set: RuleSet, x: f64, f: f64) -> f64
+    ensures { λ r. ⌜ r ≡ inverseFLowerMap set x f ⌝ }
 {
     if is_below_horizon(f) {
         0.0
@@ -65,24 +68,24 @@ fn inverse_f_lower_map(x: f64, f: f64) -> f64
         abs(
             x
                 / (SQRT_THREE
-                    * inverse_normal_cdf(powf_1_3(f / (TWO_PI_OVER_SQRT_TWENTY_SEVEN * abs(x))))),
+                    * inverse_normal_cdf_under(set, powf_1_3(f / (TWO_PI_OVER_SQRT_TWENTY_SEVEN * abs(x))))),
         )
     }
 }
 
-fn compute_f_upper_map_and_first_two_derivatives(x: f64, s: f64) -> Mapped
-    ensures { λ r. ⌜ r ≡ upperMap rule-set-0 x s ⌝ }
+fn compute_f_upper_map_and_first_two_derivatives(set: RuleSet, x: f64, s: f64) -> MapAndDerivatives
+    ensures { λ r. ⌜ r ≡ upperMap set x s ⌝ }
 {
-    let f = standard_normal_cdf(-0.5 * s);
+    let f = standard_normal_cdf_under(set, -0.5 * s);
     if is_below_horizon(x) {
-        Mapped {
+        MapAndDerivatives {
             f,
             fp: -0.5,
             fpp: 0.0,
         }
     } else {
         let w = powi_2(x / s);
-        Mapped {
+        MapAndDerivatives {
             f,
             fp: -0.5 * exp(0.5 * w),
             fpp: SQRT_PI_OVER_TWO * exp(w + 0.125 * s * s) * w / s,
@@ -101,21 +104,21 @@ fn lower_map_f(x: f64, ax: f64, phi3: f64) -> f64
     }
 }
 
-fn compute_f_lower_map_and_first_two_derivatives(x: f64, s: f64) -> Mapped
-    ensures { λ r. ⌜ r ≡ lowerMap rule-set-0 x s ⌝ }
+fn compute_f_lower_map_and_first_two_derivatives(set: RuleSet, x: f64, s: f64) -> MapAndDerivatives
+    ensures { λ r. ⌜ r ≡ lowerMap set x s ⌝ }
 {
     let ax = abs(x);
     let z = SQRT_ONE_OVER_THREE * ax / s;
     let y = z * z;
     let s2 = s * s;
-    let phi = standard_normal_cdf(z);
-    let phi_ = standard_normal_cdf(-z);
+    let phi = standard_normal_cdf_under(set, z);
+    let phi_ = standard_normal_cdf_under(set, -z);
     let fpp = PI_OVER_SIX * y / (s2 * s)
         * phi_
         * (8.0 * SQRT_THREE * s * ax + (3.0 * s2 * (s2 - 8.0) - 8.0 * x * x) * phi_ / phi)
         * exp(2.0 * y + 0.25 * s2);
     if is_below_horizon(s) {
-        Mapped {
+        MapAndDerivatives {
             f: 0.0,
             fp: 1.0,
             fpp,
@@ -124,16 +127,16 @@ fn compute_f_lower_map_and_first_two_derivatives(x: f64, s: f64) -> Mapped
         let phi2 = phi_ * phi_;
         let fp = PI * 2.0 * y * phi2 * exp(y + 0.125 * s * s);
         let f = lower_map_f(x, ax, phi2 * phi_);
-        Mapped { f, fp, fpp }
+        MapAndDerivatives { f, fp, fpp }
     }
 }
 
 // ---- the first s of each branch
 
-fn lower_guess(x: f64, beta: f64, b_l: f64, s_l: f64) -> Answer
-    ensures { λ r. ⌜ r ≡ lowerGuess rule-set-0 x beta «b_l» «s_l» ⌝ }
+fn lower_guess(set: RuleSet, x: f64, beta: f64, b_l: f64, s_l: f64) -> Answer
+    ensures { λ r. ⌜ r ≡ lowerGuess set x beta «b_l» «s_l» ⌝ }
 {
-    let m = compute_f_lower_map_and_first_two_derivatives(x, s_l);
+    let m = compute_f_lower_map_and_first_two_derivatives(set, x, s_l);
     let f_l = m.f;
     let r_ll = convex_rational_cubic_control_parameter(
         0.0,
@@ -150,9 +153,9 @@ fn lower_guess(x: f64, beta: f64, b_l: f64, s_l: f64) -> Answer
         Answer::Value(f) => {
             if f <= 0.0 {
                 let t = beta / b_l;
-                return Answer::Value(inverse_f_lower_map(x, (f_l * t + b_l * (1.0 - t)) * t));
+                return Answer::Value(inverse_f_lower_map(set, x, (f_l * t + b_l * (1.0 - t)) * t));
             }
-            Answer::Value(inverse_f_lower_map(x, f))
+            Answer::Value(inverse_f_lower_map(set, x, f))
         }
         Answer::Refused(n) => Answer::Refused(n),
     }
@@ -186,7 +189,7 @@ fn middle_guess(
 }
 
 // The cubic's f, or -f64::MAX where the second derivative is too large for it.
-fn upper_f(beta: f64, b_max: f64, b_h: f64, m: Mapped) -> Answer
+fn upper_f(beta: f64, b_max: f64, b_h: f64, m: MapAndDerivatives) -> Answer
     ensures { λ r. ⌜ r ≡ upperF beta «b_max» «b_h» m ⌝ }
 {
     let fpp = m.fpp;
@@ -208,20 +211,20 @@ fn upper_f(beta: f64, b_max: f64, b_h: f64, m: Mapped) -> Answer
     }
 }
 
-fn upper_guess(x: f64, beta: f64, b_max: f64, b_h: f64, s_h: f64) -> Answer
-    ensures { λ r. ⌜ r ≡ upperGuess rule-set-0 x beta «b_max» «b_h» «s_h» ⌝ }
+fn upper_guess(set: RuleSet, x: f64, beta: f64, b_max: f64, b_h: f64, s_h: f64) -> Answer
+    ensures { λ r. ⌜ r ≡ upperGuess set x beta «b_max» «b_h» «s_h» ⌝ }
 {
-    let m = compute_f_upper_map_and_first_two_derivatives(x, s_h);
+    let m = compute_f_upper_map_and_first_two_derivatives(set, x, s_h);
     match upper_f(beta, b_max, b_h, m) {
         Answer::Value(f) => {
             if f <= 0.0 {
                 let h = b_max - b_h;
                 let t = (beta - b_h) / h;
-                return Answer::Value(inverse_f_upper_map(
+                return Answer::Value(inverse_f_upper_map_under(set, 
                     (m.f * (1.0 - t) + 0.5 * h * t) * (1.0 - t),
                 ));
             }
-            Answer::Value(inverse_f_upper_map(f))
+            Answer::Value(inverse_f_upper_map_under(set, f))
         }
         Answer::Refused(n) => Answer::Refused(n),
     }
@@ -243,9 +246,9 @@ fn start_at(left: f64, right: f64, s: f64) -> State
 }
 
 // A loop from its guess; a refusal passes up.
-fn looping(branch: u8, m: Market, left: f64, right: f64, guess: Answer) -> Start
-    requires { ⌜ Shared m ⌝ }
-    ensures { λ r. ⌜ Begins rule-set-0 r (withValue guess (λ s. Guess.looping branch (m .beta) (branchStep rule-set-0 branch (m .«b_max») (m .x) (m .beta)) (startAt left right s))) ⌝ }
+fn start_loop(set: RuleSet, branch: u8, m: NormalisedMarket, left: f64, right: f64, guess: Answer) -> Start
+    requires { ⌜ HasExponentials m ⌝ }
+    ensures { λ r. ⌜ Implements set r (withValue guess (λ s. Guess.looping branch (m .beta) (branchStep set branch (m .«b_max») (m .x) (m .beta)) (startAt left right s))) ⌝ }
 {
     match guess {
         Answer::Value(s) => Start::Looping(branch, m, start_at(left, right, s)),
@@ -254,34 +257,34 @@ fn looping(branch: u8, m: Market, left: f64, right: f64, guess: Answer) -> Start
 }
 
 // Below b_c: branches 1 and 2.
-fn lower_start(m: Market, s_c: f64, b_c: f64, v_c: f64) -> Start
-    requires { ⌜ Shared m ⌝ }
-    ensures { λ r. ⌜ Begins rule-set-0 r (lowerBegun rule-set-0 (m .x) (m .beta) «s_c» «b_c» «v_c») ⌝ }
+fn lower_start(set: RuleSet, m: NormalisedMarket, s_c: f64, b_c: f64, v_c: f64) -> Start
+    requires { ⌜ HasExponentials m ⌝ }
+    ensures { λ r. ⌜ Implements set r (lowerStart set (m .x) (m .beta) «s_c» «b_c» «v_c») ⌝ }
 {
     let s_l = s_c - b_c / v_c;
-    let p = priced(m, s_l);
+    let p = price_and_vega_at(set, m, s_l);
     if p.number != 0 {
         return Start::Stopped(p.number);
     }
     let b_l = p.price;
     if m.beta < b_l {
-        let guess = lower_guess(m.x, m.beta, b_l, s_l);
-        return looping(1, m, MIN, s_l, guess);
+        let guess = lower_guess(set, m.x, m.beta, b_l, s_l);
+        return start_loop(set, LOWER, m, MIN, s_l, guess);
     }
     let guess = middle_guess(m.beta, b_l, b_c, s_l, s_c, p.vega, v_c, Side::Right);
-    looping(2, m, s_l, s_c, guess)
+    start_loop(set, LOWER_MIDDLE, m, s_l, s_c, guess)
 }
 
 // Above b_h: branches 4 and 5.
-fn tail_start(m: Market, b_h: f64, s_h: f64) -> Start
-    requires { ⌜ Shared m ⌝ }
-    ensures { λ r. ⌜ Begins rule-set-0 r (tailBegun rule-set-0 (m .x) (m .beta) (m .«b_max») «b_h» «s_h») ⌝ }
+fn tail_start(set: RuleSet, m: NormalisedMarket, b_h: f64, s_h: f64) -> Start
+    requires { ⌜ HasExponentials m ⌝ }
+    ensures { λ r. ⌜ Implements set r (tailStart set (m .x) (m .beta) (m .«b_max») «b_h» «s_h») ⌝ }
 {
-    let guess = upper_guess(m.x, m.beta, m.b_max, b_h, s_h);
+    let guess = upper_guess(set, m.x, m.beta, m.b_max, b_h, s_h);
     if m.beta > 0.5 * m.b_max {
-        return looping(4, m, s_h, MAX, guess);
+        return start_loop(set, UPPER, m, s_h, MAX, guess);
     }
-    looping(5, m, s_h, MAX, guess)
+    start_loop(set, UPPER_REST, m, s_h, MAX, guess)
 }
 
 fn upper_place(b_max: f64, s_c: f64, b_c: f64, v_c: f64) -> f64
@@ -295,42 +298,42 @@ fn upper_place(b_max: f64, s_c: f64, b_c: f64, v_c: f64) -> f64
 }
 
 // From b_c on: branches 3, 4 and 5.
-fn upper_start(m: Market, s_c: f64, b_c: f64, v_c: f64) -> Start
-    requires { ⌜ Shared m ⌝ }
-    ensures { λ r. ⌜ Begins rule-set-0 r (upperBegun rule-set-0 (m .x) (m .beta) (m .«b_max») «s_c» «b_c» «v_c») ⌝ }
+fn upper_start(set: RuleSet, m: NormalisedMarket, s_c: f64, b_c: f64, v_c: f64) -> Start
+    requires { ⌜ HasExponentials m ⌝ }
+    ensures { λ r. ⌜ Implements set r (upperStart set (m .x) (m .beta) (m .«b_max») «s_c» «b_c» «v_c») ⌝ }
 {
     let s_h = upper_place(m.b_max, s_c, b_c, v_c);
-    let p = priced(m, s_h);
+    let p = price_and_vega_at(set, m, s_h);
     if p.number != 0 {
         return Start::Stopped(p.number);
     }
     let b_h = p.price;
     if m.beta <= b_h {
         let guess = middle_guess(m.beta, b_c, b_h, s_c, s_h, v_c, p.vega, Side::Left);
-        return looping(3, m, s_c, s_h, guess);
+        return start_loop(set, UPPER_MIDDLE, m, s_c, s_h, guess);
     }
-    tail_start(m, b_h, s_h)
+    tail_start(set, m, b_h, s_h)
 }
 
 // From the price at √(2 |x|) on.
-fn guessed_start(m: Market) -> Start
-    requires { ⌜ Shared m ⌝ }
-    ensures { λ r. ⌜ Begins rule-set-0 r (guessedBegun rule-set-0 (m .x) (m .beta) (m .«b_max»)) ⌝ }
+fn guessed_start(set: RuleSet, m: NormalisedMarket) -> Start
+    requires { ⌜ HasExponentials m ⌝ }
+    ensures { λ r. ⌜ Implements set r (guessedStart set (m .x) (m .beta) (m .«b_max»)) ⌝ }
 {
     let s_c = sqrt(2.0 * abs(m.x));
-    let p = priced(m, s_c);
+    let p = price_and_vega_at(set, m, s_c);
     if p.number != 0 {
         return Start::Stopped(p.number);
     }
     if m.beta < p.price {
-        return lower_start(m, s_c, p.price, p.vega);
+        return lower_start(set, m, s_c, p.price, p.vega);
     }
-    upper_start(m, s_c, p.price, p.vega)
+    upper_start(set, m, s_c, p.price, p.vega)
 }
 
 // From the target and x after all mapping.
-fn mapped_start(x: f64, beta: f64) -> Start
-    ensures { λ r. ⌜ Begins rule-set-0 r (mappedBegun rule-set-0 x beta) ⌝ }
+fn mapped_start(set: RuleSet, x: f64, beta: f64) -> Start
+    ensures { λ r. ⌜ Implements set r (mappedStart set x beta) ⌝ }
 {
     if beta <= 0.0 {
         return Start::Answered(0.0);
@@ -343,7 +346,7 @@ fn mapped_start(x: f64, beta: f64) -> Start
         return Start::Answered(MAX);
     }
     let down = exp(-0.5 * x);
-    guessed_start(Market {
+    guessed_start(set, NormalisedMarket {
         x,
         beta,
         b_max,
@@ -352,13 +355,13 @@ fn mapped_start(x: f64, beta: f64) -> Start
 }
 
 // The Rust's unchecked_normalised_implied_volatility_.., up to its loops.
-pub(crate) fn normalised_start(beta: f64, x: f64, option_type: OptionType) -> Start
-    ensures { λ r. ⌜ Begins rule-set-0 r (normalisedBegun rule-set-0 beta x «option_type») ⌝ }
+pub(crate) fn normalised_start(set: RuleSet, beta: f64, x: f64, option_type: OptionType) -> Start
+    ensures { λ r. ⌜ Implements set r (normalisedStart set beta x «option_type») ⌝ }
 {
     let mapped_x = option_type.times(x);
     if mapped_x > 0.0 {
         let mapped = max(beta - normalised_intrinsic(x, option_type), 0.0);
-        return mapped_start(mapped_x, mapped);
+        return mapped_start(set, mapped_x, mapped);
     }
-    mapped_start(mapped_x, beta)
+    mapped_start(set, mapped_x, beta)
 }

@@ -1,14 +1,17 @@
 // A line of relist, byte by byte.
-use crate::book::resolved;
-use crate::state::Solution;
+use crate::answers::Solution;
+use crate::book::solve_record;
+use crate::numbers::NO_SUCH_RECORD;
 use elementary::methods::bits_of;
+use elementary::rule_set::RULE_SET_0;
+use elementary::rule_set::RuleSet;
 ghost use mathlib.Core.Path.{_≡_};
 ghost use mathlib.Core.List.{[], _∷_};
 ghost use Prim.Native.Nat.{_+_, _≤_};
 ghost use lib.ListN.{length};
 ghost use Rattle.elementary.specs.RuleSets.{rule-set-0};
-ghost use Rattle.solver.specs.Trail.{laid};
-ghost use Rattle.solver.specs.Listing.{decimalBy, hexDigit, hexBy, spaced, answerBytes, answerAt, lineOf, lineIn};
+ghost use Rattle.solver.specs.LittleEndian.{overwritten};
+ghost use Rattle.solver.specs.Listing.{decimalBy, hexDigit, hexBy, spaceAndCount, answerBytes, answerAt, lineOf, lineIn};
 
 // The bytes that any line fits in.
 const LINE_BYTES: usize = 128;
@@ -17,7 +20,7 @@ const LINE_BYTES: usize = 128;
 fn put_byte(out: &mut [u8], at: usize, byte: u8) -> usize
     requires { ⌜ at + 1 ≤ length (now out) ⌝ }
     ensures { λ r. ⌜ r ≡ at + 1 ⌝ }
-    ensures { λ _. ⌜ now (out .exit) ≡ laid at (byte ∷ []) (now (out .entry)) ⌝ }
+    ensures { λ _. ⌜ now (out .exit) ≡ overwritten at (byte ∷ []) (now (out .entry)) ⌝ }
 {
     out[at] = byte;
     at + 1
@@ -27,7 +30,7 @@ fn put_byte(out: &mut [u8], at: usize, byte: u8) -> usize
 fn put_decimal(out: &mut [u8], at: usize, digits: usize, n: u64) -> usize
     requires { ⌜ at + digits ≤ length (now out) ⌝ }
     ensures { λ r. ⌜ r ≡ at + length (decimalBy digits n) ⌝ }
-    ensures { λ _. ⌜ now (out .exit) ≡ laid at (decimalBy digits n) (now (out .entry)) ⌝ }
+    ensures { λ _. ⌜ now (out .exit) ≡ overwritten at (decimalBy digits n) (now (out .entry)) ⌝ }
 {
     if digits == 0 {
         return at;
@@ -50,7 +53,7 @@ fn hex_digit(d: u8) -> u8
 fn put_hex(out: &mut [u8], at: usize, digits: usize, n: u64) -> usize
     requires { ⌜ at + digits ≤ length (now out) ⌝ }
     ensures { λ r. ⌜ r ≡ at + length (hexBy digits n) ⌝ }
-    ensures { λ _. ⌜ now (out .exit) ≡ laid at (hexBy digits n) (now (out .entry)) ⌝ }
+    ensures { λ _. ⌜ now (out .exit) ≡ overwritten at (hexBy digits n) (now (out .entry)) ⌝ }
 {
     if digits == 0 {
         return at;
@@ -60,58 +63,65 @@ fn put_hex(out: &mut [u8], at: usize, digits: usize, n: u64) -> usize
 }
 
 // A space and a decimal count.
-fn put_spaced(out: &mut [u8], at: usize, n: u64) -> usize
+fn put_space_and_count(out: &mut [u8], at: usize, n: u64) -> usize
     requires { ⌜ at + 21 ≤ length (now out) ⌝ }
-    ensures { λ r. ⌜ r ≡ at + length (spaced n) ⌝ }
-    ensures { λ _. ⌜ now (out .exit) ≡ laid at (spaced n) (now (out .entry)) ⌝ }
+    ensures { λ r. ⌜ r ≡ at + length (spaceAndCount n) ⌝ }
+    ensures { λ _. ⌜ now (out .exit) ≡ overwritten at (spaceAndCount n) (now (out .entry)) ⌝ }
 {
     let end = put_byte(out, at, b' ');
     put_decimal(out, end, 20, n)
 }
 
 // What follows the record number, but for the line feed.
-fn put_told(out: &mut [u8], at: usize, answer: Solution) -> usize
+fn put_answer(out: &mut [u8], at: usize, answer: Solution) -> usize
     requires { ⌜ at + 80 ≤ length (now out) ⌝ }
     ensures { λ r. ⌜ r ≡ at + length (answerBytes answer) ⌝ }
-    ensures { λ _. ⌜ now (out .exit) ≡ laid at (answerBytes answer) (now (out .entry)) ⌝ }
+    ensures { λ _. ⌜ now (out .exit) ≡ overwritten at (answerBytes answer) (now (out .entry)) ⌝ }
 {
     let end = put_byte(out, at, b' ');
     match answer {
-        Solution::Solved(volatility, branch, ending, steps) => {
-            let end = put_hex(out, end, 16, bits_of(volatility));
-            let end = put_spaced(out, end, steps as u64);
-            let end = put_spaced(out, end, branch as u64);
-            put_spaced(out, end, ending as u64)
+        Solution::Solved(a) => {
+            let end = put_hex(out, end, 16, bits_of(a.volatility));
+            let end = put_space_and_count(out, end, a.steps as u64);
+            let end = put_space_and_count(out, end, a.branch as u64);
+            put_space_and_count(out, end, a.ending as u64)
         }
         Solution::Refused(n, _) => {
             let end = put_byte(out, end, b'R');
             let end = put_byte(out, end, b'E');
             let end = put_byte(out, end, b'F');
-            put_spaced(out, end, n as u64)
+            put_space_and_count(out, end, n as u64)
         }
     }
 }
 
 // What the record answers; a part under 64 bytes 23.
-fn answer_of(bytes: &[u8]) -> Solution
-    ensures { λ r. ⌜ r ≡ answerAt rule-set-0 (now (bytes .entry)) ⌝ }
+fn answer_of(set: RuleSet, bytes: &[u8]) -> Solution
+    ensures { λ r. ⌜ r ≡ answerAt set (now (bytes .entry)) ⌝ }
 {
     if bytes.len() < 64 {
-        return Solution::Refused(23, 0);
+        return Solution::Refused(NO_SUCH_RECORD, 0);
     }
-    resolved(bytes)
+    solve_record(set, bytes)
 }
 
 // Writes the line of record `index` to the start of `out` and answers its length. An `out` under 128
 // bytes stays as it is, and the answer is 0.
-pub fn line(index: u64, bytes: &[u8], out: &mut [u8]) -> usize
-    ensures { λ r. ⌜ r ≡ lineIn rule-set-0 index (now (bytes .entry)) (now (out .entry)) .count ⌝ }
-    ensures { λ _. ⌜ now (out .exit) ≡ lineIn rule-set-0 index (now (bytes .entry)) (now (out .entry)) .bytes ⌝ }
+fn line_under(set: RuleSet, index: u64, bytes: &[u8], out: &mut [u8]) -> usize
+    ensures { λ r. ⌜ r ≡ lineIn set index (now (bytes .entry)) (now (out .entry)) .count ⌝ }
+    ensures { λ _. ⌜ now (out .exit) ≡ lineIn set index (now (bytes .entry)) (now (out .entry)) .bytes ⌝ }
 {
     if out.len() < LINE_BYTES {
         return 0;
     }
     let end = put_decimal(out, 0, 20, index);
-    let end = put_told(out, end, answer_of(bytes));
+    let end = put_answer(out, end, answer_of(set, bytes));
     put_byte(out, end, b'\n')
+}
+
+pub fn line(index: u64, bytes: &[u8], out: &mut [u8]) -> usize
+    ensures { λ r. ⌜ r ≡ lineIn rule-set-0 index (now (bytes .entry)) (now (out .entry)) .count ⌝ }
+    ensures { λ _. ⌜ now (out .exit) ≡ lineIn rule-set-0 index (now (bytes .entry)) (now (out .entry)) .bytes ⌝ }
+{
+    line_under(RULE_SET_0, index, bytes, out)
 }

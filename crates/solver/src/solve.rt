@@ -1,21 +1,36 @@
 // solve: `implied_volatility_from_a_transformed_rational_guess_with_limited_iterations` of so_rational.rs
 // with document 01's refusals, its trail, and the wrapper of mod.rs.
+use crate::answers::ImpliedVolatility;
+use crate::answers::Solution;
 use crate::guess::normalised_start;
-use crate::market::Market;
-use crate::state::Left;
-use crate::state::Solution;
+use crate::normalised_market::NormalisedMarket;
+use crate::numbers::LIMIT;
+use crate::numbers::NO_BRANCH;
+use crate::numbers::NO_LOOP;
+use crate::numbers::PRICE_REFUSED;
+use crate::numbers::STEP_TEST;
+use crate::numbers::TRAIL_TOO_SHORT;
+use crate::quote::Quote;
+use crate::state::LoopExit;
 use crate::state::Start;
 use crate::state::State;
-use crate::state::Stepped;
+use crate::state::StepResult;
 use crate::step::is_close;
 use crate::step::step;
 use crate::trail::put_record;
+use elementary::limits::MAX;
+use elementary::limits::MIN;
 use elementary::ln::ln;
 use elementary::methods::max;
+use elementary::rule_set::RULE_SET_0;
+use elementary::rule_set::RuleSet;
 use elementary::sqrt::sqrt;
 use prices::black::is_finite;
 use prices::black::is_positive_normal;
 use prices::inputs::OptionType;
+use prices::refusals::EXPIRY_REFUSED;
+use prices::refusals::FORWARD_REFUSED;
+use prices::refusals::STRIKE_REFUSED;
 ghost use mathlib.Core.Path.{_≡_};
 ghost use mathlib.Core.Bool.{true};
 ghost use Prim.Native.Nat.{_*_, _≤_};
@@ -24,52 +39,64 @@ ghost use Rattle.elementary.specs.RuleSets.{rule-set-0};
 ghost use Rattle.solver.specs.Loop.{run as runOf};
 ghost use Rattle.solver.specs.Step.{nextBy};
 ghost use Rattle.solver.specs.Inside.Branch.{branchStep};
-ghost use Rattle.solver.specs.Inside.Market.{Shared, SharedIn, begunFrom, Begins};
-ghost use Rattle.solver.specs.Inside.Trail.{keptAfter};
-ghost use Rattle.solver.specs.Solve.{capOf, overExpiry, acceptedBegun, inputNumber, ran, solvingWith, solveOf, solveWithTrail, stepsOf};
+ghost use Rattle.solver.specs.Inside.Start.{HasExponentials, HasExponentialsIn, startMeaning, Implements};
+ghost use Rattle.solver.specs.Inside.Trail.{trailIfKept};
+ghost use Rattle.solver.specs.Solve.{capOf, overExpiry, acceptedStart, inputNumber, resultOfRun, solveKeeping, solveOf, solveWithTrail, quoteOf, stepsOf};
 ghost use Rattle.solver.specs.Trail.{trailAfter};
 
 const IMPLIED_VOLATILITY_MAXIMUM_ITERATIONS: u32 = 2;
 
-const VOLATILITY_VALUE_TO_SIGNAL_PRICE_IS_ABOVE_MAXIMUM: f64 = 1.7976931348623157e308;
+const VOLATILITY_VALUE_TO_SIGNAL_PRICE_IS_ABOVE_MAXIMUM: f64 = MAX;
 
-const VOLATILITY_VALUE_TO_SIGNAL_PRICE_IS_BELOW_INTRINSIC: f64 = -1.7976931348623157e308;
+const VOLATILITY_VALUE_TO_SIGNAL_PRICE_IS_BELOW_INTRINSIC: f64 = MIN;
 
 // 1, 2, 3, 4 in this order, or 0 where none is met.
-pub(crate) fn input_number(price: f64, forward: f64, strike: f64, expiry: f64) -> u8
-    ensures { λ r. ⌜ r ≡ inputNumber price forward strike expiry ⌝ }
+pub(crate) fn input_number(quote: Quote) -> u8
+    ensures { λ r. ⌜ r ≡ inputNumber quote ⌝ }
 {
-    if is_finite(price) {
-        if is_positive_normal(forward) {
-            if is_positive_normal(strike) {
-                if is_positive_normal(expiry) {
+    if is_finite(quote.price) {
+        if is_positive_normal(quote.forward) {
+            if is_positive_normal(quote.strike) {
+                if is_positive_normal(quote.expiry) {
                     return 0;
                 }
-                return 4;
+                return EXPIRY_REFUSED;
             }
-            return 3;
+            return STRIKE_REFUSED;
         }
-        return 2;
+        return FORWARD_REFUSED;
     }
-    1
+    PRICE_REFUSED
 }
 
 // ---- before the loop
 
 // The price from which on no volatility is looked for.
-fn max_price(option_type: OptionType, forward: f64, strike: f64) -> f64
-    ensures { λ r. ⌜ r ≡ capOf rule-set-0 «option_type» forward strike ⌝ }
+fn max_price(set: RuleSet, option_type: OptionType, forward: f64, strike: f64) -> f64
+    ensures { λ r. ⌜ r ≡ capOf set «option_type» forward strike ⌝ }
 {
     match option_type {
-        OptionType::Call => strike,
-        OptionType::Put => forward,
+        OptionType::Call => {
+            if set.textbook_cap {
+                forward
+            } else {
+                strike
+            }
+        }
+        OptionType::Put => {
+            if set.textbook_cap {
+                strike
+            } else {
+                forward
+            }
+        }
     }
 }
 
 // A volatility over one unit of time, as one over the expiry.
-fn over_expiry(expiry: f64, start: Start) -> Start
-    requires { ⌜ SharedIn start ⌝ }
-    ensures { λ r. ⌜ Begins rule-set-0 r (overExpiry expiry (begunFrom rule-set-0 start)) ⌝ }
+fn over_expiry(set: RuleSet, expiry: f64, start: Start) -> Start
+    requires { ⌜ HasExponentialsIn start ⌝ }
+    ensures { λ r. ⌜ Implements set r (overExpiry expiry (startMeaning set start)) ⌝ }
 {
     match start {
         Start::Answered(v) => Start::Answered(v / sqrt(expiry)),
@@ -78,20 +105,19 @@ fn over_expiry(expiry: f64, start: Start) -> Start
     }
 }
 
-fn accepted_start(
-    price: f64,
-    forward: f64,
-    strike: f64,
-    expiry: f64,
-    option_type: OptionType,
-) -> Start
-    ensures { λ r. ⌜ Begins rule-set-0 r (acceptedBegun rule-set-0 price forward strike expiry «option_type») ⌝ }
+fn accepted_start(set: RuleSet, quote: Quote) -> Start
+    ensures { λ r. ⌜ Implements set r (acceptedStart set quote) ⌝ }
 {
+    let price = quote.price;
+    let forward = quote.forward;
+    let strike = quote.strike;
+    let expiry = quote.expiry;
+    let option_type = quote.option_type;
     let intrinsic = max(option_type.times(forward - strike), 0.0);
     if price < intrinsic {
         return Start::Answered(VOLATILITY_VALUE_TO_SIGNAL_PRICE_IS_BELOW_INTRINSIC);
     }
-    if price >= max_price(option_type, forward, strike) {
+    if price >= max_price(set, option_type, forward, strike) {
         return Start::Answered(VOLATILITY_VALUE_TO_SIGNAL_PRICE_IS_ABOVE_MAXIMUM);
     }
     let x = ln(forward / strike);
@@ -99,40 +125,46 @@ fn accepted_start(
     if option_type.times(x) > 0.0 {
         let mapped = max(price - intrinsic, 0.0);
         return over_expiry(
+            set,
             expiry,
-            normalised_start(mapped / root, x, option_type.neg()),
+            normalised_start(set, mapped / root, x, option_type.neg()),
         );
     }
-    over_expiry(expiry, normalised_start(price / root, x, option_type))
+    over_expiry(
+        set,
+        expiry,
+        normalised_start(set, price / root, x, option_type),
+    )
 }
 
 // ---- the loop
 
 // The branch's loop from its starting state, with the trail's records where `keep` is true.
 fn run(
+    set: RuleSet,
     branch: u8,
-    m: Market,
+    m: NormalisedMarket,
     root: f64,
     start: State,
     limit: u32,
     trail: &mut [u8],
     keep: bool,
 ) -> Solution
-    requires { ⌜ Shared m ⌝ ∗ ⌜ (keep ≡ true → 48 * limit ≤ length (now trail)) ⌝ }
-    ensures { λ r. ⌜ r ≡ ran branch root (runOf (nextBy (branchStep rule-set-0 branch (m .«b_max») (m .x) (m .beta))) limit start) .answer ⌝ }
-    ensures { λ _. ⌜ now (trail .exit) ≡ keptAfter keep (runOf (nextBy (branchStep rule-set-0 branch (m .«b_max») (m .x) (m .beta))) limit start .records) (now (trail .entry)) ⌝ }
+    requires { ⌜ HasExponentials m ⌝ ∗ ⌜ (keep ≡ true → 48 * limit ≤ length (now trail)) ⌝ }
+    ensures { λ r. ⌜ r ≡ resultOfRun branch root (runOf (nextBy (branchStep set branch (m .«b_max») (m .x) (m .beta))) limit start) .answer ⌝ }
+    ensures { λ _. ⌜ now (trail .exit) ≡ trailIfKept keep (runOf (nextBy (branchStep set branch (m .«b_max») (m .x) (m .beta))) limit start .records) (now (trail .entry)) ⌝ }
 {
     let mut st = start;
     let mut steps: u32 = 0;
-    let left = loop {
+    let exit = loop {
         if steps >= limit {
-            break Left { ending: 2, st };
+            break LoopExit { ending: LIMIT, st };
         }
         if is_close(st) {
-            break Left { ending: 1, st };
+            break LoopExit { ending: STEP_TEST, st };
         }
-        match step(branch, m, st) {
-            Stepped::Went(next, r) => {
+        match step(set, branch, m, st) {
+            StepResult::Completed(next, r) => {
                 if keep {
                     let at = steps as usize * 48;
                     put_record(&mut trail[at..], r);
@@ -140,42 +172,45 @@ fn run(
                 st = next;
                 steps += 1;
             }
-            Stepped::Refused(n) => {
+            StepResult::Refused(n) => {
                 return Solution::Refused(n, steps);
             }
         }
     };
-    let last = left.st;
-    Solution::Solved(last.s / root, branch, left.ending, steps)
+    let last = exit.st;
+    Solution::Solved(ImpliedVolatility {
+        volatility: last.s / root,
+        branch,
+        ending: exit.ending,
+        steps,
+    })
 }
 
 // ---- solve
 
 // With a trail where `keep` is true, else without one.
-fn solve(
-    price: f64,
-    forward: f64,
-    strike: f64,
-    expiry: f64,
-    option_type: OptionType,
-    limit: u32,
-    trail: &mut [u8],
-    keep: bool,
-) -> Solution
-    ensures { λ r. ⌜ r ≡ solvingWith rule-set-0 keep (length (now (trail .entry))) price forward strike expiry «option_type» limit .answer ⌝ }
-    ensures { λ _. ⌜ now (trail .exit) ≡ keptAfter keep (solvingWith rule-set-0 keep (length (now (trail .entry))) price forward strike expiry «option_type» limit .records) (now (trail .entry)) ⌝ }
+fn solve(set: RuleSet, quote: Quote, limit: u32, trail: &mut [u8], keep: bool) -> Solution
+    ensures { λ r. ⌜ r ≡ solveKeeping set keep (length (now (trail .entry))) quote limit .answer ⌝ }
+    ensures { λ _. ⌜ now (trail .exit) ≡ trailIfKept keep (solveKeeping set keep (length (now (trail .entry))) quote limit .records) (now (trail .entry)) ⌝ }
 {
-    let number = input_number(price, forward, strike, expiry);
+    let number = input_number(quote);
     if number != 0 {
         return Solution::Refused(number, 0);
     }
     if keep && trail.len() < limit as usize * 48 {
-        return Solution::Refused(21, 0);
+        return Solution::Refused(TRAIL_TOO_SHORT, 0);
     }
-    match accepted_start(price, forward, strike, expiry, option_type) {
-        Start::Answered(v) => Solution::Solved(v, 0, 0, 0),
+    match accepted_start(set, quote) {
+        Start::Answered(v) => Solution::Solved(ImpliedVolatility {
+            volatility: v,
+            branch: NO_BRANCH,
+            ending: NO_LOOP,
+            steps: 0,
+        }),
         Start::Stopped(n) => Solution::Refused(n, 0),
-        Start::Looping(branch, m, st) => run(branch, m, sqrt(expiry), st, limit, trail, keep),
+        Start::Looping(branch, m, st) => {
+            run(set, branch, m, sqrt(quote.expiry), st, limit, trail, keep)
+        }
     }
 }
 
@@ -197,22 +232,28 @@ pub fn implied_volatility_from_a_transformed_rational_guess_with_limited_iterati
     max_iteration: i32,
     trail: &mut [u8],
 ) -> Solution
-    ensures { λ r. ⌜ r ≡ solveWithTrail rule-set-0 «market_price» «forward_price» «strike_price» «time_to_maturity» «option_type» (stepsOf «max_iteration») (length (now (trail .entry))) .answer ⌝ }
-    ensures { λ _. ⌜ now (trail .exit) ≡ trailAfter (solveWithTrail rule-set-0 «market_price» «forward_price» «strike_price» «time_to_maturity» «option_type» (stepsOf «max_iteration») (length (now (trail .entry))) .records) (now (trail .entry)) ⌝ }
+    ensures { λ r. ⌜ r ≡ solveWithTrail rule-set-0 (quoteOf «market_price» «forward_price» «strike_price» «time_to_maturity» «option_type») (stepsOf «max_iteration») (length (now (trail .entry))) .answer ⌝ }
+    ensures { λ _. ⌜ now (trail .exit) ≡ trailAfter (solveWithTrail rule-set-0 (quoteOf «market_price» «forward_price» «strike_price» «time_to_maturity» «option_type») (stepsOf «max_iteration») (length (now (trail .entry))) .records) (now (trail .entry)) ⌝ }
 {
-    solve(
-        market_price,
-        forward_price,
-        strike_price,
-        time_to_maturity,
+    let quote = Quote {
+        price: market_price,
+        forward: forward_price,
+        strike: strike_price,
+        expiry: time_to_maturity,
         option_type,
-        steps_of(max_iteration),
-        trail,
-        true,
-    )
+    };
+    solve(RULE_SET_0, quote, steps_of(max_iteration), trail, true)
 }
 
-// The same without a trail, for max(limit, 0) steps.
+// The same of a quote without a trail, under any rule set and for max(limit, 0) steps.
+pub fn solve_quote(set: RuleSet, quote: Quote, limit: u32) -> Solution
+    ensures { λ r. ⌜ r ≡ solveOf set quote limit .answer ⌝ }
+{
+    let mut none = [0u8; 1];
+    solve(set, quote, limit, &mut none, false)
+}
+
+// The same by document 01's rules.
 pub fn solve_without_trail(
     price: f64,
     forward: f64,
@@ -221,19 +262,16 @@ pub fn solve_without_trail(
     option_type: OptionType,
     limit: u32,
 ) -> Solution
-    ensures { λ r. ⌜ r ≡ solveOf rule-set-0 price forward strike expiry «option_type» limit .answer ⌝ }
+    ensures { λ r. ⌜ r ≡ solveOf rule-set-0 (quoteOf price forward strike expiry «option_type») limit .answer ⌝ }
 {
-    let mut none = [0u8; 1];
-    solve(
+    let quote = Quote {
         price,
         forward,
         strike,
         expiry,
         option_type,
-        limit,
-        &mut none,
-        false,
-    )
+    };
+    solve_quote(RULE_SET_0, quote, limit)
 }
 
 // The limit is 2.
@@ -244,7 +282,7 @@ pub fn implied_volatility_from_a_transformed_rational_guess(
     time_to_maturity: f64,
     option_type: OptionType,
 ) -> Solution
-    ensures { λ r. ⌜ r ≡ solveOf rule-set-0 «market_price» «forward_price» «strike_price» «time_to_maturity» «option_type» 2 .answer ⌝ }
+    ensures { λ r. ⌜ r ≡ solveOf rule-set-0 (quoteOf «market_price» «forward_price» «strike_price» «time_to_maturity» «option_type») 2 .answer ⌝ }
 {
     solve_without_trail(
         market_price,

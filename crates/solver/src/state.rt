@@ -1,5 +1,5 @@
-// What the loops carry and what solve answers.
-use crate::market::Market;
+// What the loops carry.
+use crate::normalised_market::NormalisedMarket;
 
 // A loop's state: document 01's five floats.
 pub struct State {
@@ -10,14 +10,14 @@ pub struct State {
     pub right: f64,
 }
 
-// The bracket's ends.
-pub struct Ends {
+// The ends between which s is looked for.
+pub struct Bracket {
     pub left: f64,
     pub right: f64,
 }
 
 // A map's value with its first two derivatives: the Rust's triple.
-pub struct Mapped {
+pub struct MapAndDerivatives {
     pub f: f64,
     pub fp: f64,
     pub fpp: f64,
@@ -34,9 +34,9 @@ pub struct Record {
     pub after: f64,
 }
 
-// A step leads on, or meets 7.
-pub enum Stepped {
-    Went(State, Record),
+// A step is completed, or meets 7.
+pub enum StepResult {
+    Completed(State, Record),
     Refused(u8),
 }
 
@@ -45,30 +45,11 @@ pub enum Stepped {
 pub enum Start {
     Answered(f64),
     Stopped(u8),
-    Looping(u8, Market, State),
+    Looping(u8, NormalisedMarket, State),
 }
 
-// What a loop yields where it is left: its ending, 1 step test or 2 limit, with the state.
-pub struct Left {
+// How a loop ends, and its last state.
+pub struct LoopExit {
     pub ending: u8,
     pub st: State,
-}
-
-// What solve answers: volatility, branch, ending and steps, or the number and the completed steps.
-pub enum Solution {
-    Solved(f64, u8, u8, u32),
-    Refused(u8, u32),
-}
-
-// What filing answers: the used count after it, or a number and the completed steps.
-pub enum Filing {
-    Filed(u64),
-    Refused(u8, u32),
-}
-
-// What a recheck answers.
-pub enum Checking {
-    Agrees,
-    Differs,
-    Refused(u8, u32),
 }

@@ -1,24 +1,24 @@
 // The Householder steps of so_rational.rs: the lower loop's (branch 1), the upper loop's (branch 4)
 // and the general one's (branches 2, 3 and 5).
-use crate::market::Market;
-use crate::market::priced;
-use crate::state::Ends;
+use crate::normalised_market::NormalisedMarket;
+use crate::normalised_market::price_and_vega_at;
+use crate::numbers::LOWER;
+use crate::numbers::UPPER;
+use crate::state::Bracket;
 use crate::state::Record;
 use crate::state::State;
-use crate::state::Stepped;
+use crate::state::StepResult;
+use elementary::limits::EPSILON;
+use elementary::limits::MIN;
 use elementary::ln::ln;
 use elementary::methods::abs;
 use elementary::methods::max;
 use elementary::methods::powi_2;
+use elementary::rule_set::RuleSet;
 ghost use mathlib.Core.Path.{_≡_};
-ghost use Rattle.elementary.specs.RuleSets.{rule-set-0};
-ghost use Rattle.solver.specs.Inside.Market.{Shared};
-ghost use Rattle.solver.specs.Step.{householderFactor, endsAfter, toMiddle, halleyOf, hh3Of, lowerDs, upperDs, generalDs, isClose};
+ghost use Rattle.solver.specs.Inside.Start.{HasExponentials};
+ghost use Rattle.solver.specs.Step.{householderFactor, bracketAfter, toMiddle, halleyOf, hh3Of, lowerDs, upperDs, generalDs, isClose};
 ghost use Rattle.solver.specs.Inside.Branch.{branchDs, branchAfter, branchStep};
-
-const EPSILON: f64 = 2.220446049250313e-16;
-// f64::MIN, which is the largest number with its sign turned.
-const MIN: f64 = -1.7976931348623157e308;
 
 fn householder_factor(newton: f64, halley: f64, hh3: f64) -> f64
     ensures { λ r. ⌜ r ≡ householderFactor newton halley hh3 ⌝ }
@@ -27,20 +27,20 @@ fn householder_factor(newton: f64, halley: f64, hh3: f64) -> f64
 }
 
 // The bracket's move after a price b at s.
-fn ends_after(b: f64, beta: f64, s: f64, left: f64, right: f64) -> Ends
-    ensures { λ r. ⌜ r ≡ endsAfter b beta s left right ⌝ }
+fn bracket_after(b: f64, beta: f64, s: f64, left: f64, right: f64) -> Bracket
+    ensures { λ r. ⌜ r ≡ bracketAfter b beta s left right ⌝ }
 {
     if b > beta && s < right {
-        Ends { left, right: s }
+        Bracket { left, right: s }
     } else if b < beta && s > left {
-        Ends { left: s, right }
+        Bracket { left: s, right }
     } else {
-        Ends { left, right }
+        Bracket { left, right }
     }
 }
 
 // The middle of the bracket, as a step from s.
-fn to_middle(bracket: Ends, s: f64) -> f64
+fn to_middle(bracket: Bracket, s: f64) -> f64
     ensures { λ r. ⌜ r ≡ toMiddle bracket s ⌝ }
 {
     0.5 * (bracket.left + bracket.right) - s
@@ -59,7 +59,7 @@ fn hh3_of(halley: f64, x: f64, s: f64) -> f64
 }
 
 // The lower loop's ds, in ln b.
-fn lower_ds(x: f64, beta: f64, s: f64, b: f64, bp: f64, bracket: Ends) -> f64
+fn lower_ds(x: f64, beta: f64, s: f64, b: f64, bp: f64, bracket: Bracket) -> f64
     ensures { λ r. ⌜ r ≡ lowerDs x beta s b bp bracket ⌝ }
 {
     if b <= 0.0 || bp <= 0.0 {
@@ -80,7 +80,7 @@ fn lower_ds(x: f64, beta: f64, s: f64, b: f64, bp: f64, bracket: Ends) -> f64
 }
 
 // The upper loop's ds, in ln of what is left to the cap.
-fn upper_ds(b_max: f64, x: f64, beta: f64, s: f64, b: f64, bp: f64, bracket: Ends) -> f64
+fn upper_ds(b_max: f64, x: f64, beta: f64, s: f64, b: f64, bp: f64, bracket: Bracket) -> f64
     ensures { λ r. ⌜ r ≡ upperDs «b_max» x beta s b bp bracket ⌝ }
 {
     if b >= b_max || bp <= MIN {
@@ -99,7 +99,7 @@ fn upper_ds(b_max: f64, x: f64, beta: f64, s: f64, b: f64, bp: f64, bracket: End
 }
 
 // The general loop's ds, for which the bracket counts nothing; the max binds to the factor alone.
-fn general_ds(x: f64, beta: f64, s: f64, b: f64, bp: f64, bracket: Ends) -> f64
+fn general_ds(x: f64, beta: f64, s: f64, b: f64, bp: f64, bracket: Bracket) -> f64
     ensures { λ r. ⌜ r ≡ generalDs x beta s b bp bracket ⌝ }
 {
     let newton = (beta - b) / bp;
@@ -117,13 +117,13 @@ fn branch_ds(
     s: f64,
     b: f64,
     bp: f64,
-    bracket: Ends,
+    bracket: Bracket,
 ) -> f64
     ensures { λ r. ⌜ r ≡ branchDs branch «b_max» x beta s b bp bracket ⌝ }
 {
-    if branch == 1 {
+    if branch == LOWER {
         lower_ds(x, beta, s, b, bp, bracket)
-    } else if branch == 4 {
+    } else if branch == UPPER {
         upper_ds(b_max, x, beta, s, b, bp, bracket)
     } else {
         general_ds(x, beta, s, b, bp, bracket)
@@ -134,9 +134,9 @@ fn branch_ds(
 fn branch_after(branch: u8, s: f64, ds: f64) -> f64
     ensures { λ r. ⌜ r ≡ branchAfter branch s ds ⌝ }
 {
-    if branch == 1 {
+    if branch == LOWER {
         s + max(ds, -0.5 * s)
-    } else if branch == 4 {
+    } else if branch == UPPER {
         s + max(ds, -0.5 * s)
     } else {
         s + ds
@@ -144,23 +144,23 @@ fn branch_after(branch: u8, s: f64, ds: f64) -> f64
 }
 
 // One Householder step of the branch's loop.
-pub(crate) fn step(branch: u8, m: Market, st: State) -> Stepped
-    requires { ⌜ Shared m ⌝ }
-    ensures { λ r. ⌜ r ≡ branchStep rule-set-0 branch (m .«b_max») (m .x) (m .beta) st ⌝ }
+pub(crate) fn step(set: RuleSet, branch: u8, m: NormalisedMarket, st: State) -> StepResult
+    requires { ⌜ HasExponentials m ⌝ }
+    ensures { λ r. ⌜ r ≡ branchStep set branch (m .«b_max») (m .x) (m .beta) st ⌝ }
 {
     let s = st.s;
-    let p = priced(m, s);
+    let p = price_and_vega_at(set, m, s);
     if p.number != 0 {
-        return Stepped::Refused(p.number);
+        return StepResult::Refused(p.number);
     }
     let b = p.price;
     let vega = p.vega;
-    let bracket = ends_after(b, m.beta, s, st.left, st.right);
+    let bracket = bracket_after(b, m.beta, s, st.left, st.right);
     let ds = branch_ds(branch, m.b_max, m.x, m.beta, s, b, vega, bracket);
     let after = branch_after(branch, s, ds);
     let left = bracket.left;
     let right = bracket.right;
-    Stepped::Went(
+    StepResult::Completed(
         State {
             s: after,
             ds,

@@ -7,27 +7,27 @@ use lib.IntN.{ℤ}
 use lib.ListN.{length}
 use lib.Ieee.{Float}
 use Rattle.prices.specs.declared.inputs.OptionType.the-variants.{Call, Put}
-use Rattle.solver.specs.declared.state.Solution.{Solution}
-use Rattle.solver.specs.declared.state.Solution.the-variants.{Refused}
-use Rattle.solver.specs.declared.state.Filing.{Filing}
-use Rattle.solver.specs.declared.state.Filing.the-variants.{Refused as NotFiled}
+use Rattle.solver.specs.declared.answers.Solution.{Solution}
+use Rattle.solver.specs.declared.answers.Solution.the-variants.{Refused}
+use Rattle.solver.specs.declared.answers.Filing.{Filing}
+use Rattle.solver.specs.declared.answers.Filing.the-variants.{Refused as NotFiled}
 use Rattle.elementary.specs.RuleSets.{rule-set-0}
-use Rattle.solver.specs.Solve.{Solving, solveWithTrail, stepsOf}
+use Rattle.solver.specs.Solve.{SolveResult, solveWithTrail, stepsOf}
 use Rattle.solver.specs.Trail.{trailAfter}
-use Rattle.solver.specs.Book.{FiledBook, fileOf}
+use Rattle.solver.specs.Book.{FileResult, fileOf}
 use Rattle.abi.specs.Solutions.{solvingAt, filingAt}
 
 -- solve's answer and the trail that it left
-abbrev pub Solves : Solving → List ℕ → Solution → List ℕ → Type 0
+abbrev pub Solves : SolveResult → List ℕ → Solution → List ℕ → Type 0
 Solves w old answer trail = (answer ≡ w .answer) × (trail ≡ trailAfter (w .records) old)
 
 -- file's answer and the book that it left
-abbrev pub Files : FiledBook → Filing → List ℕ → Type 0
+abbrev pub Files : FileResult → Filing → List ℕ → Type 0
 Files w answer book = (answer ≡ w .answer) × (book ≡ w .book)
 
 module _ (kind : ℕ) (price forward strike expiry : Float) (limit : ℤ) (old : List ℕ) where
   module _ (answer : Solution) (trail : List ℕ) where
-    abbrev w : Solving
+    abbrev w : SolveResult
     w = solvingAt kind price forward strike expiry limit (length old)
 
     pub solves-call : kind ≡ 1 → Solves (solveWithTrail rule-set-0 price forward strike expiry Call (stepsOf limit) (length old)) old answer trail → Solves w old answer trail
@@ -43,7 +43,7 @@ module _ (kind : ℕ) (price forward strike expiry : Float) (limit : ℤ) (old :
     solves-none a b e t = rw (ne-eqb kind 1 a, ne-eqb kind 2 b) (e, t)
 
   module _ (used : ℕ) (answer : Filing) (book : List ℕ) where
-    abbrev f : FiledBook
+    abbrev f : FileResult
     f = filingAt kind price forward strike expiry limit old used
 
     pub files-call : kind ≡ 1 → Files (fileOf price forward strike expiry Call limit old used rule-set-0) answer book → Files f answer book

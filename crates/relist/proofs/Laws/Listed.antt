@@ -8,15 +8,15 @@ use native.Mathlib.Omega.{arith}
 use lib.ListN.{length, take, drop, length-append, length-drop, drop-of-length-le}
 use lib.Seq.{take-all, drop-drop}
 use Rattle.elementary.specs.RuleSets.{rule-set-0}
-use Rattle.solver.specs.Trail.{laid}
+use Rattle.solver.specs.LittleEndian.{overwritten}
 use Rattle.solver.specs.Listing.{lineOf}
-use Rattle.solver.proofs.Laws.Laid.{Put, put-both, put-none}
+use Rattle.solver.proofs.Laws.Overwritten.{Put, put-both, put-none}
 use Rattle.solver.proofs.Laws.Lines.{line-length}
 use Rattle.relist.specs.Lines.{linesOf}
 use Rattle.relist.proofs.Laws.Blocks.{lines-none, lines-more}
 
 -- a record is 64 bytes or what is left
-module _ (block : List ℕ) (at end : ℕ) (inside : at < length block) (ends : end ≡ min (at + 64) (length block)) where
+module _ (block : List ℕ) (at end : ℕ) (inside : at < length block) (stop : end ≡ min (at + 64) (length block)) where
   one-record : take (end - at) (drop at block) ≡ take 64 (drop at block)
   one-record =
       ⊎-elim
@@ -48,9 +48,9 @@ module _ (first : ℕ) (block old : List ℕ) where
   module _ (lines : List ℕ) (index at used : ℕ) (so-far : So-far first block old lines index at used) where
     pub one-more : (end n : ℕ) (lines′ : List ℕ) → at < length block → end ≡ min (at + 64) (length block)
         → n ≡ length (lineOf rule-set-0 index (take (end - at) (drop at block)))
-        → lines′ ≡ laid used (lineOf rule-set-0 index (take (end - at) (drop at block))) lines
+        → lines′ ≡ overwritten used (lineOf rule-set-0 index (take (end - at) (drop at block))) lines
         → length lines′ ≡ length lines → So-far first block old lines′ (index + 1) end (used + n)
-    one-more end n lines′ inside ends count held long =
+    one-more end n lines′ inside stop count held long =
         let bytes : List ℕ = take (end - at) (drop at block) in
         let line : List ℕ = lineOf rule-set-0 index bytes in
         let short = line-length rule-set-0 index bytes in
@@ -58,14 +58,14 @@ module _ (first : ℕ) (block old : List ℕ) where
         record {
           written = so-far .written ++ line;
           put = put-both 0 (so-far .written) line old used lines (used + n) lines′ (omega arith) (so-far .put) (rw count, held);
-          rest = so-far .rest ∙ rw (lines-more index (drop at block) left, ← one-record block at end inside ends, behind-it block at end inside ends, append-assoc);
+          rest = so-far .rest ∙ rw (lines-more index (drop at block) left, ← one-record block at end inside stop, behind-it block at end inside stop, append-assoc);
           within = omega arith;
           long = long ∙ so-far .long;
           room = omega arith;
           counted = omega arith;
         }
 
-    pub all : length block ≤ at → (used ≡ length (linesOf first block)) × (lines ≡ laid 0 (linesOf first block) old)
+    pub all : length block ≤ at → (used ≡ length (linesOf first block)) × (lines ≡ overwritten 0 (linesOf first block) old)
     all past =
         let none : length (drop at block) ≡ 0 = simp length-drop (omega arith) in
         let e : linesOf first block ≡ so-far .written = so-far .rest ∙ rw (lines-none index (drop at block) none, append-nil) in
@@ -75,5 +75,5 @@ pub short-line : (i : ℕ) (bytes : List ℕ) (n : ℕ) → n ≡ length (lineOf
 short-line i bytes n e = omega (arith, line-length rule-set-0 i bytes)
 
 -- what is laid into a buffer lies within it
-pub laid-within : (bs old new : List ℕ) (n : ℕ) → n ≡ length bs → new ≡ laid 0 bs old → n ≤ length new
+pub laid-within : (bs old new : List ℕ) (n : ℕ) → n ≡ length bs → new ≡ overwritten 0 bs old → n ≤ length new
 laid-within bs old new n e f = rw f (simp length-append (omega arith))

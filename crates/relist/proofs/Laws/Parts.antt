@@ -8,7 +8,7 @@ use lib.ListN.{length, drop, length-drop, drop-of-length-le}
 use lib.Seq.{take-all, drop-drop}
 use borrow.Rule.Slice.PartMut.{midOf, postOf, putMid}
 use Rattle.elementary.specs.RuleSets.{rule-set-0}
-use Rattle.solver.specs.Trail.{laid}
+use Rattle.solver.specs.LittleEndian.{overwritten}
 use Rattle.solver.specs.Listing.{lineOf, lineIn}
 use Rattle.solver.proofs.Laws.Lines.{line-in}
 
@@ -19,13 +19,13 @@ module _ (at : ℕ) (out : List ℕ) where
   none-post : postOf at (length out - at) out ≡ []
   none-post = drop-of-length-le (drop at out) {i = length out - at} (simp length-drop (le-refl _))
 
-  part-laid : (bs ys : List ℕ) → ys ≡ laid 0 bs (drop at out) → putMid at (length out - at) out ys ≡ laid at bs out
+  part-laid : (bs ys : List ℕ) → ys ≡ overwritten 0 bs (drop at out) → putMid at (length out - at) out ys ≡ overwritten at bs out
   part-laid bs ys e = rw (e, none-post, append-nil, zero-add (length bs), drop-drop)
 
   pub line-laid : (i : ℕ) (bytes ys : List ℕ) (n : ℕ) → at + 128 ≤ length out
       → n ≡ lineIn rule-set-0 i bytes (midOf at (length out - at) out) .count
       → ys ≡ lineIn rule-set-0 i bytes (midOf at (length out - at) out) .bytes
-      → (n ≡ length (lineOf rule-set-0 i bytes)) × (putMid at (length out - at) out ys ≡ laid at (lineOf rule-set-0 i bytes) out)
+      → (n ≡ length (lineOf rule-set-0 i bytes)) × (putMid at (length out - at) out ys ≡ overwritten at (lineOf rule-set-0 i bytes) out)
   line-laid i bytes ys n room count held =
       let there : 128 ≤ length (drop at out) = simp length-drop (omega arith) in
       let e = line-in rule-set-0 i bytes (drop at out) there in

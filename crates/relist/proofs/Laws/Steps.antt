@@ -27,5 +27,5 @@ module _ (first : ℕ) (block old lines : List ℕ) (step : Step) (full : length
   pub goes-on : After first block old lines step → step .more ≡ true → step .next ≡ first + 1024
   goes-on a m = ⊎-elim (λ s. cc) (λ s. ap (λ (q : Step). q .next) s) (ends-or-goes-on a)
 
-  pub ends : After first block old lines step → step .more ≡ false → step .next ≡ first
-  ends a m = ⊎-elim (λ s. ap (λ (q : Step). q .next) s) (λ s. cc) (ends-or-goes-on a)
+  pub stop : After first block old lines step → step .more ≡ false → step .next ≡ first
+  stop a m = ⊎-elim (λ s. ap (λ (q : Step). q .next) s) (λ s. cc) (ends-or-goes-on a)

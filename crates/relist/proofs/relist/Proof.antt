@@ -6,7 +6,7 @@ use native.Mathlib.Omega.{arith}
 use lib.ListN.{length}
 use borrow.Author.Tests.{not-true, not-false}
 use borrow.Author.Needs.{needs}
-use Rattle.relist.proofs.Laws.Steps.{goes-on, ends}
+use Rattle.relist.proofs.Laws.Steps.{goes-on, stop}
 use Rattle.relist.proofs.relist.Statement.{statement}
 use Rattle.relist.proofs.relist.Tie as tie
 
@@ -34,7 +34,7 @@ returns c =
     let l = b .before .before .before .before in
     let full : length (b .relist-block .last .1 .0) ≡ 65536 = omega arith in
     let last = not-true _ (c .if1 .taken) in
-    record { cause = inl last; full-before = rw (ends (l .loop .index) _ _ _ _ full (b .relist-block .ensures) last) (l .loop .inv .2) }
+    record { cause = inl last; full-before = rw (stop (l .loop .index) _ _ _ _ full (b .relist-block .ensures) last) (l .loop .inv .2) }
 
 -- behind a full block the number is 1,024 higher
 next : (c : tie.Else1 Inv-loop μ-loop) → c .before .before .before .before .before .before .relist-block .result .next ≡ c .before .before .before .before .before .before .before .before .before .before .loop .index + 1024

@@ -5,7 +5,7 @@ use mathlib.Core.Bool.{false}
 use mathlib.Core.List.{List}
 use Prim.Native.Nat.{ℕ, _%_, _≤_}
 use lib.ListN.{length, take}
-use Rattle.solver.specs.Trail.{laid}
+use Rattle.solver.specs.LittleEndian.{overwritten}
 use Rattle.relist.specs.declared.Step.{Step}
 use Rattle.relist.specs.Lines.{linesOf, stepOf}
 
@@ -14,7 +14,7 @@ pub data After (first : ℕ) (block old lines : List ℕ) (step : Step) : Type 0
   -- a read or a write failed, and the run ends
   failure : step ≡ record { more = false; next = first } → After first block old lines step
   -- n bytes came, and their lines stand in the buffer
-  listing : (n : ℕ) → n ≤ length block → lines ≡ laid 0 (linesOf first (take n block)) old → step ≡ stepOf first n → After first block old lines step
+  listing : (n : ℕ) → n ≤ length block → lines ≡ overwritten 0 (linesOf first (take n block)) old → step ≡ stepOf first n → After first block old lines step
 
 -- after the last block
 pub record End (step : Step) : Type 0 where

@@ -13,30 +13,30 @@ use Rattle.prices.specs.Vega.{vegaOf}
 use Rattle.prices.specs.Black.{callOf}
 use Rattle.solver.specs.declared.state.State.{State}
 use Rattle.solver.specs.declared.state.Record.{Record}
-use Rattle.solver.specs.declared.state.Stepped.{Stepped}
-use Rattle.solver.specs.declared.state.Stepped.the-variants.{Went, Refused}
-use Rattle.solver.specs.Loop.{goes, ends, tested, run}
-use Rattle.solver.specs.declared.state.Ends.{Ends}
-use Rattle.solver.specs.Step.{endsAfter, dsAt, recordOf, stateAfter, withPrice, stepBy, isClose, turnOf, nextBy}
+use Rattle.solver.specs.declared.state.StepResult.{StepResult}
+use Rattle.solver.specs.declared.state.StepResult.the-variants.{Completed, Refused}
+use Rattle.solver.specs.Loop.{advance, stop, by-test, run}
+use Rattle.solver.specs.declared.state.Bracket.{Bracket}
+use Rattle.solver.specs.Step.{bracketAfter, dsAt, recordOf, stateAfter, withPrice, stepBy, isClose, transitionOf, nextBy}
 use Rattle.solver.specs.Promises.Demand3.{At, Linked, NotBelow, NotAbove, EndFrom}
 use Rattle.solver.proofs.Laws.Runs.{trace, every, linked, from}
 
 -- ---- a completed step, from the state that it starts at
-pub went : (step : State → Stepped) (st st′ : State) (r : Record) → nextBy step st ≡ goes r st′ → step st ≡ Went st′ r
+pub went : (step : State → StepResult) (st st′ : State) (r : Record) → nextBy step st ≡ advance r st′ → step st ≡ Completed st′ r
 went step st st′ r = cases (isClose st) (step st)
   where
-    cases : (c : Bool) (w : Stepped) → cond c (ends (tested st)) (turnOf w) ≡ goes r st′ → w ≡ Went st′ r
+    cases : (c : Bool) (w : StepResult) → cond c (stop (by-test st)) (transitionOf w) ≡ advance r st′ → w ≡ Completed st′ r
     cases true w e = cc
-    cases false (Went st″ q) e = cc
+    cases false (Completed st″ q) e = cc
     cases false (Refused n) e = cc
 
 -- ---- what it says of the ends: those of its record are the state's, moved by its price and its s, and the next state has them
 pub record Moved (beta : Float) (st st′ : State) (r : Record) : Type 0 where
-  pub bracket : endsAfter (r .b) beta (r .s) (st .left) (st .right) ≡ record { left = r .left; right = r .right }
+  pub bracket : bracketAfter (r .b) beta (r .s) (st .left) (st .right) ≡ record { left = r .left; right = r .right }
   pub left : st′ .left ≡ r .left
   pub right : st′ .right ≡ r .right
 
-module _ (dsOf : Float → Float → Float → Ends → Float) (afterOf : Float → Float → Float) (set : RuleSet) (x beta : Float) where
+module _ (dsOf : Float → Float → Float → Bracket → Float) (afterOf : Float → Float → Float) (set : RuleSet) (x beta : Float) where
   -- the record and the state of a completed step, and its s after
   pub record Completed (st st′ : State) (r : Record) : Type 0 where
     pub moved : Moved beta st st′ r
@@ -45,7 +45,7 @@ module _ (dsOf : Float → Float → Float → Ends → Float) (afterOf : Float 
     pub after : r .after ≡ afterOf (st .s) ds
     pub next-s : st′ .s ≡ r .after
 
-  pub completed : (st st′ : State) (r : Record) → nextBy (stepBy dsOf afterOf set x beta) st ≡ goes r st′ → Completed st st′ r
+  pub completed : (st st′ : State) (r : Record) → nextBy (stepBy dsOf afterOf set x beta) st ≡ advance r st′ → Completed st st′ r
   completed st st′ r e = priced (callOf set x (st .s)) (went (stepBy dsOf afterOf set x beta) st st′ r e)
     where
       S : Float → State
@@ -54,16 +54,16 @@ module _ (dsOf : Float → Float → Float → Ends → Float) (afterOf : Float 
       R : Float → Record
       R b = recordOf dsOf afterOf beta st b (vegaOf x (st .s))
 
-      same-state : (b : Float) → Went (S b) (R b) ≡ Went st′ r → S b ≡ st′
+      same-state : (b : Float) → Completed (S b) (R b) ≡ Completed st′ r → S b ≡ st′
       same-state b h = cc
 
-      same-record : (b : Float) → Went (S b) (R b) ≡ Went st′ r → R b ≡ r
+      same-record : (b : Float) → Completed (S b) (R b) ≡ Completed st′ r → R b ≡ r
       same-record b h = cc
 
-      apart : (n : ℕ) → Refused n ≡ Went st′ r → ⊥
+      apart : (n : ℕ) → Refused n ≡ Completed st′ r → ⊥
       apart n h = let z : _≡_ {A = ℕ} 0 1 = cc in omega arith
 
-      priced : (a : Answer) → withPrice a (λ b. Went (S b) (R b)) ≡ Went st′ r → Completed st st′ r
+      priced : (a : Answer) → withPrice a (λ b. Completed (S b) (R b)) ≡ Completed st′ r → Completed st st′ r
       priced (Number n) h = absurd (apart n h)
       priced (Value b) h =
           rw (← same-state b h, ← same-record b h)
@@ -87,11 +87,11 @@ and-r false b h = cc
 
 -- the bracket's move: neither end goes outward, and each stays or becomes s, where the price lies on its side
 module _ (b beta s left right : Float) where
-  abbrev Facts : Ends → Type 0
+  abbrev Facts : Bracket → Type 0
   Facts e =
       NotBelow left (e .left) × NotAbove right (e .right) × ((e .left ≡ left) ⊎ ((e .left ≡ s) × (lt b beta ≡ true))) × ((e .right ≡ right) ⊎ ((e .right ≡ s) × (lt beta b ≡ true)))
 
-  facts : Facts (endsAfter b beta s left right)
+  facts : Facts (bracketAfter b beta s left right)
   facts = cases (lt beta b && lt s right) (lt b beta && lt left s) refl refl
     where
       cases : (p q : Bool) → (lt beta b && lt s right) ≡ p → (lt b beta && lt left s) ≡ q
@@ -107,23 +107,23 @@ nan-above nan = refl
 nan-above (inf t) = refl
 nan-above (fin t m e) = refl
 
-left-nan : (b beta s right : Float) → endsAfter b beta s nan right .left ≡ nan
+left-nan : (b beta s right : Float) → bracketAfter b beta s nan right .left ≡ nan
 unfolding lt
 left-nan b beta s right = rw (and-false (lt b beta)) (go (lt beta b && lt s right))
   where
-    go : (p : Bool) → cond {A = Ends} p (record { left = nan; right = s }) (record { left = nan; right = right }) .left ≡ nan
+    go : (p : Bool) → cond {A = Bracket} p (record { left = nan; right = s }) (record { left = nan; right = right }) .left ≡ nan
     go true = refl
     go false = refl
 
-right-nan : (b beta s left : Float) → endsAfter b beta s left nan .right ≡ nan
+right-nan : (b beta s left : Float) → bracketAfter b beta s left nan .right ≡ nan
 right-nan b beta s left = rw (nan-above s, and-false (lt beta b)) (go (lt b beta && lt left s))
   where
-    go : (q : Bool) → cond {A = Ends} q (record { left = s; right = nan }) (record { left = left; right = nan }) .right ≡ nan
+    go : (q : Bool) → cond {A = Bracket} q (record { left = s; right = nan }) (record { left = left; right = nan }) .right ≡ nan
     go true = refl
     go false = refl
 
-module _ (step : State → Stepped) (beta : Float) (moved : (st st′ : State) (r : Record) → nextBy step st ≡ goes r st′ → Moved beta st st′ r) where
-  ends-move : (st st′ : State) (r : Record) (e : nextBy step st ≡ goes r st′) → Facts (r .b) beta (r .s) (st .left) (st .right) (record { left = r .left; right = r .right })
+module _ (step : State → StepResult) (beta : Float) (moved : (st st′ : State) (r : Record) → nextBy step st ≡ advance r st′ → Moved beta st st′ r) where
+  ends-move : (st st′ : State) (r : Record) (e : nextBy step st ≡ advance r st′) → Facts (r .b) beta (r .s) (st .left) (st .right) (record { left = r .left; right = r .right })
   ends-move st st′ r e = subst (Facts (r .b) beta (r .s) (st .left) (st .right)) (moved st st′ r e .bracket) (facts (r .b) beta (r .s) (st .left) (st .right))
 
   pub left-never-falls : (n : ℕ) (st : State) → Linked NotBelow (λ r. r .left) (st .left) (run (nextBy step) n st .records)

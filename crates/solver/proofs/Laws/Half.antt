@@ -23,7 +23,7 @@ use Rattle.elementary.specs.Ops.{half, two}
 use Rattle.elementary.specs.Methods.{signOf, maxOf}
 use Rattle.elementary.proofs.Laws.Held.{holds}
 use Rattle.solver.proofs.Laws.Bracket.{lt-irrefl as float-lt-irrefl}
-use Rattle.solver.specs.Step.{halved}
+use Rattle.solver.specs.Step.{atLeastHalf}
 use Rattle.solver.specs.Promises.Demand3.{least}
 
 -- ---- s / 2 is exact
@@ -138,7 +138,7 @@ is-number x t a c v = go (ne x x) refl
 -- ---- the step
 
 -- every completed step from a finite s of at least 2 ^ -1021 leaves at least s / 2
-pub leaves-half : (s ds : Float) → T (fits binary64 s) → T (finite s) → le least s ≡ true → le (div binary64 s two) (halved s ds) ≡ true
+pub leaves-half : (s ds : Float) → T (fits binary64 s) → T (finite s) → le least s ≡ true → le (div binary64 s two) (atLeastHalf s ds) ≡ true
 unfolding ofBits
 leaves-half nan ds f n l = absurd n
 leaves-half (inf t) ds f n l = absurd n

@@ -8,10 +8,10 @@ use lib.Dec.{ltb}
 use lib.Ieee.{binary64, toBits}
 use lib.ListN.{length, length-append}
 use borrow.Author.Tests.{le-ltb}
-use Rattle.solver.specs.declared.state.Solution.{Solution}
-use Rattle.solver.specs.declared.state.Solution.the-variants.{Solved, Refused}
+use Rattle.solver.specs.declared.answers.Solution.{Solution}
+use Rattle.solver.specs.declared.answers.Solution.the-variants.{Solved, Refused}
 use Rattle.elementary.specs.declared.rule_set.RuleSet.{RuleSet}
-use Rattle.solver.specs.Trail.{laid}
+use Rattle.solver.specs.LittleEndian.{overwritten}
 use Rattle.solver.specs.Listing.{decimalBy, hexBy, answerBytes, answerAt, lineOf, lineIn}
 
 short : (b : Bool) (x y : List ℕ) (m : ℕ) → length x ≤ m → length y ≤ m → length (cond b x y) ≤ m
@@ -38,6 +38,6 @@ module _ (set : RuleSet) (i : ℕ) (bytes : List ℕ) where
   unfolding lineOf
   line-length = simp length-append (omega (arith, decimal-length 20 i, answer-length (answerAt set bytes)))
 
-  pub line-in : (out : List ℕ) → 128 ≤ length out → lineIn set i bytes out ≡ record { count = length (lineOf set i bytes); bytes = laid 0 (lineOf set i bytes) out }
+  pub line-in : (out : List ℕ) → 128 ≤ length out → lineIn set i bytes out ≡ record { count = length (lineOf set i bytes); bytes = overwritten 0 (lineOf set i bytes) out }
   unfolding lineIn
   line-in out room = rw (le-ltb (length out) 128 room)

@@ -14,16 +14,16 @@ use Rattle.elementary.specs.declared.rule_set.RuleSet.{RuleSet}
 use Rattle.elementary.specs.Sqrt.{sqrtOf}
 use Rattle.solver.specs.declared.state.State.{State}
 use Rattle.solver.specs.declared.state.Record.{Record}
-use Rattle.solver.specs.declared.state.Ends.{Ends}
-use Rattle.solver.specs.declared.state.Stepped.{Stepped}
-use Rattle.solver.specs.declared.state.Stepped.the-variants.{Went, Refused as NoStep}
-use Rattle.solver.specs.declared.state.Solution.{Solution}
-use Rattle.solver.specs.declared.state.Solution.the-variants.{Solved, Refused}
-use Rattle.solver.specs.Loop.{Ending, tested, limited, refused, Run, run, goes, ends}
-use Rattle.solver.specs.Step.{lowerDs, upperDs, generalDs, halved, plain, stepBy, lowerStep, upperStep, generalStep, isClose, turnOf, nextBy}
-use Rattle.solver.specs.Guess.{Begun, answered, stopped, looping}
+use Rattle.solver.specs.declared.state.Bracket.{Bracket}
+use Rattle.solver.specs.declared.state.StepResult.{StepResult}
+use Rattle.solver.specs.declared.state.StepResult.the-variants.{Completed, Refused as NoStep}
+use Rattle.solver.specs.declared.answers.Solution.{Solution}
+use Rattle.solver.specs.declared.answers.Solution.the-variants.{Solved, Refused}
+use Rattle.solver.specs.Loop.{Ending, by-test, by-limit, by-refusal, Run, run, advance, stop}
+use Rattle.solver.specs.Step.{lowerDs, upperDs, generalDs, atLeastHalf, wholeStep, stepBy, lowerStep, upperStep, generalStep, isClose, transitionOf, nextBy}
+use Rattle.solver.specs.Guess.{Start, answered, stopped, looping}
 use Rattle.solver.specs.Answers.{numberIn, isSolved, branchIn, endingIn, stepsIn}
-use Rattle.solver.specs.Solve.{Solving, answerOf, ran, solvingOf}
+use Rattle.solver.specs.Solve.{SolveResult, answerOf, resultOfRun, resultFrom}
 use Rattle.solver.specs.Promises.Demand3.{At, here, there, LeavesHalf, LongerRun, LoopRecords, LoopAnswer, OneRun}
 use Rattle.solver.specs.Promises.Answers.{Numbers}
 use Rattle.solver.proofs.Laws.Runs.{byLimit, Counts, counts, begins, same, steps, trace, every}
@@ -35,12 +35,12 @@ use Rattle.solver.proofs.Laws.Trails.{begins-alike}
 
 -- ---- a short run and a long one
 not-by-limit : (branch : ℕ) (root : Float) (e : Ending State) (k : ℕ) → (endingIn (answerOf branch root e k) ≡ 2 → ⊥) → byLimit e ≡ false
-not-by-limit branch root (tested st) k h = refl
-not-by-limit branch root (limited st) k h = absurd (h refl)
-not-by-limit branch root (refused n) k h = refl
+not-by-limit branch root (by-test st) k h = refl
+not-by-limit branch root (by-limit st) k h = absurd (h refl)
+not-by-limit branch root (by-refusal n) k h = refl
 
-pub longer-run : (b : Begun) (expiry : Float) (n m : ℕ) → n ≤ m → LongerRun (solvingOf b expiry n) (solvingOf b expiry m)
-unfolding solvingOf
+pub longer-run : (b : Start) (expiry : Float) (n m : ℕ) → n ≤ m → LongerRun (resultFrom b expiry n) (resultFrom b expiry m)
+unfolding resultFrom
 longer-run (answered v) expiry n m l = record { begins-with = ([], refl); same-bytes = begins-alike [] [] ([], refl); same-end = λ e. (refl, refl) }
 longer-run (stopped k) expiry n m l = record { begins-with = ([], refl); same-bytes = begins-alike [] [] ([], refl); same-end = λ e. (refl, refl) }
 longer-run (looping branch beta step st) expiry n m l =
@@ -54,17 +54,17 @@ longer-run (looping branch beta step st) expiry n m l =
       same-bytes = begins-alike (long .records) (short .records) p;
       same-end = λ e.
           let q = same next n m l st (not-by-limit branch root (short .ending) (length (short .records)) e) in
-          (ap (λ w. w .records) q, ap (λ w. ran branch root w .answer) q);
+          (ap (λ w. w .records) q, ap (λ w. resultOfRun branch root w .answer) q);
     }
 
 -- ---- the steps of a run
 loop-steps : (branch : ℕ) (root : Float) (e : Ending State) (k : ℕ) → stepsIn (answerOf branch root e k) ≡ k
-loop-steps branch root (tested st) k = refl
-loop-steps branch root (limited st) k = refl
-loop-steps branch root (refused n) k = refl
+loop-steps branch root (by-test st) k = refl
+loop-steps branch root (by-limit st) k = refl
+loop-steps branch root (by-refusal n) k = refl
 
-pub run-steps : (b : Begun) (expiry : Float) (n : ℕ) → (stepsIn (solvingOf b expiry n .answer) ≤ n) × (length (solvingOf b expiry n .records) ≡ stepsIn (solvingOf b expiry n .answer))
-unfolding solvingOf
+pub run-steps : (b : Start) (expiry : Float) (n : ℕ) → (stepsIn (resultFrom b expiry n .answer) ≤ n) × (length (resultFrom b expiry n .records) ≡ stepsIn (resultFrom b expiry n .answer))
+unfolding resultFrom
 run-steps (answered v) expiry n = (zero-le, refl)
 run-steps (stopped k) expiry n = (zero-le, refl)
 run-steps (looping branch beta step st) expiry n =
@@ -74,30 +74,30 @@ run-steps (looping branch beta step st) expiry n =
 
 -- ---- the records of a loop, and what it answers
 -- no state leads to the limit
-not-limited : (step : State → Stepped) (st : State) (e : Ending State) → nextBy step st ≡ ends e → byLimit e ≡ false
-not-limited step st (tested q) h = refl
-not-limited step st (refused k) h = refl
-not-limited step st (limited q) h = go (isClose st) (step st) h
+not-limited : (step : State → StepResult) (st : State) (e : Ending State) → nextBy step st ≡ stop e → byLimit e ≡ false
+not-limited step st (by-test q) h = refl
+not-limited step st (by-refusal k) h = refl
+not-limited step st (by-limit q) h = go (isClose st) (step st) h
   where
-    go : (c : Bool) (w : Stepped) → cond c (ends (tested st)) (turnOf w) ≡ ends (limited q) → true ≡ false
+    go : (c : Bool) (w : StepResult) → cond c (stop (by-test st)) (transitionOf w) ≡ stop (by-limit q) → true ≡ false
     go true w e = cc
-    go false (Went q′ r) e = cc
+    go false (Completed q′ r) e = cc
     go false (NoStep k) e = cc
 
-loop-answer : (branch : ℕ) → (1 ≤ branch) × (branch ≤ 5) → (root : Float) (n : ℕ) (w : Run State Record) → OnlySeven (w .ending) → Counts n w → LoopAnswer n branch (ran branch root w .answer)
+loop-answer : (branch : ℕ) → (1 ≤ branch) × (branch ≤ 5) → (root : Float) (n : ℕ) (w : Run State Record) → OnlySeven (w .ending) → Counts n w → LoopAnswer n branch (resultOfRun branch root w .answer)
 loop-answer branch range root n w = go (w .ending)
   where
     go : (e : Ending State) → OnlySeven e → (byLimit e ≡ true → length (w .records) ≡ n) × (byLimit e ≡ false → length (w .records) < n) → LoopAnswer n branch (answerOf branch root e (length (w .records)))
-    go (tested st) h c = record { a-loop = range; number = inl refl; branch-is = λ z. refl; ending-is = λ z. inl (refl, c .1 refl) }
-    go (limited st) h c = record { a-loop = range; number = inl refl; branch-is = λ z. refl; ending-is = λ z. inr (refl, c .0 refl) }
-    go (refused k) h c = record { a-loop = range; number = inr h; branch-is = λ z. absurd (omega arith); ending-is = λ z. absurd (omega arith) }
+    go (by-test st) h c = record { a-loop = range; number = inl refl; branch-is = λ z. refl; ending-is = λ z. inl (refl, c .1 refl) }
+    go (by-limit st) h c = record { a-loop = range; number = inl refl; branch-is = λ z. refl; ending-is = λ z. inr (refl, c .0 refl) }
+    go (by-refusal k) h c = record { a-loop = range; number = inr h; branch-is = λ z. absurd (omega arith); ending-is = λ z. absurd (omega arith) }
 
-half-from : (r : Record) (s ds : Float) → r .s ≡ s → r .after ≡ halved s ds → T (fits binary64 s) → LeavesHalf r
+half-from : (r : Record) (s ds : Float) → r .s ≡ s → r .after ≡ atLeastHalf s ds → T (fits binary64 s) → LeavesHalf r
 half-from r s ds a b f = rw (a, b) (leaves-half s ds f)
 
 -- a loop's run, from the formula of its ds and of its s after
-module _ (dsOf : Float → Float → Float → Ends → Float) (afterOf : Float → Float → Float) (set : RuleSet) (x beta : Float) (root : Float) (n : ℕ) (st : State) where
-  abbrev step : State → Stepped
+module _ (dsOf : Float → Float → Float → Bracket → Float) (afterOf : Float → Float → Float) (set : RuleSet) (x beta : Float) (root : Float) (n : ℕ) (st : State) where
+  abbrev step : State → StepResult
   step = stepBy dsOf afterOf set x beta
 
   abbrev w : Run State Record
@@ -106,10 +106,10 @@ module _ (dsOf : Float → Float → Float → Ends → Float) (afterOf : Float 
   abbrev HalfSteps : Type 0
   HalfSteps = (i : ℕ) (r : Record) → At (w .records) i r → LeavesHalf r
 
-  move : (q q′ : State) (r : Record) → nextBy step q ≡ goes r q′ → Moved beta q q′ r
+  move : (q q′ : State) (r : Record) → nextBy step q ≡ advance r q′ → Moved beta q q′ r
   move q q′ r e = completed dsOf afterOf set x beta q q′ r e .moved
 
-  in-loop : (branch : ℕ) → (1 ≤ branch) × (branch ≤ 5) → ((branch ≡ 1) ⊎ (branch ≡ 4) → HalfSteps) → LoopRecords branch beta (st .left) (st .right) (w .records) × LoopAnswer n branch (ran branch root w .answer)
+  in-loop : (branch : ℕ) → (1 ≤ branch) × (branch ≤ 5) → ((branch ≡ 1) ⊎ (branch ≡ 4) → HalfSteps) → LoopRecords branch beta (st .left) (st .right) (w .records) × LoopAnswer n branch (resultOfRun branch root w .answer)
   in-loop branch range half = (
     record {
       left-holds = left-never-falls step beta move n st;
@@ -124,34 +124,34 @@ module _ (dsOf : Float → Float → Float → Ends → Float) (afterOf : Float 
   )
 
 -- a step whose s after is `halved`
-half-steps : (dsOf : Float → Float → Float → Ends → Float) (set : RuleSet) (x beta root : Float) (n : ℕ) (st : State) → T (fits binary64 (st .s)) → HalfSteps dsOf halved set x beta root n st
+half-steps : (dsOf : Float → Float → Float → Bracket → Float) (set : RuleSet) (x beta root : Float) (n : ℕ) (st : State) → T (fits binary64 (st .s)) → HalfSteps dsOf atLeastHalf set x beta root n st
 half-steps dsOf set x beta root n st f i r a =
-    every (nextBy (stepBy dsOf halved set x beta)) (λ q. T (fits binary64 (q .s))) LeavesHalf
+    every (nextBy (stepBy dsOf atLeastHalf set x beta)) (λ q. T (fits binary64 (q .s))) LeavesHalf
     (λ q q′ p e g.
-    let h = completed dsOf halved set x beta q q′ p e in
+    let h = completed dsOf atLeastHalf set x beta q q′ p e in
     (rw (h .next-s, h .after) (add-fits binary64 (q .s) _), half-from p (q .s) (h .ds) (h .from-s) (h .after) g))
-    (trace (nextBy (stepBy dsOf halved set x beta)) n st) f a
+    (trace (nextBy (stepBy dsOf atLeastHalf set x beta)) n st) f a
 
 neither : {branch : ℕ} {A : Type 0} → (branch ≡ 1 → ⊥) → (branch ≡ 4 → ⊥) → (branch ≡ 1) ⊎ (branch ≡ 4) → A
 neither f g (inl e) = absurd (f e)
 neither f g (inr e) = absurd (g e)
 
-loop-run : (branch : ℕ) (beta : Float) (step : State → Stepped) (st : State) → LoopForm branch beta step st → (root : Float) (n : ℕ)
-    → LoopRecords branch beta (st .left) (st .right) (run (nextBy step) n st .records) × LoopAnswer n branch (ran branch root (run (nextBy step) n st) .answer)
+loop-run : (branch : ℕ) (beta : Float) (step : State → StepResult) (st : State) → LoopForm branch beta step st → (root : Float) (n : ℕ)
+    → LoopRecords branch beta (st .left) (st .right) (run (nextBy step) n st .records) × LoopAnswer n branch (resultOfRun branch root (run (nextBy step) n st) .answer)
 unfolding lowerStep upperStep generalStep
 loop-run branch beta step st (lower set x f) root n =
-    in-loop (lowerDs x beta) halved set x beta root n st 1 (omega arith, omega arith) (λ o. half-steps (lowerDs x beta) set x beta root n st f)
+    in-loop (lowerDs x beta) atLeastHalf set x beta root n st 1 (omega arith, omega arith) (λ o. half-steps (lowerDs x beta) set x beta root n st f)
 loop-run branch beta step st (upper set b-max x f) root n =
-    in-loop (upperDs b-max x beta) halved set x beta root n st 4 (omega arith, omega arith) (λ o. half-steps (upperDs b-max x beta) set x beta root n st f)
+    in-loop (upperDs b-max x beta) atLeastHalf set x beta root n st 4 (omega arith, omega arith) (λ o. half-steps (upperDs b-max x beta) set x beta root n st f)
 loop-run branch beta step st (lower-middle set x) root n =
-    in-loop (generalDs x beta) plain set x beta root n st 2 (omega arith, omega arith) (neither (λ e. omega arith) (λ e. omega arith))
+    in-loop (generalDs x beta) wholeStep set x beta root n st 2 (omega arith, omega arith) (neither (λ e. omega arith) (λ e. omega arith))
 loop-run branch beta step st (upper-middle set x) root n =
-    in-loop (generalDs x beta) plain set x beta root n st 3 (omega arith, omega arith) (neither (λ e. omega arith) (λ e. omega arith))
+    in-loop (generalDs x beta) wholeStep set x beta root n st 3 (omega arith, omega arith) (neither (λ e. omega arith) (λ e. omega arith))
 loop-run branch beta step st (upper-tail set x) root n =
-    in-loop (generalDs x beta) plain set x beta root n st 5 (omega arith, omega arith) (neither (λ e. omega arith) (λ e. omega arith))
+    in-loop (generalDs x beta) wholeStep set x beta root n st 5 (omega arith, omega arith) (neither (λ e. omega arith) (λ e. omega arith))
 
-pub one-run : {short : Bool} (b : Begun) → BeginForm short b → (expiry : Float) (n : ℕ) → OneRun n b (solvingOf b expiry n)
-unfolding solvingOf
+pub one-run : {short : Bool} (b : Start) → BeginForm short b → (expiry : Float) (n : ℕ) → OneRun n b (resultFrom b expiry n)
+unfolding resultFrom
 one-run (answered v) f expiry n = (refl, refl, refl, refl, refl)
 one-run (stopped k) f expiry n = (refl, refl)
 one-run (looping branch beta step st) (loop form) expiry n = loop-run branch beta step st form (sqrtOf binary64 expiry) n
@@ -173,7 +173,7 @@ loop-branch {limit} {branch} {a} f = go (f .number)
     go (inr z) (inl o) = absurd (omega (arith, refused-branch a z))
     go (inr z) (inr o) = absurd (omega (arith, refused-branch a z))
 
-pub answer-half : (n : ℕ) (b : Begun) (w : Solving) → OneRun n b w → (branchIn (w .answer) ≡ 1) ⊎ (branchIn (w .answer) ≡ 4) → (i : ℕ) (r : Record) → At (w .records) i r → LeavesHalf r
+pub answer-half : (n : ℕ) (b : Start) (w : SolveResult) → OneRun n b w → (branchIn (w .answer) ≡ 1) ⊎ (branchIn (w .answer) ≡ 4) → (i : ℕ) (r : Record) → At (w .records) i r → LeavesHalf r
 answer-half n (answered v) w k o i r a = absurd (nothing-at a (k .0))
 answer-half n (stopped m) w k o i r a = absurd (nothing-at a (k .0))
 answer-half n (looping branch beta step st) w k o i r a = k .0 .half-step (subst (λ c. (c ≡ 1) ⊎ (c ≡ 4)) (loop-branch (k .1) o) o) i r a
@@ -218,8 +218,8 @@ loop-numbers : (enough : Type 0) (a : Solution) → (numberIn a ≡ 0 → isSolv
 loop-numbers enough a s (inl z) = record { answered = s; number = first z; no-21 = λ l e. omega arith; steps = λ h. first z }
 loop-numbers enough a s (inr z) = record { answered = s; number = rw z (refusal-number {short = false} region-number); no-21 = λ l e. omega arith; steps = λ h. next (first z) }
 
-pub run-numbers : {short : Bool} (enough : Type 0) → (enough → short ≡ false) → (b : Begun) → BeginForm short b → (expiry : Float) (n : ℕ) → Numbers enough (solvingOf b expiry n .answer)
-unfolding solvingOf
+pub run-numbers : {short : Bool} (enough : Type 0) → (enough → short ≡ false) → (b : Start) → BeginForm short b → (expiry : Float) (n : ℕ) → Numbers enough (resultFrom b expiry n .answer)
+unfolding resultFrom
 run-numbers enough l (answered v) f expiry n = loop-numbers enough _ (λ z. refl) (inl refl)
 run-numbers enough l (stopped k) (ended r) expiry n = record { answered = λ z. absurd (not-0 r z); number = refusal-number r; no-21 = λ h. not-21 r (l h); steps = λ h. absurd (omega arith) }
 run-numbers enough l (looping branch beta step st) (loop form) expiry n = let a = loop-run branch beta step st form (sqrtOf binary64 expiry) n .1 in loop-numbers enough _ (loop-solved n branch _ a) (a .number)

@@ -14,12 +14,12 @@ use Rattle.prices.specs.RationalCubic.{isInfinite, interpolationOf}
 use Rattle.prices.proofs.Laws.Refusals.{CallAnswer, price as a-price, outside-the-region, call-answer}
 use Rattle.solver.specs.declared.state.State.{State}
 use Rattle.solver.specs.declared.state.Record.{Record}
-use Rattle.solver.specs.declared.state.Ends.{Ends}
-use Rattle.solver.specs.declared.state.Mapped.{Mapped}
-use Rattle.solver.specs.declared.state.Stepped.{Stepped}
-use Rattle.solver.specs.declared.state.Stepped.the-variants.{Went, Refused}
-use Rattle.solver.specs.Loop.{Ending, tested, limited, refused, ends, run}
-use Rattle.solver.specs.Step.{recordOf, stateAfter, withPrice, stepBy, isClose, turnOf, nextBy}
+use Rattle.solver.specs.declared.state.Bracket.{Bracket}
+use Rattle.solver.specs.declared.state.MapAndDerivatives.{MapAndDerivatives}
+use Rattle.solver.specs.declared.state.StepResult.{StepResult}
+use Rattle.solver.specs.declared.state.StepResult.the-variants.{Completed, Refused}
+use Rattle.solver.specs.Loop.{Ending, by-test, by-limit, by-refusal, stop, run}
+use Rattle.solver.specs.Step.{recordOf, stateAfter, withPrice, stepBy, isClose, transitionOf, nextBy}
 use Rattle.solver.specs.Guess.{SQRT-DBL-MAX, upperF}
 use Rattle.solver.specs.Solve.{inputNumber}
 use Rattle.prices.specs.Vega.{vegaOf}
@@ -54,7 +54,7 @@ pub cubic-passes : (x x-l x-r y-l y-r d-l d-r r : Float) → Passes (interpolati
 unfolding interpolationOf
 cubic-passes x x-l x-r y-l y-r d-l d-r r = either (isInfinite x || (isInfinite x-l || isInfinite x-r)) cubic (either (le (absOf (x-r ⊖ x-l)) EPSILON) value value)
 
-pub upper-f-passes : (beta b-max b-h : Float) (m : Mapped) → Passes (upperF beta b-max b-h m)
+pub upper-f-passes : (beta b-max b-h : Float) (m : MapAndDerivatives) → Passes (upperF beta b-max b-h m)
 upper-f-passes beta b-max b-h m = either (lt (neg SQRT-DBL-MAX) (m .fpp) && lt (m .fpp) SQRT-DBL-MAX) (cubic-passes _ _ _ _ _ _ _ _) value
 
 -- ---- before a loop: what solve refuses with
@@ -83,11 +83,11 @@ input-number short price forward strike expiry = go (isFinite price) (isPositive
 
 -- ---- in a loop: an ending with no number but 7
 abbrev pub OnlySeven : Ending State → Type 0
-OnlySeven (tested st) = Unit
-OnlySeven (limited st) = Unit
-OnlySeven (refused n) = n ≡ 7
+OnlySeven (by-test st) = Unit
+OnlySeven (by-limit st) = Unit
+OnlySeven (by-refusal n) = n ≡ 7
 
-module _ (dsOf : Float → Float → Float → Ends → Float) (afterOf : Float → Float → Float) (set : RuleSet) (x beta : Float) where
+module _ (dsOf : Float → Float → Float → Bracket → Float) (afterOf : Float → Float → Float) (set : RuleSet) (x beta : Float) where
   step-refusal : (st : State) (n : ℕ) → stepBy dsOf afterOf set x beta st ≡ Refused n → n ≡ 7
   step-refusal st n = go (callOf set x (st .s)) refl
     where
@@ -97,18 +97,18 @@ module _ (dsOf : Float → Float → Float → Ends → Float) (afterOf : Float 
       R : Float → Record
       R b = recordOf dsOf afterOf beta st b (vegaOf x (st .s))
 
-      go : (a : Answer) → callOf set x (st .s) ≡ a → withPrice a (λ b. Went (S b) (R b)) ≡ Refused n → n ≡ 7
+      go : (a : Answer) → callOf set x (st .s) ≡ a → withPrice a (λ b. Completed (S b) (R b)) ≡ Refused n → n ≡ 7
       go (Value b) q e = cc
       go (Number k) q e = cc (call-refusal set x (st .s) k q)
 
-  next-ends : (st : State) (e : Ending State) → nextBy (stepBy dsOf afterOf set x beta) st ≡ ends e → OnlySeven e
-  next-ends st (tested q) h = tt
-  next-ends st (limited q) h = tt
-  next-ends st (refused n) h = step-refusal st n (go (isClose st) (stepBy dsOf afterOf set x beta st) h)
+  next-ends : (st : State) (e : Ending State) → nextBy (stepBy dsOf afterOf set x beta) st ≡ stop e → OnlySeven e
+  next-ends st (by-test q) h = tt
+  next-ends st (by-limit q) h = tt
+  next-ends st (by-refusal n) h = step-refusal st n (go (isClose st) (stepBy dsOf afterOf set x beta st) h)
     where
-      go : (c : Bool) (w : Stepped) → cond c (ends (tested st)) (turnOf w) ≡ ends (refused n) → w ≡ Refused n
+      go : (c : Bool) (w : StepResult) → cond c (stop (by-test st)) (transitionOf w) ≡ stop (by-refusal n) → w ≡ Refused n
       go true w e = cc
-      go false (Went q r) e = cc
+      go false (Completed q r) e = cc
       go false (Refused k) e = cc
 
   pub loop-ends : (n : ℕ) (st : State) → OnlySeven (run (nextBy (stepBy dsOf afterOf set x beta)) n st .ending)

@@ -6,7 +6,7 @@ use native.Mathlib.Nat.{le-refl}
 use lib.ListN.{length, drop, length-append, length-drop, drop-of-length-le}
 use lib.Seq.{take-all, drop-drop, take-append-seam, drop-append-add}
 use borrow.Rule.Slice.PartMut.{midOf, postOf, putMid}
-use Rattle.solver.specs.Trail.{bytesOf, laid}
+use Rattle.solver.specs.LittleEndian.{bytesOf, overwritten}
 
 pub length-bytes : (k n : ℕ) → length (bytesOf k n) ≡ k
 length-bytes zero n = refl
@@ -20,13 +20,13 @@ module _ (a : ℕ) (xs : List ℕ) where
   none-post : postOf a (length xs - a) xs ≡ []
   none-post = drop-of-length-le (drop a xs) {i = length xs - a} (simp length-drop (le-refl _))
 
-  pub part-laid : (bs ys : List ℕ) → ys ≡ bs ++ drop (length bs) (midOf a (length xs - a) xs) → putMid a (length xs - a) xs ys ≡ laid a bs xs
+  pub part-laid : (bs ys : List ℕ) → ys ≡ bs ++ drop (length bs) (midOf a (length xs - a) xs) → putMid a (length xs - a) xs ys ≡ overwritten a bs xs
   part-laid bs ys e = rw (e, whole-mid, none-post, drop-drop, append-nil)
 
   -- the same where the bytes are a number's
-  pub number-laid : (k n : ℕ) (ys : List ℕ) → ys ≡ bytesOf k n ++ drop k (midOf a (length xs - a) xs) → putMid a (length xs - a) xs ys ≡ laid a (bytesOf k n) xs
+  pub number-laid : (k n : ℕ) (ys : List ℕ) → ys ≡ bytesOf k n ++ drop k (midOf a (length xs - a) xs) → putMid a (length xs - a) xs ys ≡ overwritten a (bytesOf k n) xs
   number-laid k n ys e = part-laid (bytesOf k n) ys (rw (length-bytes k n) e)
 
 -- bytes behind what stands in front
-pub behind : (fs bs old l l′ : List ℕ) → l ≡ fs ++ drop (length fs) old → l′ ≡ laid (length fs) bs l → l′ ≡ fs ++ bs ++ drop (length (fs ++ bs)) old
+pub behind : (fs bs old l l′ : List ℕ) → l ≡ fs ++ drop (length fs) old → l′ ≡ overwritten (length fs) bs l → l′ ≡ fs ++ bs ++ drop (length (fs ++ bs)) old
 behind fs bs old l l′ e f = rw (f, e, take-append-seam, drop-append-add, drop-drop, append-assoc, length-append)

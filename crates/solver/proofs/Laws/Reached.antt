@@ -9,77 +9,78 @@ use lib.ListN.{length}
 use lib.Ieee.{Float}
 use Rattle.solver.specs.declared.state.State.{State}
 use Rattle.solver.specs.declared.state.Record.{Record}
-use Rattle.solver.specs.declared.state.Stepped.{Stepped}
-use Rattle.solver.specs.declared.state.Stepped.the-variants.{Went, Refused}
-use Rattle.solver.specs.Loop.{Ending, tested, limited, refused, Turn, goes, ends, Run, after, run}
+use Rattle.solver.specs.declared.state.StepResult.{StepResult}
+use Rattle.solver.specs.declared.state.StepResult.the-variants.{Completed, Refused}
+use Rattle.solver.specs.Loop.{Ending, by-test, by-limit, by-refusal, Transition, advance, stop, Run, after, run}
 use Rattle.solver.specs.Step.{isClose, nextBy}
-use Rattle.solver.specs.Solve.{answerOf, ran}
-use Rattle.solver.specs.Trail.{laid, recordBytes, allBytes, trailAfter}
-use Rattle.solver.specs.Inside.Trail.{keptAfter}
+use Rattle.solver.specs.Solve.{answerOf, resultOfRun}
+use Rattle.solver.specs.LittleEndian.{overwritten}
+use Rattle.solver.specs.Trail.{recordBytes, allBytes, trailAfter}
+use Rattle.solver.specs.Inside.Trail.{trailIfKept}
 use Rattle.solver.proofs.Laws.Trails.{all-length, all-append}
 use Rattle.solver.proofs.Laws.Parts.{behind}
 
-pub record Reached (next : State → Turn State Record) (limit : ℕ) (keep : Bool) (st₀ : State) (old trail : List ℕ) (st : State) (steps : ℕ) : Type 0 where
+pub record Reached (next : State → Transition State Record) (limit : ℕ) (keep : Bool) (st₀ : State) (old trail : List ℕ) (st : State) (steps : ℕ) : Type 0 where
   pub rs : List Record
   pub count : length rs ≡ steps
   pub within : steps ≤ limit
   pub rest : run next limit st₀ ≡ after rs (run next (limit - steps) st)
-  pub wrote : trail ≡ keptAfter keep rs old
+  pub wrote : trail ≡ trailIfKept keep rs old
   pub long : length trail ≡ length old
 
 -- one turn of any loop, from what a state leads to
-module _ {S R : Type 0} (next : S → Turn S R) where
-  turn-goes : (n : ℕ) (s s′ : S) (r : R) → next s ≡ goes r s′ → run next (suc n) s ≡ after (r ∷ []) (run next n s′)
+module _ {S R : Type 0} (next : S → Transition S R) where
+  turn-goes : (n : ℕ) (s s′ : S) (r : R) → next s ≡ advance r s′ → run next (suc n) s ≡ after (r ∷ []) (run next n s′)
   unfolding run
   turn-goes n s s′ r e = rw e
 
-  turn-ends : (n : ℕ) (s : S) (e : Ending S) → next s ≡ ends e → run next (suc n) s ≡ record { records = []; ending = e }
+  turn-ends : (n : ℕ) (s : S) (e : Ending S) → next s ≡ stop e → run next (suc n) s ≡ record { records = []; ending = e }
   unfolding run
   turn-ends n s e h = rw h
 
-module _ {S R : Type 0} (next : S → Turn S R) (limit steps : ℕ) (w : Run S R) (rs : List R) (s : S) (rest : w ≡ after rs (run next (limit - steps) s)) where
-  pub goes-on : steps < limit → (r : R) (s′ : S) → next s ≡ goes r s′ → w ≡ after (rs ++ (r ∷ [])) (run next (limit - (steps + 1)) s′)
+module _ {S R : Type 0} (next : S → Transition S R) (limit steps : ℕ) (w : Run S R) (rs : List R) (s : S) (rest : w ≡ after rs (run next (limit - steps) s)) where
+  pub goes-on : steps < limit → (r : R) (s′ : S) → next s ≡ advance r s′ → w ≡ after (rs ++ (r ∷ [])) (run next (limit - (steps + 1)) s′)
   goes-on h r s′ e =
       let k : limit - steps ≡ suc (limit - (steps + 1)) = omega arith in
       rw (rest, k, turn-goes next _ s s′ r e, append-assoc)
 
-  pub stops : steps < limit → (e : Ending S) → next s ≡ ends e → w ≡ record { records = rs; ending = e }
+  pub stops : steps < limit → (e : Ending S) → next s ≡ stop e → w ≡ record { records = rs; ending = e }
   stops h e n =
       let k : limit - steps ≡ suc (limit - (steps + 1)) = omega arith in
       rw (rest, k, turn-ends next _ s e n, append-nil)
 
-  pub runs-out : limit ≤ steps → w ≡ record { records = rs; ending = limited s }
+  pub runs-out : limit ≤ steps → w ≡ record { records = rs; ending = by-limit s }
   unfolding run
   runs-out h =
       let k : limit - steps ≡ 0 = omega arith in
       rw (rest, k, append-nil)
 
 -- where nothing is written
-pub none-wrote : (keep : Bool) (old : List ℕ) → old ≡ keptAfter keep [] old
+pub none-wrote : (keep : Bool) (old : List ℕ) → old ≡ trailIfKept keep [] old
 unfolding trailAfter
 none-wrote true old = refl
 none-wrote false old = refl
 
 -- a record laid behind the others
-pub one-more : (rs : List Record) (r : Record) (old trail trail′ : List ℕ) (steps : ℕ) → length rs ≡ steps → trail ≡ trailAfter rs old → trail′ ≡ laid (steps * 48) (recordBytes r) trail → trail′ ≡ trailAfter (rs ++ (r ∷ [])) old
+pub one-more : (rs : List Record) (r : Record) (old trail trail′ : List ℕ) (steps : ℕ) → length rs ≡ steps → trail ≡ trailAfter rs old → trail′ ≡ overwritten (steps * 48) (recordBytes r) trail → trail′ ≡ trailAfter (rs ++ (r ∷ [])) old
 unfolding trailAfter
 one-more rs r old trail trail′ steps n e f =
     rw (← all-length (rs ++ (r ∷ [])), all-append rs (r ∷ []), append-nil)
     (behind (allBytes rs) (recordBytes r) old trail trail′ (rw (all-length rs) e) (rw (all-length rs, n, mul-comm 48 steps) f))
 
 -- what the test and the step found, as what the state leads to
-module _ (stepOf : State → Stepped) (st : State) (close : Bool) (stepped : Stepped) (c : close ≡ isClose st) (s : stepped ≡ stepOf st) where
-  pub next-goes : close ≡ false → (st′ : State) (r : Record) → stepped ≡ Went st′ r → nextBy stepOf st ≡ goes r st′
+module _ (stepOf : State → StepResult) (st : State) (close : Bool) (stepped : StepResult) (c : close ≡ isClose st) (s : stepped ≡ stepOf st) where
+  pub next-goes : close ≡ false → (st′ : State) (r : Record) → stepped ≡ Completed st′ r → nextBy stepOf st ≡ advance r st′
   next-goes n st′ r e = rw (← c, n, ← s, e)
 
-  pub next-refused : close ≡ false → (k : ℕ) → stepped ≡ Refused k → nextBy stepOf st ≡ ends (refused k)
+  pub next-refused : close ≡ false → (k : ℕ) → stepped ≡ Refused k → nextBy stepOf st ≡ stop (by-refusal k)
   next-refused n k e = rw (← c, n, ← s, e)
 
-pub next-tested : (stepOf : State → Stepped) (st : State) (close : Bool) → close ≡ isClose st → close ≡ true → nextBy stepOf st ≡ ends (tested st)
+pub next-tested : (stepOf : State → StepResult) (st : State) (close : Bool) → close ≡ isClose st → close ≡ true → nextBy stepOf st ≡ stop (by-test st)
 next-tested stepOf st close c n = rw (← c, n)
 
 -- a run that has ended, and what it answers and leaves in the trail
 pub ended : (w : Run State Record) (rs : List Record) (e : Ending State) (branch : ℕ) (root : Float) (keep : Bool) (old trail : List ℕ) (steps : ℕ)
-    → w ≡ record { records = rs; ending = e } → length rs ≡ steps → trail ≡ keptAfter keep rs old
-    → (answerOf branch root e steps ≡ ran branch root w .answer) × (trail ≡ keptAfter keep (w .records) old)
+    → w ≡ record { records = rs; ending = e } → length rs ≡ steps → trail ≡ trailIfKept keep rs old
+    → (answerOf branch root e steps ≡ resultOfRun branch root w .answer) × (trail ≡ trailIfKept keep (w .records) old)
 ended w rs e branch root keep old trail steps p n t = (rw (p, n), rw p t)

@@ -8,10 +8,10 @@ use native.Mathlib.Nat.{mul-comm}
 use borrow.Author.Tests.{ltb-true, leb-true}
 use lib.Dec.{ltb, leb}
 use lib.ListN.{length, take, drop}
-use Rattle.solver.specs.declared.state.Checking.{Checking}
-use Rattle.solver.specs.declared.state.Checking.the-variants.{Refused}
+use Rattle.solver.specs.declared.answers.Checking.{Checking}
+use Rattle.solver.specs.declared.answers.Checking.the-variants.{Refused}
 use Rattle.elementary.specs.declared.rule_set.RuleSet.{RuleSet}
-use Rattle.solver.specs.Book.{slots, isHeld, recordAt, Read, readOf, recheckOf, resolved, checked}
+use Rattle.solver.specs.Book.{slots, recordExists, recordAt, Read, readOf, recheckOf, solveRecord, checkingOf}
 
 both : (a b : Bool) → (a && b) ≡ true → (a ≡ true) × (b ≡ true)
 both true b e = (refl, e)
@@ -31,28 +31,28 @@ number-zero true bytes e = refl
 number-zero false bytes e = absurd (omega (arith, e))
 
 module _ (book : List ℕ) (used k : ℕ) where
-  pub inside : isHeld book used k ≡ true → k * 64 + 64 ≤ length book
+  pub inside : recordExists book used k ≡ true → k * 64 + 64 ≤ length book
   inside e =
       let h = both (ltb k used) (leb used (slots book)) e in
       omega (arith, ltb-true k used (h .0), leb-true used (slots book) (h .1))
 
   -- read's number says it too
-  pub held : readOf book used k .number ≡ 0 → isHeld book used k ≡ true
+  pub held : readOf book used k .number ≡ 0 → recordExists book used k ≡ true
   unfolding readOf
-  held e = number-zero (isHeld book used k) (recordAt k book) e
+  held e = number-zero (recordExists book used k) (recordAt k book) e
 
-  pub read-held : isHeld book used k ≡ true → (slot k book ≡ readOf book used k .bytes) × (0 ≡ readOf book used k .number)
+  pub read-held : recordExists book used k ≡ true → (slot k book ≡ readOf book used k .bytes) × (0 ≡ readOf book used k .number)
   unfolding readOf
   read-held e = rw (e, slot-is k book) (refl, refl)
 
-  pub read-none : isHeld book used k ≡ false → ([] ≡ readOf book used k .bytes) × (23 ≡ readOf book used k .number)
+  pub read-none : recordExists book used k ≡ false → ([] ≡ readOf book used k .bytes) × (23 ≡ readOf book used k .number)
   unfolding readOf
   read-none e = rw e (refl, refl)
 
-  pub recheck-held : (set : RuleSet) (a : Checking) → isHeld book used k ≡ true → a ≡ checked (slot k book) (resolved set (slot k book)) → a ≡ recheckOf set book used k
+  pub recheck-held : (set : RuleSet) (a : Checking) → recordExists book used k ≡ true → a ≡ checkingOf (slot k book) (solveRecord set (slot k book)) → a ≡ recheckOf set book used k
   unfolding recheckOf
   recheck-held set a e h = rw e (rw (slot-is k book) at h)
 
-  pub recheck-none : (set : RuleSet) → isHeld book used k ≡ false → Refused 23 0 ≡ recheckOf set book used k
+  pub recheck-none : (set : RuleSet) → recordExists book used k ≡ false → Refused 23 0 ≡ recheckOf set book used k
   unfolding recheckOf
   recheck-none set e = rw e

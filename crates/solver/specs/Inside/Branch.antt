@@ -5,12 +5,12 @@ use lib.Dec.{eqb}
 use lib.Ieee.{Float}
 use Rattle.elementary.specs.declared.rule_set.RuleSet.{RuleSet}
 use Rattle.solver.specs.declared.state.State.{State}
-use Rattle.solver.specs.declared.state.Ends.{Ends}
-use Rattle.solver.specs.declared.state.Stepped.{Stepped}
-use Rattle.solver.specs.Step.{lowerDs, upperDs, generalDs, halved, plain, stepBy}
+use Rattle.solver.specs.declared.state.Bracket.{Bracket}
+use Rattle.solver.specs.declared.state.StepResult.{StepResult}
+use Rattle.solver.specs.Step.{lowerDs, upperDs, generalDs, atLeastHalf, wholeStep, stepBy}
 
 -- its ds
-abbrev pub branchDs : ℕ → Float → Float → Float → Float → Float → Float → Ends → Float
+abbrev pub branchDs : ℕ → Float → Float → Float → Float → Float → Float → Bracket → Float
 branchDs branch b-max x beta s b bp bracket =
     let lower = lowerDs x beta s b bp bracket in
     let upper = upperDs b-max x beta s b bp bracket in
@@ -19,8 +19,8 @@ branchDs branch b-max x beta s b bp bracket =
 
 -- s after its step
 abbrev pub branchAfter : ℕ → Float → Float → Float
-branchAfter branch s ds = cond (eqb branch 1) (halved s ds) (cond (eqb branch 4) (halved s ds) (plain s ds))
+branchAfter branch s ds = cond (eqb branch 1) (atLeastHalf s ds) (cond (eqb branch 4) (atLeastHalf s ds) (wholeStep s ds))
 
 -- the step
-abbrev pub branchStep : RuleSet → ℕ → Float → Float → Float → State → Stepped
+abbrev pub branchStep : RuleSet → ℕ → Float → Float → Float → State → StepResult
 branchStep set branch b-max x beta = stepBy (branchDs branch b-max x beta) (branchAfter branch) set x beta

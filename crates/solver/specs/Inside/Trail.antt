@@ -6,5 +6,5 @@ use Rattle.solver.specs.declared.state.Record.{Record}
 use Rattle.solver.specs.Trail.{trailAfter}
 
 -- the trail after a run where one is kept, and the old bytes where none is
-abbrev pub keptAfter : Bool → List Record → List ℕ → List ℕ
-keptAfter keep rs old = cond keep (trailAfter rs old) old
+abbrev pub trailIfKept : Bool → List Record → List ℕ → List ℕ
+trailIfKept keep rs old = cond keep (trailAfter rs old) old

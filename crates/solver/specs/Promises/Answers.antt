@@ -6,8 +6,8 @@ use Prim.Native.Nat.{ℕ, _<_, _≤_}
 use lib.IntN.{ℤ}
 use lib.ListN.{length}
 use lib.Ieee.{Float}
-use Rattle.prices.specs.declared.inputs.OptionType.{OptionType}
-use Rattle.solver.specs.declared.state.Solution.{Solution}
+use Rattle.solver.specs.declared.quote.Quote.{Quote}
+use Rattle.solver.specs.declared.answers.Solution.{Solution}
 use Rattle.elementary.specs.declared.rule_set.RuleSet.{RuleSet}
 use Rattle.solver.specs.Answers.{numberIn, isSolved, stepsIn}
 use Rattle.solver.specs.Listing.{lineOf}
@@ -22,7 +22,7 @@ pub record Numbers (enough : Type 0) (a : Solution) : Type 0 where
   pub steps : 0 < stepsIn a → OneOf (numberIn a) (0 ∷ 7 ∷ [])
 
 abbrev pub Solve-numbers : Type 0
-Solve-numbers = (set : RuleSet) (price forward strike expiry : Float) (kind : OptionType) (n : ℤ) (t : Trail) → Numbers (LongEnough n t) (runOf set price forward strike expiry kind n t .answer)
+Solve-numbers = (set : RuleSet) (q : Quote) (n : ℤ) (t : Trail) → Numbers (LongEnough n t) (runOf set q n t .answer)
 
 -- a line has at most 101 bytes, whatever the record's bytes are
 abbrev pub Line-length : Type 0

@@ -10,12 +10,12 @@ use lib.ListN.{length, take}
 use lib.Ieee.{Float, nan, lt, le}
 use lib.Ieee.Scale.{finite}
 use Rattle.elementary.specs.Ops.{_⊘_, bits, two}
-use Rattle.prices.specs.declared.inputs.OptionType.{OptionType}
+use Rattle.solver.specs.declared.quote.Quote.{Quote}
 use Rattle.solver.specs.declared.state.Record.{Record}
-use Rattle.solver.specs.declared.state.Solution.{Solution}
+use Rattle.solver.specs.declared.answers.Solution.{Solution}
 use Rattle.elementary.specs.declared.rule_set.RuleSet.{RuleSet}
-use Rattle.solver.specs.Guess.{Begun, answered, stopped, looping}
-use Rattle.solver.specs.Solve.{begunOf, Solving, solveOf, solveWithTrail, stepsOf}
+use Rattle.solver.specs.Guess.{Start, answered, stopped, looping}
+use Rattle.solver.specs.Solve.{startOf, SolveResult, solveOf, solveWithTrail, stepsOf}
 use Rattle.solver.specs.Answers.{numberIn, volatilityIn, branchIn, endingIn, stepsIn}
 use Rattle.solver.specs.Trail.{trailAfter}
 
@@ -29,16 +29,16 @@ abbrev pub LongEnough : ℤ → Trail → Type 0
 LongEnough limit none = Unit
 LongEnough limit (of-bytes n) = 48 * stepsOf limit ≤ n
 
-module _ (set : RuleSet) (price forward strike expiry : Float) (kind : OptionType) where
+module _ (set : RuleSet) (q : Quote) where
   -- the run at a limit
-  abbrev pub runOf : ℤ → Trail → Solving
-  runOf limit none = solveOf set price forward strike expiry kind (stepsOf limit)
-  runOf limit (of-bytes n) = solveWithTrail set price forward strike expiry kind (stepsOf limit) n
+  abbrev pub runOf : ℤ → Trail → SolveResult
+  runOf limit none = solveOf set q (stepsOf limit)
+  runOf limit (of-bytes n) = solveWithTrail set q (stepsOf limit) n
 
   -- what it begins with: an answer, a refusal, or a loop with its branch, its target and its starting state
-  abbrev pub beginOf : ℤ → Trail → Begun
-  beginOf limit none = begunOf set false price forward strike expiry kind
-  beginOf limit (of-bytes n) = begunOf set (ltb n (48 * stepsOf limit)) price forward strike expiry kind
+  abbrev pub beginOf : ℤ → Trail → Start
+  beginOf limit none = startOf set false q
+  beginOf limit (of-bytes n) = startOf set (ltb n (48 * stepsOf limit)) q
 
 -- record i of a list is r
 pub data At {R : Type 0} : List R → ℕ → R → Type 0 where
@@ -69,7 +69,7 @@ abbrev pub LeavesHalf : Record → Type 0
 LeavesHalf r = T (finite (r .s)) → le least (r .s) ≡ true → le (r .s ⊘ two) (r .after) ≡ true
 
 -- a short run and a long one
-pub record LongerRun (short long : Solving) : Type 0 where
+pub record LongerRun (short long : SolveResult) : Type 0 where
   -- 1. The long run's records begin with all the short run's, bit for bit; so do the trails' bytes, whatever stood there before.
   pub begins-with : (rest : List Record) × (long .records ≡ short .records ++ rest)
   pub same-bytes : (old old′ : List ℕ) → take (48 * length (short .records)) (trailAfter (long .records) old) ≡ take (48 * length (short .records)) (trailAfter (short .records) old′)
@@ -97,12 +97,12 @@ pub record LoopAnswer (limit branch : ℕ) (a : Solution) : Type 0 where
   pub ending-is : numberIn a ≡ 0 → ((endingIn a ≡ 1) × (stepsIn a < limit)) ⊎ ((endingIn a ≡ 2) × (stepsIn a ≡ limit))
 
 -- one run, by what it begins with: without a loop it has no records, and an answer has branch 0 and ending 0
-abbrev pub OneRun : ℕ → Begun → Solving → Type 0
+abbrev pub OneRun : ℕ → Start → SolveResult → Type 0
 OneRun limit (answered v) w = (w .records ≡ []) × (numberIn (w .answer) ≡ 0) × (volatilityIn (w .answer) ≡ v) × (branchIn (w .answer) ≡ 0) × (endingIn (w .answer) ≡ 0)
 OneRun limit (stopped n) w = (w .records ≡ []) × (numberIn (w .answer) ≡ n)
 OneRun limit (looping branch beta step st) w = LoopRecords branch beta (st .left) (st .right) (w .records) × LoopAnswer limit branch (w .answer)
 
-pub record Sentences (begin : ℤ → Trail → Begun) (run : ℤ → Trail → Solving) : Type 0 where
+pub record Sentences (begin : ℤ → Trail → Start) (run : ℤ → Trail → SolveResult) : Type 0 where
   -- 1 and 2, of trails long enough and limits with max(n, 0) at most max(m, 0), so wherever n is at most m
   pub longer : (n m : ℤ) (t t′ : Trail) → stepsOf n ≤ stepsOf m → LongEnough n t → LongEnough m t′ → LongerRun (run n t) (run m t′)
   -- 3. In every run steps are at most the greater of its limit and 0; they are as many as its records.
@@ -115,4 +115,4 @@ pub record Sentences (begin : ℤ → Trail → Begun) (run : ℤ → Trail → 
   pub without-trail : (n : ℤ) (t : Trail) → LongEnough n t → (run n none .records ≡ run n t .records) × (run n none .answer ≡ run n t .answer)
 
 abbrev pub Demand-3 : Type 0
-Demand-3 = (set : RuleSet) (price forward strike expiry : Float) (kind : OptionType) → Sentences (beginOf set price forward strike expiry kind) (runOf set price forward strike expiry kind)
+Demand-3 = (set : RuleSet) (q : Quote) → Sentences (beginOf set q) (runOf set q)

@@ -1,7 +1,7 @@
 -- `abi::book::checked` meets its contract: the variant met says which case it is. Assumes nothing.
 use borrow.Author.Needs.{needs}
-use Rattle.abi.proofs.book.checked.Statement.{statement}
-use Rattle.abi.proofs.book.checked.Tie as tie
+use Rattle.abi.proofs.book.checkingOf.Statement.{statement}
+use Rattle.abi.proofs.book.checkingOf.Tie as tie
 
 returns : tie.Need-returns
 returns c = let met = c .enum-told .given .1 in (rw met, rw met)

@@ -1,7 +1,7 @@
 -- `abi::book::filed` meets its contract: the variant met says which case it is. Assumes nothing.
 use borrow.Author.Needs.{needs}
-use Rattle.abi.proofs.book.filed.Statement.{statement}
-use Rattle.abi.proofs.book.filed.Tie as tie
+use Rattle.abi.proofs.book.fileAnswer.Statement.{statement}
+use Rattle.abi.proofs.book.fileAnswer.Tie as tie
 
 returns : tie.Need-returns
 returns c =

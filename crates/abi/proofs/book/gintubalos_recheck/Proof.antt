@@ -3,7 +3,7 @@ use Rattle.abi.proofs.book.gintubalos_recheck.Statement.{statement}
 use Rattle.abi.proofs.book.gintubalos_recheck.Tie as tie
 use Rattle.abi.proofs.book.gintubalos_recheck.Reads as reads
 use Rattle.abi.proofs.book.gintubalos_recheck.Lts as lts
-use Rattle.abi.proofs.book.checked.Reads as checked-reads
+use Rattle.abi.proofs.book.checkingOf.Reads as checked-reads
 use Rattle.solver.proofs.book.recheck.Reads as recheck-reads
 
 -- src/book.rt:128:13

@@ -11,7 +11,7 @@ use lib.Dec.{eqb}
 use lib.Ieee.{Float, binary64, toBits}
 use lib.ListN.{length, getD}
 use lib.Seq.{drop-cons}
-use Rattle.solver.specs.Trail.{bytesOf, floatBytes, part, numberAt}
+use Rattle.solver.specs.LittleEndian.{bytesOf, floatBytes, part, numberAt}
 use Rattle.solver.specs.Book.{sameBytes, agrees}
 use borrow.Author.Needs.{needs}
 use Rattle.solver.proofs.book.agrees.Statement.{statement}

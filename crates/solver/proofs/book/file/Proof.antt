@@ -11,12 +11,12 @@ use lib.ListN.{length}
 use mir.Syntax.{w32}
 use mir.ValLaws.{toZ-ofZ}
 use Rattle.prices.specs.declared.inputs.OptionType.{OptionType}
-use Rattle.solver.specs.declared.state.Solution.{Solution}
-use Rattle.solver.specs.declared.state.Filing.{Filing}
-use Rattle.solver.specs.declared.state.Filing.the-variants.{Refused as NotFiled}
+use Rattle.solver.specs.declared.answers.Solution.{Solution}
+use Rattle.solver.specs.declared.answers.Filing.{Filing}
+use Rattle.solver.specs.declared.answers.Filing.the-variants.{Refused as NotFiled}
 use Rattle.elementary.specs.RuleSets.{rule-set-0}
 use Rattle.solver.specs.Solve.{inputNumber, solveOf, stepsOf}
-use Rattle.solver.specs.Book.{filed, fileOf}
+use Rattle.solver.specs.Book.{fileAnswer, fileOf}
 use borrow.Author.Needs.{needs}
 use Rattle.solver.proofs.book.file.Statement.{statement}
 use Rattle.solver.proofs.book.file.Tie as tie
@@ -44,7 +44,7 @@ module _ (price forward strike expiry : Float) (kind : OptionType) (limit : ℤ)
       full h g = rw (← i, eq-eqb n 0 e, le-leb used (length book / 64) h, le-ltb used (length book / 64) (omega arith)) (refl, refl)
 
       solved : used < length book / 64 → (f : Filing) (b : List ℕ)
-          → (f ≡ filed price forward strike expiry kind limit book used answer .answer) × (b ≡ filed price forward strike expiry kind limit book used answer .book) → Files f b
+          → (f ≡ fileAnswer price forward strike expiry kind limit book used answer .answer) × (b ≡ fileAnswer price forward strike expiry kind limit book used answer .book) → Files f b
       unfolding fileOf
       solved g f b h =
           rw (← i, eq-eqb n 0 e, le-leb used (length book / 64) (omega arith), lt-ltb used (length book / 64) g) h

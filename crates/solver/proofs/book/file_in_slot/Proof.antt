@@ -11,11 +11,11 @@ use lib.ListN.{length, drop}
 use mir.Syntax.{w32}
 use mir.ValLaws.{toZ-ofZ}
 use Rattle.prices.specs.declared.inputs.OptionType.{OptionType}
-use Rattle.solver.specs.declared.state.Solution.{Solution}
-use Rattle.solver.specs.declared.state.Solution.the-variants.{Solved, Refused}
-use Rattle.solver.specs.declared.state.Filing.{Filing}
-use Rattle.solver.specs.declared.state.Filing.the-variants.{Filed, Refused as NotFiled}
-use Rattle.solver.specs.Book.{filedBytes, filed}
+use Rattle.solver.specs.declared.answers.Solution.{Solution}
+use Rattle.solver.specs.declared.answers.Solution.the-variants.{Solved, Refused}
+use Rattle.solver.specs.declared.answers.Filing.{Filing}
+use Rattle.solver.specs.declared.answers.Filing.the-variants.{Filed, Refused as NotFiled}
+use Rattle.solver.specs.Book.{bookRecordBytes, fileAnswer}
 use Rattle.solver.proofs.Laws.Parts.{part-laid}
 use borrow.Author.Needs.{needs}
 use Rattle.solver.proofs.book.file_in_slot.Statement.{statement}
@@ -24,25 +24,25 @@ use Rattle.solver.proofs.book.file_in_slot.Tie as tie
 module _ (price forward strike expiry : Float) (kind : OptionType) (limit : ℤ) (book : List ℕ) (used : ℕ) (a w : Solution) (e : a ≡ w) where
   -- the answer, and the book that is left
   abbrev Files : Filing → List ℕ → Type 0
-  Files f b = (f ≡ filed price forward strike expiry kind limit book used w .answer) × (b ≡ filed price forward strike expiry kind limit book used w .book)
+  Files f b = (f ≡ fileAnswer price forward strike expiry kind limit book used w .answer) × (b ≡ fileAnswer price forward strike expiry kind limit book used w .book)
 
   stopped : (n steps : ℕ) → a ≡ Refused n steps → Files (NotFiled n steps) book
   stopped n steps q = rw (← e, q) (refl, refl)
 
   module _ (v : Float) (branch ending steps : ℕ) where
     abbrev bytes : List ℕ
-    bytes = filedBytes price forward strike expiry kind limit v branch ending steps
+    bytes = bookRecordBytes price forward strike expiry kind limit v branch ending steps
 
     bytes-length : length bytes ≡ 64
-    unfolding filedBytes
+    unfolding bookRecordBytes
     bytes-length = refl
 
     laid-in : (ys : List ℕ) → a ≡ Solved v branch ending steps → ys ≡ bytes ++ drop 64 (midOf (used * 64) (length book - used * 64) book)
         → Files (Filed (used + 1)) (putMid (used * 64) (length book - used * 64) book ys)
     laid-in ys q h = rw (← e, q) (refl, rw (mul-comm 64 used) (part-laid (used * 64) book bytes ys (rw bytes-length h)))
 
-put-filed-requires : tie.Need-put-filed-requires
-put-filed-requires c κs = search needs
+put-book-record-requires : tie.Need-put-book-record-requires
+put-book-record-requires c κs = search needs
 
 same-length : tie.Need-same-length
 same-length c = search needs
@@ -56,7 +56,7 @@ returns c =
     let a = start .args in
     let z = toZ-ofZ w32 (a .limit) (start .fits .limit) in
     laid-in (a .price) (a .forward) (a .strike) (a .expiry) (a .option-type) (a .limit) (now (a .book)) (a .used) _ _ (rw (s .before .steps-of .ensures, z) at (s .solve-without-trail .ensures)) _ _ _ _ _
-    (v .volatility .given .1) (rw z at (p .put-filed .ensures))
+    (v .volatility .given .1) (rw z at (p .put-book-record .ensures))
 
 returns-2 : tie.Need-returns-2
 returns-2 c =
@@ -77,7 +77,7 @@ file-in-slot-spec =
     (λ c. search needs)
     (λ c. search needs)
     (λ c. search needs)
-    put-filed-requires
+    put-book-record-requires
     (λ c. search needs)
     (λ c. search needs)
     same-length

@@ -8,7 +8,7 @@ use borrow.Author.Tests.{ne-eqb, not-true, not-false, le-leb, lt-leb}
 use denote.Ref.{now}
 use lib.Dec.{eqb}
 use lib.ListN.{getD}
-use Rattle.solver.specs.Trail.{part}
+use Rattle.solver.specs.LittleEndian.{part}
 use Rattle.solver.specs.Book.{allZero, inLayout}
 use borrow.Author.Needs.{needs}
 use Rattle.solver.proofs.book.in_layout.Statement.{statement}

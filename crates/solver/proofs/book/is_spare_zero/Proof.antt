@@ -7,7 +7,7 @@ use native.Mathlib.Omega.{arith}
 use borrow.Author.Tests.{ne-eqb}
 use lib.ListN.{length, getD}
 use lib.Seq.{drop-cons}
-use Rattle.solver.specs.Trail.{part}
+use Rattle.solver.specs.LittleEndian.{part}
 use Rattle.solver.specs.Book.{allZero}
 use Rattle.solver.proofs.book.is_spare_zero.Statement.{statement}
 use Rattle.solver.proofs.book.is_spare_zero.Tie as tie

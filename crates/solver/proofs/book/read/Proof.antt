@@ -5,20 +5,20 @@ use Prim.Native.Nat.{_+_, _*_, _≤_}
 use native.Mathlib.Omega.{arith}
 use denote.Ref.{now}
 use lib.ListN.{length}
-use Rattle.solver.specs.Book.{isHeld}
+use Rattle.solver.specs.Book.{recordExists}
 use Rattle.solver.proofs.book.Slots.{inside, read-held, read-none}
 use borrow.Author.Needs.{needs}
 use Rattle.solver.proofs.book.read.Statement.{statement}
 use Rattle.solver.proofs.book.read.Tie as tie
 
-held : (c : tie.Then1) → isHeld (now (c .before .before .before .args .book)) (c .before .before .before .args .used) (c .before .before .before .args .k) ≡ true
-held c = rw (c .before .is-held .ensures) at (c .if1 .taken)
+held : (c : tie.Then1) → recordExists (now (c .before .before .before .args .book)) (c .before .before .before .args .used) (c .before .before .before .args .k) ≡ true
+held c = rw (c .before .record-exists .ensures) at (c .if1 .taken)
 
 within : (c : tie.Then1) → c .before .before .before .args .k * 64 + 64 ≤ length (now (c .before .before .before .args .book))
 within c = let a = c .before .before .before .args in inside (now (a .book)) (a .used) (a .k) (held c)
 
-is-held-requires : tie.Need-is-held-requires
-is-held-requires c κs = search needs
+record-exists-requires : tie.Need-record-exists-requires
+record-exists-requires c κs = search needs
 
 mul-at : tie.Need-mul-at
 mul-at c = omega (arith, within c)
@@ -48,13 +48,13 @@ part-result-end-2 : tie.Need-part-result-end-2
 part-result-end-2 c = search needs
 
 returns-2 : tie.Need-returns-2
-returns-2 c = let a = c .before .before .before .before .args in read-none (now (a .book)) (a .used) (a .k) (rw (c .before .before .is-held .ensures) at (c .before .if1 .left))
+returns-2 c = let a = c .before .before .before .before .args in read-none (now (a .book)) (a .used) (a .k) (rw (c .before .before .record-exists .ensures) at (c .before .if1 .left))
 
 pub read-spec : {M : Type 1} → statement M
 read-spec =
     tie.close
     (tie.spec
-    is-held-requires
+    record-exists-requires
     mul-at
     add-end
     sub-result

@@ -3,8 +3,8 @@ use mathlib.Core.Path.{_≡_, refl}
 use mathlib.Core.Bool.{cond}
 use lib.Ieee.{lt}
 use Rattle.elementary.specs.RuleSets.{rule-set-0}
-use Rattle.solver.specs.Guess.{withValue, lowerBegun, upperBegun, guessedBegun}
-use Rattle.solver.proofs.Laws.Priced.{price-is, refusal-is, vega-is}
+use Rattle.solver.specs.Guess.{withValue, lowerStart, upperStart, guessedStart}
+use Rattle.solver.proofs.Laws.PriceAndVega.{price-is, refusal-is, vega-is}
 use borrow.Author.Needs.{needs}
 use Rattle.solver.proofs.guess.guessed_start.Statement.{statement}
 use Rattle.solver.proofs.guess.guessed_start.Tie as tie
@@ -15,24 +15,24 @@ abs-requires c κs = search needs
 sqrt-requires : tie.Need-sqrt-requires
 sqrt-requires c κs = search needs
 
-priced-requires : tie.Need-priced-requires
-priced-requires c κs = c .before .before .pre
+price-and-vega-at-requires : tie.Need-price-and-vega-at-requires
+price-and-vega-at-requires c κs = c .before .before .pre
 
 -- the place and its price, from where both ways go on
 guessed : (c : tie.Else1) →
-    let p = c .before .before .priced .result in
+    let p = c .before .before .price-and-vega-at .result in
     let s-c = c .before .before .before .sqrt .result in
     let m = c .before .before .before .before .before .args .m in
-    guessedBegun rule-set-0 (m .x) (m .beta) (m .«b_max»)
-    ≡ cond (lt (m .beta) (p .price)) (lowerBegun rule-set-0 (m .x) (m .beta) s-c (p .price) (p .vega)) (upperBegun rule-set-0 (m .x) (m .beta) (m .«b_max») s-c (p .price) (p .vega))
+    guessedStart rule-set-0 (m .x) (m .beta) (m .«b_max»)
+    ≡ cond (lt (m .beta) (p .price)) (lowerStart rule-set-0 (m .x) (m .beta) s-c (p .price) (p .vega)) (upperStart rule-set-0 (m .x) (m .beta) (m .«b_max») s-c (p .price) (p .vega))
 unfolding withValue
 guessed c =
-    let priced = c .before .before .priced .ensures in
+    let priced = c .before .before .price-and-vega-at .ensures in
     rw (← c .before .before .before .before .abs .ensures, ← c .before .before .before .sqrt .ensures, price-is _ _ _ priced (c .if1 .left), vega-is _ _ _ priced)
 
 returns : tie.Need-returns
 unfolding withValue
-returns c = rw (← c .before .before .before .before .abs .ensures, ← c .before .before .before .sqrt .ensures, refusal-is _ _ _ (c .before .before .priced .ensures) (c .if1 .taken)) (record { begun = refl; shared = tt })
+returns c = rw (← c .before .before .before .before .abs .ensures, ← c .before .before .before .sqrt .ensures, refusal-is _ _ _ (c .before .before .price-and-vega-at .ensures) (c .if1 .taken)) (record { meaning = refl; exponentials = tt })
 
 lower-start-requires : tie.Need-lower-start-requires
 lower-start-requires c κs = c .before .before .before .before .before .before .before .before .pre
@@ -54,7 +54,7 @@ guessed-start-spec =
     (tie.spec
     abs-requires
     sqrt-requires
-    priced-requires
+    price-and-vega-at-requires
     returns
     lower-start-requires
     returns-2

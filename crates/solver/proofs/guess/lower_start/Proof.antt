@@ -1,55 +1,55 @@
 -- `guess::lower_start` meets its contract: the number and the test say which case it is, and the branch tells its step by computing. Assumes nothing.
 use mathlib.Core.Path.{refl}
 use Rattle.solver.specs.Step.{lowerStep, generalStep}
-use Rattle.solver.specs.Guess.{withValue, lowerBegun}
-use Rattle.solver.proofs.Laws.Priced.{price-is, refusal-is, vega-is}
+use Rattle.solver.specs.Guess.{withValue, lowerStart}
+use Rattle.solver.proofs.Laws.PriceAndVega.{price-is, refusal-is, vega-is}
 use borrow.Author.Needs.{needs}
 use Rattle.solver.proofs.guess.lower_start.Statement.{statement}
 use Rattle.solver.proofs.guess.lower_start.Tie as tie
 
-priced-requires : tie.Need-priced-requires
-priced-requires c κs = c .pre
+price-and-vega-at-requires : tie.Need-price-and-vega-at-requires
+price-and-vega-at-requires c κs = c .pre
 
 returns : tie.Need-returns
-unfolding lowerBegun withValue
-returns c = rw (refusal-is _ _ _ (c .before .before .priced .ensures) (c .if1 .taken)) (record { begun = refl; shared = tt })
+unfolding lowerStart withValue
+returns c = rw (refusal-is _ _ _ (c .before .before .price-and-vega-at .ensures) (c .if1 .taken)) (record { meaning = refl; exponentials = tt })
 
 lower-guess-requires : tie.Need-lower-guess-requires
 lower-guess-requires c κs = search needs
 
-looping-requires : tie.Need-looping-requires
-looping-requires c κs = c .before .before .before .before .before .before .pre
+start-loop-requires : tie.Need-start-loop-requires
+start-loop-requires c κs = c .before .before .before .before .before .before .pre
 
 returns-2 : tie.Need-returns-2
-unfolding lowerBegun withValue lowerStep
+unfolding lowerStart withValue lowerStep
 returns-2 c =
     let at-if2 = c .before .before in
     let at-if1 = at-if2 .before .before in
-    rw (price-is _ _ _ (at-if1 .before .before .priced .ensures) (at-if1 .if1 .left), at-if2 .if2 .taken, ← c .before .lower-guess .ensures) (c .looping .ensures)
+    rw (price-is _ _ _ (at-if1 .before .before .price-and-vega-at .ensures) (at-if1 .if1 .left), at-if2 .if2 .taken, ← c .before .lower-guess .ensures) (c .start-loop .ensures)
 
 middle-guess-requires : tie.Need-middle-guess-requires
 middle-guess-requires c κs = search needs
 
-looping-requires-2 : tie.Need-looping-requires-2
-looping-requires-2 c κs = c .before .before .before .before .before .before .pre
+start-loop-requires-2 : tie.Need-start-loop-requires-2
+start-loop-requires-2 c κs = c .before .before .before .before .before .before .pre
 
 returns-3 : tie.Need-returns-3
-unfolding lowerBegun withValue generalStep
+unfolding lowerStart withValue generalStep
 returns-3 c =
     let at-if2 = c .before .before in
     let at-if1 = at-if2 .before .before in
-    let priced = at-if1 .before .before .priced .ensures in
-    rw (price-is _ _ _ priced (at-if1 .if1 .left), at-if2 .if2 .left, vega-is _ _ _ priced, ← c .before .middle-guess .ensures) (c .looping2 .ensures)
+    let priced = at-if1 .before .before .price-and-vega-at .ensures in
+    rw (price-is _ _ _ priced (at-if1 .if1 .left), at-if2 .if2 .left, vega-is _ _ _ priced, ← c .before .middle-guess .ensures) (c .start-loop2 .ensures)
 
 pub lower-start-spec : {M : Type 1} → statement M
 lower-start-spec =
     tie.close
     (tie.spec
-    priced-requires
+    price-and-vega-at-requires
     returns
     lower-guess-requires
-    looping-requires
+    start-loop-requires
     returns-2
     middle-guess-requires
-    looping-requires-2
+    start-loop-requires-2
     returns-3)

@@ -1,24 +1,24 @@
 -- `guess::mapped_start` meets its contract: each way out is the arm that the tests before it leave. Assumes nothing.
 use mathlib.Core.Path.{refl}
-use Rattle.solver.specs.Guess.{mappedBegun}
+use Rattle.solver.specs.Guess.{mappedStart}
 use borrow.Author.Needs.{needs}
 use Rattle.solver.proofs.guess.mapped_start.Statement.{statement}
 use Rattle.solver.proofs.guess.mapped_start.Tie as tie
 
 returns : tie.Need-returns
-unfolding mappedBegun
-returns c = rw (c .if1 .taken) (record { begun = refl; shared = tt })
+unfolding mappedStart
+returns c = rw (c .if1 .taken) (record { meaning = refl; exponentials = tt })
 
 returns-2 : tie.Need-returns-2
-unfolding mappedBegun
-returns-2 c = rw (c .before .if1 .left, c .if2 .taken) (record { begun = refl; shared = tt })
+unfolding mappedStart
+returns-2 c = rw (c .before .if1 .left, c .if2 .taken) (record { meaning = refl; exponentials = tt })
 
 exp-requires : tie.Need-exp-requires
 exp-requires c κs = search needs
 
 returns-3 : tie.Need-returns-3
-unfolding mappedBegun
-returns-3 c = rw (c .before .before .before .if1 .left, c .before .before .if2 .left, ← c .before .exp .ensures, c .if3 .taken) (record { begun = refl; shared = tt })
+unfolding mappedStart
+returns-3 c = rw (c .before .before .before .if1 .left, c .before .before .if2 .left, ← c .before .exp .ensures, c .if3 .taken) (record { meaning = refl; exponentials = tt })
 
 exp-requires-2 : tie.Need-exp-requires-2
 exp-requires-2 c κs = search needs
@@ -27,7 +27,7 @@ guessed-start-requires : tie.Need-guessed-start-requires
 guessed-start-requires c κs = record { up-is = c .before .before .exp .ensures; down-is = c .exp2 .ensures }
 
 returns-4 : tie.Need-returns-4
-unfolding mappedBegun
+unfolding mappedStart
 returns-4 c =
     let at-if3 = c .before .before in
     let at-if2 = at-if3 .before .before in

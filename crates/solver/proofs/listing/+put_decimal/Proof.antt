@@ -4,7 +4,7 @@ use Prim.Native.Nat.{ℕ, _+_, _-_, _/_, _%_, _<_}
 use native.Mathlib.Omega.{arith}
 use borrow.Author.Needs.{needs}
 use Rattle.solver.specs.Listing.{decimalBy}
-use Rattle.solver.proofs.Laws.Laid.{put-both, put-none}
+use Rattle.solver.proofs.Laws.Overwritten.{put-both, put-none}
 use Rattle.solver.proofs.Laws.Lines.{decimal-length}
 use Rattle.solver.proofs.listing.Digits.{not-zero, decimal-none, decimal-one, decimal-more}
 use borrow.Fn.Kinds.{In}

@@ -4,7 +4,7 @@ use Prim.Native.Nat.{ℕ, _+_, _-_, _/_, _%_, _<_}
 use native.Mathlib.Omega.{arith}
 use borrow.Author.Needs.{needs}
 use Rattle.solver.specs.Listing.{hexDigit, hexBy}
-use Rattle.solver.proofs.Laws.Laid.{put-both, put-none}
+use Rattle.solver.proofs.Laws.Overwritten.{put-both, put-none}
 use Rattle.solver.proofs.Laws.Lines.{hex-length}
 use Rattle.solver.proofs.listing.Digits.{not-zero, hex-none, hex-more}
 use borrow.Fn.Kinds.{In}

@@ -10,12 +10,12 @@ returns : tie.Need-returns
 unfolding answerAt
 returns c = rw (lt-ltb (length (c .before .before .args .bytes .now)) 64 (c .if1 .taken))
 
-resolved-requires : tie.Need-resolved-requires
-resolved-requires c κs = search needs
+solve-record-requires : tie.Need-solve-record-requires
+solve-record-requires c κs = search needs
 
 returns-2 : tie.Need-returns-2
 unfolding answerAt
-returns-2 c = rw (le-ltb (length (c .before .before .before .args .bytes .now)) 64 (c .before .if1 .left)) (c .resolved .ensures)
+returns-2 c = rw (le-ltb (length (c .before .before .before .args .bytes .now)) 64 (c .before .if1 .left)) (c .solveRecord .ensures)
 
 pub answer-of-spec : {M : Type 1} → statement M
-answer-of-spec = tie.close (tie.spec returns resolved-requires returns-2)
+answer-of-spec = tie.close (tie.spec returns solve-record-requires returns-2)

@@ -8,7 +8,7 @@ use lib.ListN.{length}
 use borrow.Author.Needs.{needs}
 use borrow.Author.Tests.{lt-ltb, le-ltb}
 use Rattle.solver.specs.Listing.{decimalBy, answerBytes, lineOf, lineIn}
-use Rattle.solver.proofs.Laws.Laid.{put-both}
+use Rattle.solver.proofs.Laws.Overwritten.{put-both}
 use Rattle.solver.proofs.Laws.Lines.{decimal-length, answer-length}
 use Rattle.solver.proofs.listing.line.Statement.{statement}
 use Rattle.solver.proofs.listing.line.Tie as tie
@@ -23,8 +23,8 @@ put-decimal-requires c κs = search needs
 answer-of-requires : tie.Need-answer-of-requires
 answer-of-requires c κs = search needs
 
-put-told-requires : tie.Need-put-told-requires
-put-told-requires c κs =
+put-answer-requires : tie.Need-put-answer-requires
+put-answer-requires c κs =
     let p₁ = c .before .before .before .before in
     omega (arith, decimal-length 20 (p₁ .before .before .before .before .before .args .index))
 
@@ -48,7 +48,7 @@ returns-2 c =
     let answer = p₂ .before .answer-of in
     let number = decimalBy 20 (a .index) in
     let room : 0 ≤ length (a .out .now) = omega arith in
-    let q₂ = put-both 0 number (answerBytes (answer .result)) (a .out .now) _ _ _ _ room (p₁ .put-decimal .ensures) (p₂ .put-told .ensures) in
+    let q₂ = put-both 0 number (answerBytes (answer .result)) (a .out .now) _ _ _ _ room (p₁ .put-decimal .ensures) (p₂ .put-answer .ensures) in
     let q₃ = put-both 0 (number ++ answerBytes (answer .result)) (10 ∷ []) (a .out .now) _ _ _ _ room q₂ (p₃ .put-byte .ensures) in
     rw (le-ltb (length (a .out .now)) 128 (large .if1 .left), ← answer .ensures) (q₃ .0 ∙ zero-add _, q₃ .1)
 
@@ -59,7 +59,7 @@ line-spec =
     returns
     put-decimal-requires
     answer-of-requires
-    put-told-requires
+    put-answer-requires
     put-byte-requires
     same-length
     returns-2)

@@ -1,7 +1,7 @@
 -- `listing::put_byte` meets its contract: one byte stored is a run of one byte laid there. Assumes nothing.
 use mathlib.Core.Path.{refl}
 use borrow.Author.Needs.{needs}
-use Rattle.solver.proofs.Laws.Laid.{put-one}
+use Rattle.solver.proofs.Laws.Overwritten.{put-one}
 use Rattle.solver.proofs.listing.put_byte.Statement.{statement}
 use Rattle.solver.proofs.listing.put_byte.Tie as tie
 

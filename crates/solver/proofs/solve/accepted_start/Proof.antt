@@ -6,8 +6,8 @@ use Rattle.elementary.specs.Ops.{_⊖_, _⊗_, _⊘_, +0}
 use Rattle.elementary.specs.RuleSets.{rule-set-0}
 use Rattle.elementary.specs.Methods.{maxOf}
 use Rattle.prices.specs.Inputs.{negated}
-use Rattle.solver.specs.Guess.{normalisedBegun}
-use Rattle.solver.specs.Solve.{overExpiry, acceptedBegun}
+use Rattle.solver.specs.Guess.{normalisedStart}
+use Rattle.solver.specs.Solve.{overExpiry, acceptedStart}
 use borrow.Author.Needs.{needs}
 use Rattle.solver.proofs.solve.accepted_start.Statement.{statement}
 use Rattle.solver.proofs.solve.accepted_start.Tie as tie
@@ -19,15 +19,15 @@ max-requires : tie.Need-max-requires
 max-requires c κs = search needs
 
 returns : tie.Need-returns
-unfolding acceptedBegun
-returns c = rw (← c .before .before .times .ensures, ← c .before .max .ensures, c .if1 .taken) (record { begun = refl; shared = tt })
+unfolding acceptedStart
+returns c = rw (← c .before .before .times .ensures, ← c .before .max .ensures, c .if1 .taken) (record { meaning = refl; exponentials = tt })
 
 max-price-requires : tie.Need-max-price-requires
 max-price-requires c κs = search needs
 
 returns-2 : tie.Need-returns-2
-unfolding acceptedBegun
-returns-2 c = rw (← c .before .before .before .before .times .ensures, ← c .before .before .before .max .ensures, c .before .before .if1 .left, ← c .before .max-price .ensures, c .if2 .taken) (record { begun = refl; shared = tt })
+unfolding acceptedStart
+returns-2 c = rw (← c .before .before .before .before .times .ensures, ← c .before .before .before .max .ensures, c .before .before .if1 .left, ← c .before .max-price .ensures, c .if2 .taken) (record { meaning = refl; exponentials = tt })
 
 ln-requires : tie.Need-ln-requires
 ln-requires c κs = search needs
@@ -51,7 +51,7 @@ normalised-start-requires : tie.Need-normalised-start-requires
 normalised-start-requires c κs = search needs
 
 over-expiry-requires : tie.Need-over-expiry-requires
-over-expiry-requires c κs = c .normalised-start .ensures .shared
+over-expiry-requires c κs = c .normalised-start .ensures .exponentials
 
 -- x and both roots, from where both ways go on
 guessed : (c : tie.After-times2) →
@@ -61,9 +61,9 @@ guessed : (c : tie.After-times2) →
     let x = at-ln .ln .result in
     let root = c .before .before .sqrt .result ⊗ c .before .sqrt2 .result in
     let mapped = maxOf (a .price ⊖ at-max .max .result) +0 ⊘ root in
-    acceptedBegun rule-set-0 (a .price) (a .forward) (a .strike) (a .expiry) (a .option-type)
-    ≡ cond (lt +0 (c .times2 .result)) (overExpiry (a .expiry) (normalisedBegun rule-set-0 mapped x (negated (a .option-type)))) (overExpiry (a .expiry) (normalisedBegun rule-set-0 (a .price ⊘ root) x (a .option-type)))
-unfolding acceptedBegun
+    acceptedStart rule-set-0 (a .price) (a .forward) (a .strike) (a .expiry) (a .option-type)
+    ≡ cond (lt +0 (c .times2 .result)) (overExpiry (a .expiry) (normalisedStart rule-set-0 mapped x (negated (a .option-type)))) (overExpiry (a .expiry) (normalisedStart rule-set-0 (a .price ⊘ root) x (a .option-type)))
+unfolding acceptedStart
 guessed c =
     let at-ln = c .before .before .before in
     let at-if2 = at-ln .before in
@@ -74,18 +74,18 @@ returns-3 : tie.Need-returns-3
 returns-3 c =
     let at-neg = c .before .before in
     let at-if3 = at-neg .before .before in
-    rw (guessed (at-if3 .before), at-if3 .if3 .taken, ← at-neg .before .max2 .ensures, ← at-neg .neg .ensures, ← c .before .normalised-start .ensures .begun) (c .over-expiry .ensures)
+    rw (guessed (at-if3 .before), at-if3 .if3 .taken, ← at-neg .before .max2 .ensures, ← at-neg .neg .ensures, ← c .before .normalised-start .ensures .meaning) (c .over-expiry .ensures)
 
 normalised-start-requires-2 : tie.Need-normalised-start-requires-2
 normalised-start-requires-2 c κs = search needs
 
 over-expiry-requires-2 : tie.Need-over-expiry-requires-2
-over-expiry-requires-2 c κs = c .normalised-start2 .ensures .shared
+over-expiry-requires-2 c κs = c .normalised-start2 .ensures .exponentials
 
 returns-4 : tie.Need-returns-4
 returns-4 c =
     let at-if3 = c .before .before in
-    rw (guessed (at-if3 .before), at-if3 .if3 .left, ← c .before .normalised-start2 .ensures .begun) (c .over-expiry2 .ensures)
+    rw (guessed (at-if3 .before), at-if3 .if3 .left, ← c .before .normalised-start2 .ensures .meaning) (c .over-expiry2 .ensures)
 
 pub accepted-start-spec : {M : Type 1} → statement M
 accepted-start-spec =

@@ -17,13 +17,13 @@ enum-known-start-3 : tie.Need-enum-known-start-3
 enum-known-start-3 c = search needs
 
 returns : tie.Need-returns
-returns c = rw (c .sqrt .ensures, c .before .before .start .given .1) (record { begun = refl; shared = tt })
+returns c = rw (c .sqrt .ensures, c .before .before .start .given .1) (record { meaning = refl; exponentials = tt })
 
 returns-2 : tie.Need-returns-2
-returns-2 c = rw (c .before .start2 .given .1) (record { begun = refl; shared = tt })
+returns-2 c = rw (c .before .start2 .given .1) (record { meaning = refl; exponentials = tt })
 
 returns-3 : tie.Need-returns-3
-returns-3 c = rw (c .before .start3 .given .1) (record { begun = refl; shared = rw (c .before .start3 .given .1) at (c .before .before .before .pre) })
+returns-3 c = rw (c .before .start3 .given .1) (record { meaning = refl; exponentials = rw (c .before .start3 .given .1) at (c .before .before .before .pre) })
 
 pub over-expiry-spec : {M : Type 1} → statement M
 over-expiry-spec =

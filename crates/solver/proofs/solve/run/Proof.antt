@@ -10,8 +10,8 @@ use Rattle.solver.proofs.Laws.Reached.{Reached, none-wrote, one-more, g
 use Rattle.solver.proofs.Laws.Parts.{part-laid}
 use Rattle.elementary.specs.RuleSets.{rule-set-0}
 use Rattle.solver.specs.declared.state.State.{State}
-use Rattle.solver.specs.declared.state.Stepped.{Stepped}
-use Rattle.solver.specs.Loop.{tested, limited, refused, run}
+use Rattle.solver.specs.declared.state.StepResult.{StepResult}
+use Rattle.solver.specs.Loop.{by-test, by-limit, by-refusal, run}
 use Rattle.solver.specs.Step.{nextBy}
 use Rattle.solver.specs.Inside.Branch.{branchStep}
 use Rattle.solver.specs.Trail.{recordBytes}
@@ -75,7 +75,7 @@ loop-again c =
     let at = room .before in
     let a = at .before .before .args in
     let inv = at .loop .inv in
-    let step-of : State → Stepped = branchStep rule-set-0 (a .branch) (a .m .«b_max») (a .m .x) (a .m .beta) in
+    let step-of : State → StepResult = branchStep rule-set-0 (a .branch) (a .m .«b_max») (a .m .x) (a .m .beta) in
     let st′ = next .0 .0 in
     let r = next .0 .1 .0 in
     record {
@@ -104,12 +104,12 @@ returns c =
     let at = room .before in
     let a = at .before .before .args in
     let inv = at .loop .inv in
-    let step-of : State → Stepped = branchStep rule-set-0 (a .branch) (a .m .«b_max») (a .m .x) (a .m .beta) in
+    let step-of : State → StepResult = branchStep rule-set-0 (a .branch) (a .m .«b_max») (a .m .x) (a .m .beta) in
     let n = c .before .n .given in
     let next = nextBy step-of in
     let w = run next (a .limit) (a .start) in
     let leads = next-refused step-of (at .loop .st) _ _ (test .before .is-close .ensures) (step .step .ensures) (test .if2 .left) (n .0 .0) (n .1) in
-    ended w (inv .rs) (refused (n .0 .0)) (a .branch) (a .root) (a .keep) _ _ _ (stops next (a .limit) (at .loop .steps) w (inv .rs) (at .loop .st) (inv .rest) (room .if1 .left) _ leads) (inv .count) (inv .wrote)
+    ended w (inv .rs) (by-refusal (n .0 .0)) (a .branch) (a .root) (a .keep) _ _ _ (stops next (a .limit) (at .loop .steps) w (inv .rs) (at .loop .st) (inv .rest) (room .if1 .left) _ leads) (inv .count) (inv .wrote)
 
 same-length-2 : tie.Need-same-length-2 Inv-loop μ-loop
 same-length-2 c = search needs
@@ -119,13 +119,13 @@ returns-2 c =
     let at = c .before .before .before in
     let a = at .before .before .args in
     let inv = at .loop .inv in
-    let step-of : State → Stepped = branchStep rule-set-0 (a .branch) (a .m .«b_max») (a .m .x) (a .m .beta) in
+    let step-of : State → StepResult = branchStep rule-set-0 (a .branch) (a .m .«b_max») (a .m .x) (a .m .beta) in
     let next = nextBy step-of in
     let all = run next (a .limit) (a .start) in
     let st = at .loop .st in
     ⊎-elim
-    (λ w. rw (w .1) (ended all (inv .rs) (limited st) (a .branch) (a .root) (a .keep) _ _ _ (runs-out next (a .limit) (at .loop .steps) all (inv .rs) st (inv .rest) (w .0 .taken)) (inv .count) (inv .wrote)))
-    (λ w. rw (w .3) (ended all (inv .rs) (tested st) (a .branch) (a .root) (a .keep) _ _ _ (stops next (a .limit) (at .loop .steps) all (inv .rs) st (inv .rest) (w .0 .left) _ (next-tested step-of st _ (w .1 .ensures) (w .2 .taken))) (inv .count) (inv .wrote)))
+    (λ w. rw (w .1) (ended all (inv .rs) (by-limit st) (a .branch) (a .root) (a .keep) _ _ _ (runs-out next (a .limit) (at .loop .steps) all (inv .rs) st (inv .rest) (w .0 .taken)) (inv .count) (inv .wrote)))
+    (λ w. rw (w .3) (ended all (inv .rs) (by-test st) (a .branch) (a .root) (a .keep) _ _ _ (stops next (a .limit) (at .loop .steps) all (inv .rs) st (inv .rest) (w .0 .left) _ (next-tested step-of st _ (w .1 .ensures) (w .2 .taken))) (inv .count) (inv .wrote)))
     (c .before .before .if1 .came)
 
 pub run-spec : {M : Type 1} → statement M

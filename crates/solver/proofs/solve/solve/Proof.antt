@@ -3,8 +3,8 @@ use mathlib.Core.Logic.{inl, inr, ⊎-elim}
 use lib.ListN.{length}
 use denote.Ref.{now}
 use borrow.Author.Needs.{needs}
-use Rattle.solver.specs.Solve.{solvingOf}
-use Rattle.solver.proofs.Laws.Solving.{by-number, by-trail, by-start, Long, short, long, room, untouched, ran-on}
+use Rattle.solver.specs.Solve.{resultFrom}
+use Rattle.solver.proofs.Laws.SolveCases.{by-number, by-trail, by-start, Long, short, long, room, untouched, ran-on}
 use Rattle.solver.proofs.solve.solve.Statement.{statement}
 use Rattle.solver.proofs.solve.solve.Tie as tie
 
@@ -51,29 +51,29 @@ run-requires c κs =
     let start = ahead .before .before in
     let test = start .before in
     let a = test .before .before .before .before .args in
-    (rw (ahead .branch .given .1) at (start .accepted-start .ensures .shared), room (a .keep) (length (now (a .trail))) (a .limit) (came test))
+    (rw (ahead .branch .given .1) at (start .accepted-start .ensures .exponentials), room (a .keep) (length (now (a .trail))) (a .limit) (came test))
 
 returns-3 : tie.Need-returns-3
-unfolding solvingOf
+unfolding resultFrom
 returns-3 c =
     let start = c .before .before .before in
     let test = start .before in
     let a = test .before .before .before .before .args in
-    untouched _ _ (a .keep) (now (a .trail)) (by-start (a .keep) (length (now (a .trail))) (a .price) (a .forward) (a .strike) (a .expiry) (a .option-type) (a .limit) _ (test .before .before .input-number .ensures) (test .before .if1 .left) (long (a .keep) (length (now (a .trail))) (a .limit) (came test)) _ (start .accepted-start .ensures .begun) _ (c .before .v .given .1))
+    untouched _ _ (a .keep) (now (a .trail)) (by-start (a .keep) (length (now (a .trail))) (a .price) (a .forward) (a .strike) (a .expiry) (a .option-type) (a .limit) _ (test .before .before .input-number .ensures) (test .before .if1 .left) (long (a .keep) (length (now (a .trail))) (a .limit) (came test)) _ (start .accepted-start .ensures .meaning) _ (c .before .v .given .1))
 
 returns-4 : tie.Need-returns-4
-unfolding solvingOf
+unfolding resultFrom
 returns-4 c =
     let start = c .before .before .before in
     let test = start .before in
     let a = test .before .before .before .before .args in
-    untouched _ _ (a .keep) (now (a .trail)) (by-start (a .keep) (length (now (a .trail))) (a .price) (a .forward) (a .strike) (a .expiry) (a .option-type) (a .limit) _ (test .before .before .input-number .ensures) (test .before .if1 .left) (long (a .keep) (length (now (a .trail))) (a .limit) (came test)) _ (start .accepted-start .ensures .begun) _ (c .before .n .given .1))
+    untouched _ _ (a .keep) (now (a .trail)) (by-start (a .keep) (length (now (a .trail))) (a .price) (a .forward) (a .strike) (a .expiry) (a .option-type) (a .limit) _ (test .before .before .input-number .ensures) (test .before .if1 .left) (long (a .keep) (length (now (a .trail))) (a .limit) (came test)) _ (start .accepted-start .ensures .meaning) _ (c .before .n .given .1))
 
 same-length : tie.Need-same-length
 same-length c = search needs
 
 returns-5 : tie.Need-returns-5
-unfolding solvingOf
+unfolding resultFrom
 returns-5 c =
     let call = c .before .before in
     let root = call .before .before in
@@ -82,7 +82,7 @@ returns-5 c =
     let test = start .before in
     let a = test .before .before .before .before .args in
     ran-on (a .keep) _ _ _ _ _
-    (by-start (a .keep) (length (now (a .trail))) (a .price) (a .forward) (a .strike) (a .expiry) (a .option-type) (a .limit) _ (test .before .before .input-number .ensures) (test .before .if1 .left) (long (a .keep) (length (now (a .trail))) (a .limit) (came test)) _ (start .accepted-start .ensures .begun) _ (ahead .branch .given .1))
+    (by-start (a .keep) (length (now (a .trail))) (a .price) (a .forward) (a .strike) (a .expiry) (a .option-type) (a .limit) _ (test .before .before .input-number .ensures) (test .before .if1 .left) (long (a .keep) (length (now (a .trail))) (a .limit) (came test)) _ (start .accepted-start .ensures .meaning) _ (ahead .branch .given .1))
     (rw (root .sqrt .ensures) at (call .run .ensures))
 
 pub solve-spec : {M : Type 1} → statement M

@@ -1,6 +1,6 @@
 -- `solve::solve_without_trail` meets its contract: it is `solve::solve` that keeps no trail. Assumes nothing.
 use borrow.Author.Needs.{needs}
-use Rattle.solver.specs.Solve.{solvingWith, solveOf}
+use Rattle.solver.specs.Solve.{solveKeeping, solveOf}
 use Rattle.solver.proofs.solve.solve_without_trail.Statement.{statement}
 use Rattle.solver.proofs.solve.solve_without_trail.Tie as tie
 
@@ -11,7 +11,7 @@ solve-requires : tie.Need-solve-requires
 solve-requires c κs = search needs
 
 returns : tie.Need-returns
-unfolding solvingWith solveOf
+unfolding solveKeeping solveOf
 returns c = c .before .solve .ensures .0
 
 pub solve-without-trail-spec : {M : Type 1} → statement M

@@ -1,17 +1,17 @@
 -- `step::step` meets its contract: what the calls found, in the record and in the state. Assumes nothing.
-use Rattle.solver.proofs.Laws.Priced.{price-is, refusal-is, vega-is}
+use Rattle.solver.proofs.Laws.PriceAndVega.{price-is, refusal-is, vega-is}
 use borrow.Author.Needs.{needs}
 use Rattle.solver.proofs.step.step.Statement.{statement}
 use Rattle.solver.proofs.step.step.Tie as tie
 
-priced-requires : tie.Need-priced-requires
-priced-requires c κs = c .pre
+price-and-vega-at-requires : tie.Need-price-and-vega-at-requires
+price-and-vega-at-requires c κs = c .pre
 
 returns : tie.Need-returns
-returns c = rw (refusal-is _ _ _ (c .before .before .priced .ensures) (c .if1 .taken))
+returns c = rw (refusal-is _ _ _ (c .before .before .price-and-vega-at .ensures) (c .if1 .taken))
 
-ends-after-requires : tie.Need-ends-after-requires
-ends-after-requires c κs = search needs
+bracket-after-requires : tie.Need-bracket-after-requires
+bracket-after-requires c κs = search needs
 
 branch-ds-requires : tie.Need-branch-ds-requires
 branch-ds-requires c κs = search needs
@@ -22,18 +22,18 @@ branch-after-requires c κs = search needs
 returns-2 : tie.Need-returns-2
 returns-2 c =
     let ds = c .before in
-    let ends = ds .before in
-    let at-if1 = ends .before in
-    let priced = at-if1 .before .before .priced .ensures in
-    rw (price-is _ _ _ priced (at-if1 .if1 .left), vega-is _ _ _ priced, c .branch-after .ensures, ds .branch-ds .ensures, ends .ends-after .ensures)
+    let stop = ds .before in
+    let at-if1 = stop .before in
+    let priced = at-if1 .before .before .price-and-vega-at .ensures in
+    rw (price-is _ _ _ priced (at-if1 .if1 .left), vega-is _ _ _ priced, c .branch-after .ensures, ds .branch-ds .ensures, stop .bracket-after .ensures)
 
 pub step-spec : {M : Type 1} → statement M
 step-spec =
     tie.close
     (tie.spec
-    priced-requires
+    price-and-vega-at-requires
     returns
-    ends-after-requires
+    bracket-after-requires
     branch-ds-requires
     branch-after-requires
     returns-2)

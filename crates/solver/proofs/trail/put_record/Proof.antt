@@ -1,6 +1,7 @@
 -- `trail::put_record` meets its contract: six floats, one behind the other.
 use Rattle.solver.proofs.Laws.Parts.{behind}
-use Rattle.solver.specs.Trail.{laid, floatBytes, recordBytes}
+use Rattle.solver.specs.LittleEndian.{overwritten, floatBytes}
+use Rattle.solver.specs.Trail.{recordBytes}
 use mathlib.Core.Path.{_≡_}
 use mathlib.Core.List.{List, _++_}
 use Prim.Native.Nat.{ℕ}
@@ -12,8 +13,8 @@ use Rattle.solver.proofs.trail.put_record.Statement.{statement}
 use Rattle.solver.proofs.trail.put_record.Tie as tie
 
 module _ (r : Record) (l₀ l₁ l₂ l₃ l₄ l₅ l₆ : List ℕ) where
-  six : l₁ ≡ laid 0 (floatBytes (r .s)) l₀ → l₂ ≡ laid 8 (floatBytes (r .b)) l₁ → l₃ ≡ laid 16 (floatBytes (r .vega)) l₂
-      → l₄ ≡ laid 24 (floatBytes (r .left)) l₃ → l₅ ≡ laid 32 (floatBytes (r .right)) l₄ → l₆ ≡ laid 40 (floatBytes (r .after)) l₅
+  six : l₁ ≡ overwritten 0 (floatBytes (r .s)) l₀ → l₂ ≡ overwritten 8 (floatBytes (r .b)) l₁ → l₃ ≡ overwritten 16 (floatBytes (r .vega)) l₂
+      → l₄ ≡ overwritten 24 (floatBytes (r .left)) l₃ → l₅ ≡ overwritten 32 (floatBytes (r .right)) l₄ → l₆ ≡ overwritten 40 (floatBytes (r .after)) l₅
       → l₆ ≡ recordBytes r ++ drop 48 l₀
   unfolding recordBytes
   six e₁ e₂ e₃ e₄ e₅ e₆ =

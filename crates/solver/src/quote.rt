@@ -1,0 +1,10 @@
+// What solve is asked for: the market price of an option on a future.
+use prices::inputs::OptionType;
+
+pub struct Quote {
+    pub price: f64,
+    pub forward: f64,
+    pub strike: f64,
+    pub expiry: f64,
+    pub option_type: OptionType,
+}
