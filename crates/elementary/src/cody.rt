@@ -2,6 +2,7 @@
 use crate::exp::exp;
 use crate::exp::exps;
 use crate::floor::floor;
+use crate::limits::MAX;
 use crate::methods::abs;
 use crate::methods::same;
 use crate::rule_set::RULE_SET_0;
@@ -216,7 +217,7 @@ pub fn erfcx(x: f64) -> f64
         return exp(z) * (1.0 - x * ab(z));
     }
     if x < XNEG {
-        return 1.7976931348623157e308;
+        return MAX;
     }
     let result = erfcx_above_threshold(y);
     if x < 0.0 {

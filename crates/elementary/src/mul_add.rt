@@ -2,6 +2,7 @@
 // `quick` finds two floats whose exact sum rounds alike and lets the machine add them, `general`
 // works in numbers of two words. For a whole b and a whole −c `mul_add_whole` has a fourth, with no
 // branch on digits.
+use crate::limits::EPSILON;
 use crate::round::Parts;
 use crate::round::Wide;
 use crate::round::any;
@@ -441,7 +442,7 @@ fn pinned(s: f64, w: f64) -> Tried
     requires { ⌜ T (not (Ieee.isNan w)) ⌝ }
     ensures { λ r. ⌜ (r .done ≡ true → Pinned s w (r .value)) ⌝ }
 {
-    let d = f64::from_bits(f64::to_bits(w) % 0x8000_0000_0000_0000) * 2.220446049250313e-16;
+    let d = f64::from_bits(f64::to_bits(w) % 0x8000_0000_0000_0000) * EPSILON;
     let lo = w - d;
     let hi = w + d;
     let r = s + lo;

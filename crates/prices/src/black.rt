@@ -2,7 +2,7 @@
 use crate::answer::Answer;
 use crate::inputs::OptionType;
 use crate::intrinsic::normalised_intrinsic;
-use elementary::cody::erfc;
+use elementary::cody::erfc_under;
 use elementary::cody::erfcx;
 use elementary::exp::exp;
 use elementary::ln::ln;
@@ -10,6 +10,8 @@ use elementary::methods::abs;
 use elementary::methods::max;
 use elementary::mul_add::mul_add;
 use elementary::mul_add::mul_add_whole;
+use elementary::rule_set::RULE_SET_0;
+use elementary::rule_set::RuleSet;
 use elementary::sqrt::sqrt;
 ghost use mathlib.Core.Path.{_≡_};
 ghost use mathlib.Core.Bool.{not, cond, _&&_};
@@ -45,26 +47,26 @@ pub(crate) fn bell(h: f64, t: f64) -> f64
 // ---- optimal use of Cody's functions
 
 // Twice the price, from the exponentials of x / 2, −x / 2 and −(h² + t²) / 2.
-fn two_b(up: f64, down: f64, exp_term: f64, q1: f64, q2: f64) -> f64
-    ensures { λ r. ⌜ r ≡ twoBWith rule-set-0 up down «exp_term» q1 q2 ⌝ }
+fn two_b(set: RuleSet, up: f64, down: f64, exp_term: f64, q1: f64, q2: f64) -> f64
+    ensures { λ r. ⌜ r ≡ twoBWith set up down «exp_term» q1 q2 ⌝ }
 {
     if q1 < CODYS_THRESHOLD {
         if q2 < CODYS_THRESHOLD {
-            return up * erfc(q1) - down * erfc(q2);
+            return up * erfc_under(set, q1) - down * erfc_under(set, q2);
         }
-        return up * erfc(q1) - exp_term * erfcx(q2);
+        return up * erfc_under(set, q1) - exp_term * erfcx(q2);
     }
     if q2 < CODYS_THRESHOLD {
-        return exp_term * erfcx(q1) - down * erfc(q2);
+        return exp_term * erfcx(q1) - down * erfc_under(set, q2);
     }
     exp_term * (erfcx(q1) - erfcx(q2))
 }
 
 // Cody's price, from the same exponentials.
-pub(crate) fn codys(up: f64, down: f64, exp_term: f64, q1: f64, q2: f64) -> f64
-    ensures { λ r. ⌜ r ≡ maxOf (half ⊗ twoBWith rule-set-0 up down «exp_term» q1 q2) +0 ⌝ }
+pub(crate) fn codys(set: RuleSet, up: f64, down: f64, exp_term: f64, q1: f64, q2: f64) -> f64
+    ensures { λ r. ⌜ r ≡ maxOf (half ⊗ twoBWith set up down «exp_term» q1 q2) +0 ⌝ }
 {
-    max(0.5 * two_b(up, down, exp_term, q1, q2), 0.0)
+    max(0.5 * two_b(set, up, down, exp_term, q1, q2), 0.0)
 }
 
 // exp(y) where it is asked for.
@@ -82,8 +84,12 @@ fn not_both(a: bool, b: bool) -> bool
 }
 
 // Each exponential is computed only where it is read.
-pub fn normalised_black_call_with_optimal_use_of_codys_functions(x: f64, s: f64) -> f64
-    ensures { λ r. ⌜ r ≡ codysOf rule-set-0 x s ⌝ }
+pub fn normalised_black_call_with_optimal_use_of_codys_functions_under(
+    set: RuleSet,
+    x: f64,
+    s: f64,
+) -> f64
+    ensures { λ r. ⌜ r ≡ codysOf set x s ⌝ }
 {
     let h = x / s;
     let t = 0.5 * s;
@@ -94,7 +100,13 @@ pub fn normalised_black_call_with_optimal_use_of_codys_functions(x: f64, s: f64)
     let up = exp_where(first_erfc, 0.5 * x);
     let down = exp_where(second_erfc, -0.5 * x);
     let exp_term = exp_where(not_both(first_erfc, second_erfc), -0.5 * (h * h + t * t));
-    codys(up, down, exp_term, q1, q2)
+    codys(set, up, down, exp_term, q1, q2)
+}
+
+pub fn normalised_black_call_with_optimal_use_of_codys_functions(x: f64, s: f64) -> f64
+    ensures { λ r. ⌜ r ≡ codysOf rule-set-0 x s ⌝ }
+{
+    normalised_black_call_with_optimal_use_of_codys_functions_under(RULE_SET_0, x, s)
 }
 
 // ---- the Taylor sum for a small t
@@ -272,8 +284,8 @@ pub(crate) fn is_asymptotic(x: f64, s: f64) -> bool
     }
 }
 
-fn region(x: f64, s: f64) -> Answer
-    ensures { λ r. ⌜ r ≡ regionOf rule-set-0 x s ⌝ }
+fn region(set: RuleSet, x: f64, s: f64) -> Answer
+    ensures { λ r. ⌜ r ≡ regionOf set x s ⌝ }
 {
     if is_asymptotic(x, s) {
         return asymptotic_expansion_of_normalised_black_call(x / s, 0.5 * s);
@@ -281,18 +293,18 @@ fn region(x: f64, s: f64) -> Answer
     if 0.5 * s < SMALL_T {
         return small_t_expansion_of_normalised_black_call(x / s, 0.5 * s);
     }
-    Answer::Value(normalised_black_call_with_optimal_use_of_codys_functions(x, s))
+    Answer::Value(normalised_black_call_with_optimal_use_of_codys_functions_under(set, x, s))
 }
 
 // Where s is 0 or below and x is finite, the intrinsic value; at an infinite x the product is NaN and
 // the test fails.
-fn out_of_the_money(x: f64, s: f64) -> Answer
-    ensures { λ r. ⌜ r ≡ outOfTheMoney rule-set-0 x s ⌝ }
+fn out_of_the_money(set: RuleSet, x: f64, s: f64) -> Answer
+    ensures { λ r. ⌜ r ≡ outOfTheMoney set x s ⌝ }
 {
     if s <= abs(x) * 0.0 {
         return Answer::Value(normalised_intrinsic(x, OptionType::Call));
     }
-    region(x, s)
+    region(set, x, s)
 }
 
 // A value with an amount added; a refusal passes up.
@@ -306,29 +318,41 @@ fn plus(amount: f64, price: Answer) -> Answer
 }
 
 // In the money the price at −x is out of the money: the call to itself is made once.
-fn call_at(depth: u64, x: f64, s: f64) -> Answer
-    ensures { λ r. ⌜ r ≡ callAt depth rule-set-0 x s ⌝ }
+fn call_at(set: RuleSet, depth: u64, x: f64, s: f64) -> Answer
+    ensures { λ r. ⌜ r ≡ callAt depth set x s ⌝ }
 {
     if depth == 0 {
-        return out_of_the_money(x, s);
+        return out_of_the_money(set, x, s);
     }
     if x > 0.0 {
         let intrinsic = normalised_intrinsic(x, OptionType::Call);
-        return plus(intrinsic, call_at(depth - 1, -x, s));
+        return plus(intrinsic, call_at(set, depth - 1, -x, s));
     }
-    out_of_the_money(x, s)
+    out_of_the_money(set, x, s)
+}
+
+pub fn normalised_black_call_under(set: RuleSet, x: f64, s: f64) -> Answer
+    ensures { λ r. ⌜ r ≡ callOf set x s ⌝ }
+{
+    call_at(set, 1, x, s)
 }
 
 pub fn normalised_black_call(x: f64, s: f64) -> Answer
     ensures { λ r. ⌜ r ≡ callOf rule-set-0 x s ⌝ }
 {
-    call_at(1, x, s)
+    normalised_black_call_under(RULE_SET_0, x, s)
+}
+
+pub fn normalised_black_under(set: RuleSet, x: f64, s: f64, option_type: OptionType) -> Answer
+    ensures { λ r. ⌜ r ≡ normalisedBlackOf set x s «option_type» ⌝ }
+{
+    normalised_black_call_under(set, option_type.times(x), s)
 }
 
 pub fn normalised_black(x: f64, s: f64, option_type: OptionType) -> Answer
     ensures { λ r. ⌜ r ≡ normalisedBlackOf rule-set-0 x s «option_type» ⌝ }
 {
-    normalised_black_call(option_type.times(x), s)
+    normalised_black_under(RULE_SET_0, x, s, option_type)
 }
 
 // ---- black
@@ -365,8 +389,15 @@ fn at_least(amount: f64, factor: f64, price: Answer) -> Answer
     }
 }
 
-fn price(forward: f64, strike: f64, sigma: f64, expiry: f64, option_type: OptionType) -> Answer
-    ensures { λ r. ⌜ r ≡ priceOf rule-set-0 forward strike sigma expiry «option_type» ⌝ }
+fn price(
+    set: RuleSet,
+    forward: f64,
+    strike: f64,
+    sigma: f64,
+    expiry: f64,
+    option_type: OptionType,
+) -> Answer
+    ensures { λ r. ⌜ r ≡ priceOf set forward strike sigma expiry «option_type» ⌝ }
 {
     let intrinsic = max(option_type.times(forward - strike), 0.0);
     let factor = sqrt(forward) * sqrt(strike);
@@ -374,12 +405,13 @@ fn price(forward: f64, strike: f64, sigma: f64, expiry: f64, option_type: Option
     at_least(
         intrinsic,
         factor,
-        normalised_black(x, sigma * sqrt(expiry), option_type),
+        normalised_black_under(set, x, sigma * sqrt(expiry), option_type),
     )
 }
 
 // In the money is mapped to out of the money, once.
 fn black_at(
+    set: RuleSet,
     depth: u64,
     forward: f64,
     strike: f64,
@@ -387,38 +419,48 @@ fn black_at(
     expiry: f64,
     option_type: OptionType,
 ) -> Answer
-    ensures { λ r. ⌜ r ≡ blackAt depth rule-set-0 forward strike sigma expiry «option_type» ⌝ }
+    ensures { λ r. ⌜ r ≡ blackAt depth set forward strike sigma expiry «option_type» ⌝ }
 {
     if depth == 0 {
-        return price(forward, strike, sigma, expiry, option_type);
+        return price(set, forward, strike, sigma, expiry, option_type);
     }
     let signed_diff = option_type.times(forward - strike);
     if signed_diff > 0.0 {
         let intrinsic = max(signed_diff, 0.0);
         return plus(
             intrinsic,
-            black_at(depth - 1, forward, strike, sigma, expiry, option_type.neg()),
+            black_at(
+                set,
+                depth - 1,
+                forward,
+                strike,
+                sigma,
+                expiry,
+                option_type.neg(),
+            ),
         );
     }
-    price(forward, strike, sigma, expiry, option_type)
+    price(set, forward, strike, sigma, expiry, option_type)
 }
 
 // The Black price, or 2, 3, 5, 4 for an input that has none, or 7 where the roundings at the
 // asymptotic region's edge disagree.
-pub fn black(
+pub fn black_under(
+    set: RuleSet,
     forward_price: f64,
     strike_price: f64,
     sigma: f64,
     time_to_maturity: f64,
     option_type: OptionType,
 ) -> Answer
-    ensures { λ r. ⌜ r ≡ blackOf rule-set-0 «forward_price» «strike_price» sigma «time_to_maturity» «option_type» ⌝ }
+    ensures { λ r. ⌜ r ≡ blackOf set «forward_price» «strike_price» sigma «time_to_maturity» «option_type» ⌝ }
 {
     if is_positive_normal(forward_price) {
         if is_positive_normal(strike_price) {
             if is_finite(sigma) {
                 if is_positive_normal(time_to_maturity) {
                     return black_at(
+                        set,
                         1,
                         forward_price,
                         strike_price,
@@ -434,4 +476,23 @@ pub fn black(
         return Answer::Refused(3);
     }
     Answer::Refused(2)
+}
+
+pub fn black(
+    forward_price: f64,
+    strike_price: f64,
+    sigma: f64,
+    time_to_maturity: f64,
+    option_type: OptionType,
+) -> Answer
+    ensures { λ r. ⌜ r ≡ blackOf rule-set-0 «forward_price» «strike_price» sigma «time_to_maturity» «option_type» ⌝ }
+{
+    black_under(
+        RULE_SET_0,
+        forward_price,
+        strike_price,
+        sigma,
+        time_to_maturity,
+        option_type,
+    )
 }

@@ -8,15 +8,15 @@ use crate::black::bell;
 use crate::black::codys;
 use crate::black::is_asymptotic;
 use crate::black::is_outside;
-use crate::black::normalised_black_call;
+use crate::black::normalised_black_call_under;
 use crate::black::small_t;
 use crate::inputs::OptionType;
 use crate::intrinsic::normalised_intrinsic;
 use crate::vega::normalised_vega;
 use crate::vega::vega_with;
 use elementary::methods::abs;
+use elementary::rule_set::RuleSet;
 ghost use mathlib.Core.Path.{_≡_};
-ghost use Rattle.elementary.specs.RuleSets.{rule-set-0};
 ghost use Rattle.elementary.specs.Ops.{_⊗_, _⊘_, half};
 ghost use Rattle.prices.specs.declared.answer.Answer.the-variants.{Value};
 ghost use Rattle.prices.specs.Vega.{vegaOf};
@@ -71,9 +71,17 @@ fn in_asymptotic_region(h: f64, t: f64, vega: f64) -> PriceAndVega
 }
 
 // The three regions of normalised_black_call.
-fn in_region(x: f64, s: f64, up: f64, down: f64, exp_term: f64, vega: f64) -> PriceAndVega
+fn in_region(
+    set: RuleSet,
+    x: f64,
+    s: f64,
+    up: f64,
+    down: f64,
+    exp_term: f64,
+    vega: f64,
+) -> PriceAndVega
     requires { ⌜ «exp_term» ≡ bellOf (x ⊘ s) (half ⊗ s) ⌝ }
-    ensures { λ r. ⌜ r ≡ priceAndVega (regionWith rule-set-0 up down x s) vega ⌝ }
+    ensures { λ r. ⌜ r ≡ priceAndVega (regionWith set up down x s) vega ⌝ }
 {
     let h = x / s;
     let t = 0.5 * s;
@@ -85,29 +93,40 @@ fn in_region(x: f64, s: f64, up: f64, down: f64, exp_term: f64, vega: f64) -> Pr
     }
     let q1 = MINUS_FRAC_1_SQRT_2 * (h + t);
     let q2 = MINUS_FRAC_1_SQRT_2 * (h - t);
-    priced(codys(up, down, exp_term, q1, q2), vega)
+    priced(codys(set, up, down, exp_term, q1, q2), vega)
 }
 
 // Where s is 0 or below and x is finite, the intrinsic value; at an infinite x the product is NaN and
 // the test fails.
-fn out_of_the_money(x: f64, s: f64, up: f64, down: f64, exp_term: f64, vega: f64) -> PriceAndVega
+fn out_of_the_money(
+    set: RuleSet,
+    x: f64,
+    s: f64,
+    up: f64,
+    down: f64,
+    exp_term: f64,
+    vega: f64,
+) -> PriceAndVega
     requires { ⌜ «exp_term» ≡ bellOf (x ⊘ s) (half ⊗ s) ⌝ }
-    ensures { λ r. ⌜ r ≡ priceAndVega (outOfTheMoneyWith rule-set-0 up down x s) vega ⌝ }
+    ensures { λ r. ⌜ r ≡ priceAndVega (outOfTheMoneyWith set up down x s) vega ⌝ }
 {
     if s <= abs(x) * 0.0 {
         return priced(normalised_intrinsic(x, OptionType::Call), vega);
     }
-    in_region(x, s, up, down, exp_term, vega)
+    in_region(set, x, s, up, down, exp_term, vega)
 }
 
 // `up` is exp(x / 2) and `down` exp(−x / 2), which the caller has for every s.
-pub fn price_and_vega(x: f64, s: f64, up: f64, down: f64) -> PriceAndVega
-    ensures { λ r. ⌜ r ≡ priceAndVega (callWith rule-set-0 up down x s) (vegaOf x s) ⌝ }
+pub fn price_and_vega(set: RuleSet, x: f64, s: f64, up: f64, down: f64) -> PriceAndVega
+    ensures { λ r. ⌜ r ≡ priceAndVega (callWith set up down x s) (vegaOf x s) ⌝ }
 {
     if x > 0.0 {
-        return told(normalised_black_call(x, s), normalised_vega(x, s));
+        return told(
+            normalised_black_call_under(set, x, s),
+            normalised_vega(x, s),
+        );
     }
     let exp_term = bell(x / s, 0.5 * s);
     let vega = vega_with(x, s, exp_term);
-    out_of_the_money(x, s, up, down, exp_term, vega)
+    out_of_the_money(set, x, s, up, down, exp_term, vega)
 }

@@ -6,7 +6,7 @@ use native.Mathlib.Omega.{arith}
 use lib.Ieee.{Float, lt}
 use Rattle.elementary.specs.Ops.{_⊖_, +0}
 use Rattle.elementary.specs.Methods.{maxOf}
-use Rattle.elementary.specs.RuleSets.{rule-set-0}
+use Rattle.elementary.specs.declared.rule_set.RuleSet.{RuleSet}
 use Rattle.prices.specs.declared.inputs.OptionType.{OptionType}
 use Rattle.prices.specs.declared.answer.Answer.{Answer}
 use Rattle.prices.specs.Inputs.{negated, times}
@@ -25,12 +25,12 @@ use Rattle.prices.proofs.inputs.OptionType.times.Reads as times-reads
 use Rattle.prices.proofs.black.+black_at.{statement}
 use Rattle.prices.proofs.black.+black_at.Tie.{close}
 
-module _ (forward strike sigma expiry : Float) where
+module _ (set : RuleSet) (forward strike sigma expiry : Float) where
   abbrev at : ℕ → OptionType → Answer
-  at depth kind = blackAt depth rule-set-0 forward strike sigma expiry kind
+  at depth kind = blackAt depth set forward strike sigma expiry kind
 
   abbrev out-of-the-money : OptionType → Answer
-  out-of-the-money kind = priceOf rule-set-0 forward strike sigma expiry kind
+  out-of-the-money kind = priceOf set forward strike sigma expiry kind
 
   out : (depth : ℕ) (kind : OptionType) (r : Answer) → depth ≡ 0 → r ≡ out-of-the-money kind → r ≡ at depth kind
   unfolding blackAt
@@ -49,7 +49,7 @@ module _ (forward strike sigma expiry : Float) where
   direct (suc k) kind diff r n d t h = rw (rw d at t) h
 
 abbrev μ-black-at : Measures 0 black-at-kinds.ps ℕ
-μ-black-at κs a = a .0
+μ-black-at κs a = a .1 .0
 
 abbrev black-at-at : ℕ → In 0 black-at-kinds.ps
 black-at-at t = and 0 black-at-kinds.ps (is 0 black-at-kinds.ps μ-black-at t) black-at.Pre
@@ -79,7 +79,7 @@ black-at-price-requires : (t : ℕ) → black-at-lts.Need-price-requires (claims
 black-at-price-requires t c κs = tt
 
 black-at-returns : (t : ℕ) → black-at-lts.Need-returns (claims t) (black-at-at t) black-at.Post
-black-at-returns t c = out _ _ _ _ _ _ _ (c .before .if1 .taken) (c .price .ensures)
+black-at-returns t c = out _ _ _ _ _ _ _ _ (c .before .if1 .taken) (c .price .ensures)
 
 black-at-times-requires : (t : ℕ) → black-at-lts.Need-times-requires (claims t) (black-at-at t) black-at.Post
 black-at-times-requires t c κs = tt
@@ -100,13 +100,13 @@ black-at-plus-requires : (t : ℕ) → black-at-lts.Need-plus-requires (claims t
 black-at-plus-requires t c κs = tt
 
 black-at-returns-2 : (t : ℕ) → black-at-lts.Need-returns-2 (claims t) (black-at-at t) black-at.Post
-black-at-returns-2 t c = mapped _ _ _ _ _ _ _ _ _ _ _ (c .before .before .before .before .before .before .if1 .left) (c .before .before .before .before .before .times .ensures) (c .before .before .before .before .if2 .taken) (c .before .before .before .max .ensures) (c .before .before .neg .ensures) (c .before .black-at .ensures) (c .plus .ensures)
+black-at-returns-2 t c = mapped _ _ _ _ _ _ _ _ _ _ _ _ (c .before .before .before .before .before .before .if1 .left) (c .before .before .before .before .before .times .ensures) (c .before .before .before .before .if2 .taken) (c .before .before .before .max .ensures) (c .before .before .neg .ensures) (c .before .black-at .ensures) (c .plus .ensures)
 
 black-at-price-requires-2 : (t : ℕ) → black-at-lts.Need-price-requires-2 (claims t) (black-at-at t) black-at.Post
 black-at-price-requires-2 t c κs = tt
 
 black-at-returns-3 : (t : ℕ) → black-at-lts.Need-returns-3 (claims t) (black-at-at t) black-at.Post
-black-at-returns-3 t c = direct _ _ _ _ _ _ _ _ (c .before .before .before .if1 .left) (c .before .before .times .ensures) (c .before .if2 .left) (c .price2 .ensures)
+black-at-returns-3 t c = direct _ _ _ _ _ _ _ _ _ (c .before .before .before .if1 .left) (c .before .before .times .ensures) (c .before .if2 .left) (c .price2 .ensures)
 
 pub +black-at-spec : {M : Type 1} → statement M
 +black-at-spec = close μ-black-at λ t. black-at-lts.spec (claims t)

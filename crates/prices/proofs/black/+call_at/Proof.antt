@@ -5,7 +5,7 @@ use Prim.Native.Nat.{ℕ, zero, suc, _-_, _<_}
 use native.Mathlib.Omega.{arith}
 use lib.Ieee.{Float, neg, lt}
 use Rattle.elementary.specs.Ops.{+0}
-use Rattle.elementary.specs.RuleSets.{rule-set-0}
+use Rattle.elementary.specs.declared.rule_set.RuleSet.{RuleSet}
 use Rattle.prices.specs.declared.inputs.OptionType.the-variants.{Call}
 use Rattle.prices.specs.declared.answer.Answer.{Answer}
 use Rattle.prices.specs.Intrinsic.{intrinsicOf}
@@ -22,25 +22,25 @@ use Rattle.prices.proofs.intrinsic.normalised_intrinsic.Reads as normal
 use Rattle.prices.proofs.black.+call_at.{statement}
 use Rattle.prices.proofs.black.+call_at.Tie.{close}
 
-module _ (x s : Float) where
-  out : (depth : ℕ) (r : Answer) → depth ≡ 0 → r ≡ outOfTheMoney rule-set-0 x s → r ≡ callAt depth rule-set-0 x s
+module _ (set : RuleSet) (x s : Float) where
+  out : (depth : ℕ) (r : Answer) → depth ≡ 0 → r ≡ outOfTheMoney set x s → r ≡ callAt depth set x s
   unfolding callAt
   out zero r e h = h
   out (suc d) r e h = absurd (omega arith)
 
-  mapped : (depth : ℕ) (i : Float) (inner r : Answer) → (depth ≡ 0 → ⊥) → lt +0 x ≡ true → i ≡ intrinsicOf x Call → inner ≡ callAt (depth - 1) rule-set-0 (neg x) s
-      → r ≡ added i inner → r ≡ callAt depth rule-set-0 x s
+  mapped : (depth : ℕ) (i : Float) (inner r : Answer) → (depth ≡ 0 → ⊥) → lt +0 x ≡ true → i ≡ intrinsicOf x Call → inner ≡ callAt (depth - 1) set (neg x) s
+      → r ≡ added i inner → r ≡ callAt depth set x s
   unfolding callAt
   mapped zero i inner r n t a b h = absurd (n refl)
   mapped (suc d) i inner r n t a b h = let e : suc d - 1 ≡ d = omega arith in h ∙ rw (t, a, b, e)
 
-  direct : (depth : ℕ) (r : Answer) → (depth ≡ 0 → ⊥) → lt +0 x ≡ false → r ≡ outOfTheMoney rule-set-0 x s → r ≡ callAt depth rule-set-0 x s
+  direct : (depth : ℕ) (r : Answer) → (depth ≡ 0 → ⊥) → lt +0 x ≡ false → r ≡ outOfTheMoney set x s → r ≡ callAt depth set x s
   unfolding callAt
   direct zero r n t h = absurd (n refl)
   direct (suc d) r n t h = rw t h
 
 abbrev μ-call-at : Measures 0 call-at-kinds.ps ℕ
-μ-call-at κs a = a .0
+μ-call-at κs a = a .1 .0
 
 abbrev call-at-at : ℕ → In 0 call-at-kinds.ps
 call-at-at t = and 0 call-at-kinds.ps (is 0 call-at-kinds.ps μ-call-at t) call-at.Pre
@@ -65,7 +65,7 @@ call-at-out-of-the-money-requires : (t : ℕ) → call-at-lts.Need-out-of-the-mo
 call-at-out-of-the-money-requires t c κs = tt
 
 call-at-returns : (t : ℕ) → call-at-lts.Need-returns (claims t) (call-at-at t) call-at.Post
-call-at-returns t c = out _ _ _ _ (c .before .if1 .taken) (c .out-of-the-money .ensures)
+call-at-returns t c = out _ _ _ _ _ (c .before .if1 .taken) (c .out-of-the-money .ensures)
 
 call-at-normalised-intrinsic-requires : (t : ℕ) → call-at-lts.Need-normalised-intrinsic-requires (claims t) (call-at-at t) call-at.Post
 call-at-normalised-intrinsic-requires t c κs = tt
@@ -80,13 +80,13 @@ call-at-plus-requires : (t : ℕ) → call-at-lts.Need-plus-requires (claims t) 
 call-at-plus-requires t c κs = tt
 
 call-at-returns-2 : (t : ℕ) → call-at-lts.Need-returns-2 (claims t) (call-at-at t) call-at.Post
-call-at-returns-2 t c = mapped _ _ _ _ _ _ (c .before .before .before .before .if1 .left) (c .before .before .before .if2 .taken) (c .before .before .normalised-intrinsic .ensures) (c .before .call-at .ensures) (c .plus .ensures)
+call-at-returns-2 t c = mapped _ _ _ _ _ _ _ (c .before .before .before .before .if1 .left) (c .before .before .before .if2 .taken) (c .before .before .normalised-intrinsic .ensures) (c .before .call-at .ensures) (c .plus .ensures)
 
 call-at-out-of-the-money-requires-2 : (t : ℕ) → call-at-lts.Need-out-of-the-money-requires-2 (claims t) (call-at-at t) call-at.Post
 call-at-out-of-the-money-requires-2 t c κs = tt
 
 call-at-returns-3 : (t : ℕ) → call-at-lts.Need-returns-3 (claims t) (call-at-at t) call-at.Post
-call-at-returns-3 t c = direct _ _ _ _ (c .before .before .if1 .left) (c .before .if2 .left) (c .out-of-the-money2 .ensures)
+call-at-returns-3 t c = direct _ _ _ _ _ (c .before .before .if1 .left) (c .before .if2 .left) (c .out-of-the-money2 .ensures)
 
 pub +call-at-spec : {M : Type 1} → statement M
 +call-at-spec = close μ-call-at λ t. call-at-lts.spec (claims t)

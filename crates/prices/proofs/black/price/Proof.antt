@@ -23,15 +23,15 @@ ln-requires c κs = search needs
 sqrt-requires-3 : tie.Need-sqrt-requires-3
 sqrt-requires-3 c κs = search needs
 
-normalised-black-requires : tie.Need-normalised-black-requires
-normalised-black-requires c κs = search needs
+normalised-black-under-requires : tie.Need-normalised-black-under-requires
+normalised-black-under-requires c κs = search needs
 
 at-least-requires : tie.Need-at-least-requires
 at-least-requires c κs = search needs
 
 returns : tie.Need-returns
 unfolding priceOf
-returns c = c .at-least .ensures ∙ rw (c .before .normalised-black .ensures, c .before .before .sqrt3 .ensures, c .before .before .before .ln .ensures, c .before .before .before .before .sqrt2 .ensures, c .before .before .before .before .before .sqrt .ensures, c .before .before .before .before .before .before .max .ensures, c .before .before .before .before .before .before .before .times .ensures)
+returns c = c .at-least .ensures ∙ rw (c .before .normalised-black-under .ensures, c .before .before .sqrt3 .ensures, c .before .before .before .ln .ensures, c .before .before .before .before .sqrt2 .ensures, c .before .before .before .before .before .sqrt .ensures, c .before .before .before .before .before .before .max .ensures, c .before .before .before .before .before .before .before .times .ensures)
 
 pub price-spec : {M : Type 1} → statement M
 price-spec =
@@ -43,6 +43,6 @@ price-spec =
     sqrt-requires-2
     ln-requires
     sqrt-requires-3
-    normalised-black-requires
+    normalised-black-under-requires
     at-least-requires
     returns)

@@ -23,13 +23,13 @@ returns-2 : tie.Need-returns-2
 unfolding regionOf
 returns-2 c = rw (rw (c .before .before .before .is-asymptotic .ensures) at (c .before .before .if1 .left), c .before .if2 .taken) (c .small-t-expansion-of-normalised-black-call .ensures)
 
-normalised-black-call-with-optimal-use-of-codys-functions-requires :
-    tie.Need-normalised-black-call-with-optimal-use-of-codys-functions-requires
-normalised-black-call-with-optimal-use-of-codys-functions-requires c κs = search needs
+normalised-black-call-with-optimal-use-of-codys-functions-under-requires :
+    tie.Need-normalised-black-call-with-optimal-use-of-codys-functions-under-requires
+normalised-black-call-with-optimal-use-of-codys-functions-under-requires c κs = search needs
 
 returns-3 : tie.Need-returns-3
 unfolding regionOf
-returns-3 c = rw (c .normalised-black-call-with-optimal-use-of-codys-functions .ensures, rw (c .before .before .before .is-asymptotic .ensures) at (c .before .before .if1 .left), c .before .if2 .left)
+returns-3 c = rw (c .normalised-black-call-with-optimal-use-of-codys-functions-under .ensures, rw (c .before .before .before .is-asymptotic .ensures) at (c .before .before .if1 .left), c .before .if2 .left)
 
 pub region-spec : {M : Type 1} → statement M
 region-spec =
@@ -40,5 +40,5 @@ region-spec =
     returns
     small-t-expansion-of-normalised-black-call-requires
     returns-2
-    normalised-black-call-with-optimal-use-of-codys-functions-requires
+    normalised-black-call-with-optimal-use-of-codys-functions-under-requires
     returns-3)

@@ -4,35 +4,35 @@ use borrow.Author.Needs.{needs}
 use Rattle.prices.proofs.black.two_b.Statement.{statement}
 use Rattle.prices.proofs.black.two_b.Tie as tie
 
-erfc-requires : tie.Need-erfc-requires
-erfc-requires c κs = search needs
+erfc-under-requires : tie.Need-erfc-under-requires
+erfc-under-requires c κs = search needs
 
-erfc-requires-2 : tie.Need-erfc-requires-2
-erfc-requires-2 c κs = search needs
+erfc-under-requires-2 : tie.Need-erfc-under-requires-2
+erfc-under-requires-2 c κs = search needs
 
 returns : tie.Need-returns
 unfolding twoBWith
-returns c = rw (c .erfc2 .ensures, c .before .erfc .ensures, c .before .before .before .if1 .taken, c .before .before .if2 .taken)
+returns c = rw (c .erfc-under2 .ensures, c .before .erfc-under .ensures, c .before .before .before .if1 .taken, c .before .before .if2 .taken)
 
-erfc-requires-3 : tie.Need-erfc-requires-3
-erfc-requires-3 c κs = search needs
+erfc-under-requires-3 : tie.Need-erfc-under-requires-3
+erfc-under-requires-3 c κs = search needs
 
 erfcx-requires : tie.Need-erfcx-requires
 erfcx-requires c κs = search needs
 
 returns-2 : tie.Need-returns-2
 unfolding twoBWith
-returns-2 c = rw (c .erfcx .ensures, c .before .erfc3 .ensures, c .before .before .before .if1 .taken, c .before .before .if2 .left)
+returns-2 c = rw (c .erfcx .ensures, c .before .erfc-under3 .ensures, c .before .before .before .if1 .taken, c .before .before .if2 .left)
 
 erfcx-requires-2 : tie.Need-erfcx-requires-2
 erfcx-requires-2 c κs = search needs
 
-erfc-requires-4 : tie.Need-erfc-requires-4
-erfc-requires-4 c κs = search needs
+erfc-under-requires-4 : tie.Need-erfc-under-requires-4
+erfc-under-requires-4 c κs = search needs
 
 returns-3 : tie.Need-returns-3
 unfolding twoBWith
-returns-3 c = rw (c .erfc4 .ensures, c .before .erfcx2 .ensures, c .before .before .before .if1 .left, c .before .before .if3 .taken)
+returns-3 c = rw (c .erfc-under4 .ensures, c .before .erfcx2 .ensures, c .before .before .before .if1 .left, c .before .before .if3 .taken)
 
 erfcx-requires-3 : tie.Need-erfcx-requires-3
 erfcx-requires-3 c κs = search needs
@@ -48,14 +48,14 @@ pub two-b-spec : {M : Type 1} → statement M
 two-b-spec =
     tie.close
     (tie.spec
-    erfc-requires
-    erfc-requires-2
+    erfc-under-requires
+    erfc-under-requires-2
     returns
-    erfc-requires-3
+    erfc-under-requires-3
     erfcx-requires
     returns-2
     erfcx-requires-2
-    erfc-requires-4
+    erfc-under-requires-4
     returns-3
     erfcx-requires-3
     erfcx-requires-4

@@ -3,8 +3,8 @@ use borrow.Author.Needs.{needs}
 use Rattle.prices.proofs.point.price_and_vega.Statement.{statement}
 use Rattle.prices.proofs.point.price_and_vega.Tie as tie
 
-normalised-black-call-requires : tie.Need-normalised-black-call-requires
-normalised-black-call-requires c κs = search needs
+normalised-black-call-under-requires : tie.Need-normalised-black-call-under-requires
+normalised-black-call-under-requires c κs = search needs
 
 normalised-vega-requires : tie.Need-normalised-vega-requires
 normalised-vega-requires c κs = search needs
@@ -13,7 +13,7 @@ told-requires : tie.Need-told-requires
 told-requires c κs = search needs
 
 returns : tie.Need-returns
-returns c = rw (c .before .before .before .if1 .taken, ← c .before .before .normalised-black-call .ensures, ← c .before .normalised-vega .ensures) (c .told .ensures)
+returns c = rw (c .before .before .before .if1 .taken, ← c .before .before .normalised-black-call-under .ensures, ← c .before .normalised-vega .ensures) (c .told .ensures)
 
 bell-requires : tie.Need-bell-requires
 bell-requires c κs = search needs
@@ -31,7 +31,7 @@ pub price-and-vega-spec : {M : Type 1} → statement M
 price-and-vega-spec =
     tie.close
     (tie.spec
-    normalised-black-call-requires
+    normalised-black-call-under-requires
     normalised-vega-requires
     told-requires
     returns

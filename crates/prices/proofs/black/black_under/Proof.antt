@@ -1,9 +1,9 @@
--- `black::black` meets its contract: each way out is the arm that the tests before it leave. Assumes nothing.
+-- `black::black_under` meets its contract: each way out is the arm that the tests before it leave. Assumes nothing.
 use mathlib.Core.Path.{sym, _∙_}
 use Rattle.prices.specs.Black.{blackOf}
 use borrow.Author.Needs.{needs}
-use Rattle.prices.proofs.black.black.Statement.{statement}
-use Rattle.prices.proofs.black.black.Tie as tie
+use Rattle.prices.proofs.black.black_under.Statement.{statement}
+use Rattle.prices.proofs.black.black_under.Tie as tie
 
 is-positive-normal-requires : tie.Need-is-positive-normal-requires
 is-positive-normal-requires c κs = search needs
@@ -40,8 +40,8 @@ returns-5 : tie.Need-returns-5
 unfolding blackOf
 returns-5 c = rw (sym (c .before .is-positive-normal .ensures) ∙ c .if1 .left)
 
-pub black-spec : {M : Type 1} → statement M
-black-spec =
+pub black-under-spec : {M : Type 1} → statement M
+black-under-spec =
     tie.close
     (tie.spec
     is-positive-normal-requires

@@ -1,14 +1,13 @@
--- `black::normalised_black_call_with_optimal_use_of_codys_functions` meets its contract: what is not computed is not read. Assumes nothing.
+-- `black::normalised_black_call_with_optimal_use_of_codys_functions_under` meets its contract: what is not computed is not read. Assumes nothing.
 use mathlib.Core.Path.{_∙_}
-use Rattle.elementary.specs.RuleSets.{rule-set-0}
 use Rattle.prices.specs.Inside.Exponentials.{codysWith}
 use Rattle.prices.proofs.Laws.Exponentials.{codys-own}
 use Rattle.prices.proofs.black.Reading.{as-read}
 use borrow.Author.Needs.{needs}
-use Rattle.prices.proofs.black.normalised_black_call_with_optimal_use_of_codys_functions.Statement.{
+use Rattle.prices.proofs.black.normalised_black_call_with_optimal_use_of_codys_functions_under.Statement.{
   statement,
 }
-use Rattle.prices.proofs.black.normalised_black_call_with_optimal_use_of_codys_functions.Tie as tie
+use Rattle.prices.proofs.black.normalised_black_call_with_optimal_use_of_codys_functions_under.Tie as tie
 
 exp-where-requires : tie.Need-exp-where-requires
 exp-where-requires c κs = search needs
@@ -33,10 +32,10 @@ returns c =
     let down = asked .before in
     let up = down .before in
     c .codys .ensures
-    ∙ rw (exp-term .exp-where3 .ensures, asked .not-both .ensures, down .exp-where2 .ensures, up .exp-where .ensures, as-read) (codys-own rule-set-0 _ _)
+    ∙ rw (exp-term .exp-where3 .ensures, asked .not-both .ensures, down .exp-where2 .ensures, up .exp-where .ensures, as-read) (codys-own _ _ _)
 
-pub normalised-black-call-with-optimal-use-of-codys-functions-spec : {M : Type 1} → statement M
-normalised-black-call-with-optimal-use-of-codys-functions-spec =
+pub normalised-black-call-with-optimal-use-of-codys-functions-under-spec : {M : Type 1} → statement M
+normalised-black-call-with-optimal-use-of-codys-functions-under-spec =
     tie.close
     (tie.spec
     exp-where-requires
