@@ -10,11 +10,11 @@ ghost use Rattle.abi.specs.Solutions.{outcomeFrom, outcomeOf, solvingAt,
 use elementary::methods::bits_of;
 use elementary::methods::float_of;
 use prices::inputs::OptionType;
+use solver::answers::Solution;
 use solver::solve::implied_volatility_from_a_transformed_rational_guess;
 use solver::solve::implied_volatility_from_a_transformed_rational_guess_with_limited_iterations;
 use solver::solve::solve_without_trail;
 use solver::solve::steps_of;
-use solver::answers::Solution;
 
 // Number, branch, ending and steps in one word.
 pub(crate) fn outcome_from(number: u8, branch: u8, ending: u8, steps: u32) -> u64

@@ -6,10 +6,10 @@ use crate::list::Line;
 use elementary::methods::bits_of;
 use elementary::methods::float_of;
 use prices::inputs::OptionType;
-use solver::solve::implied_volatility_from_a_transformed_rational_guess_with_limited_iterations;
 use solver::answers::Checking;
 use solver::answers::Filing;
 use solver::answers::Solution;
+use solver::solve::implied_volatility_from_a_transformed_rational_guess_with_limited_iterations;
 
 // A word, and document 01's number, 0 for none.
 pub struct Word {

@@ -21,12 +21,12 @@ use Rattle.elementary.specs.RuleSets.{rule-set-0}
 use Rattle.solver.specs.Loop.{run}
 use Rattle.solver.specs.Step.{lowerStep, upperStep, generalStep, lowerDs, upperDs, generalDs, householderFactor, isClose}
 use Rattle.solver.specs.Guess.{normalisedStart, mappedStart, lowerStart, upperStart, tailStart, lowerGuess, middleGuess, upperGuess, lowerMap, upperMap, inverseFLowerMap, withValue, onValue}
-use Rattle.solver.specs.Solve.{solveOf, solveKeeping, resultFrom, startOf, inputNumber, acceptedStart}
+use Rattle.solver.specs.Solve.{solveOf, solveKeeping, resultFrom, startOf, inputNumber, acceptedStart, quoteOf}
 use Rattle.solver.specs.Answers.{volatilityIn}
 
 -- the bits of the volatility at a price, forward, strike and expiry given by their bits, for a kind and a limit
 abbrev volatilityBits : ℕ → ℕ → ℕ → ℕ → OptionType → ℕ → ℕ
-volatilityBits price forward strike expiry kind n = toBits binary64 (volatilityIn (solveOf rule-set-0 (bits price) (bits forward) (bits strike) (bits expiry) kind n .answer))
+volatilityBits price forward strike expiry kind n = toBits binary64 (volatilityIn (solveOf rule-set-0 (quoteOf (bits price) (bits forward) (bits strike) (bits expiry) kind) n .answer))
 
 record Examples : Type 0 where
   -- Call 0.001/100/150/1, limit 1: 0.11733300056143219

@@ -6,15 +6,14 @@ use Prim.Native.Nat.{_*_}
 use lib.Dec.{ltb}
 use lib.IntN.{ℤ}
 use borrow.Author.Tests.{le-ltb}
-use lib.Ieee.{Float}
-use Rattle.prices.specs.declared.inputs.OptionType.{OptionType}
+use Rattle.solver.specs.declared.quote.Quote.{Quote}
 use Rattle.elementary.specs.declared.rule_set.RuleSet.{RuleSet}
 use Rattle.solver.specs.Guess.{Start}
 use Rattle.solver.specs.Solve.{startOf, SolveResult, resultFrom, solveKeeping, solveOf, solveWithTrail, stepsOf}
 use Rattle.solver.specs.Promises.Demand3.{Trail, none, of-bytes, LongEnough, runOf, beginOf, OneRun, Sentences, Demand-3}
 use Rattle.solver.specs.Promises.Answers.{Numbers, Solve-numbers, Line-length}
 use Rattle.solver.specs.Table.{Table}
-use Rattle.solver.proofs.Laws.Forms.{BeginForm, begin-form}
+use Rattle.solver.proofs.Laws.Forms.{StartForm, start-form}
 use Rattle.solver.proofs.Laws.Loops.{longer-run, run-steps, one-run, answer-half, run-numbers}
 use Rattle.solver.proofs.Laws.Lines as lines
 use Rattle.solver.proofs.Table.{rows}
@@ -30,38 +29,38 @@ not-short : (n : ℤ) (t : Trail) → LongEnough n t → isShort n t ≡ false
 not-short n none l = refl
 not-short n (of-bytes k) l = le-ltb k (48 * stepsOf n) l
 
-module _ (set : RuleSet) (price forward strike expiry : Float) (kind : OptionType) where
+module _ (set : RuleSet) (q : Quote) where
   abbrev run : ℤ → Trail → SolveResult
-  run = runOf set price forward strike expiry kind
+  run = runOf set q
 
   abbrev begin : ℤ → Trail → Start
-  begin = beginOf set price forward strike expiry kind
+  begin = beginOf set q
 
-  abbrev begun : Bool → Start
-  begun short = startOf set short price forward strike expiry kind
+  abbrev start : Bool → Start
+  start short = startOf set short q
 
-  begin-is : (n : ℤ) (t : Trail) → begin n t ≡ begun (isShort n t)
+  begin-is : (n : ℤ) (t : Trail) → begin n t ≡ start (isShort n t)
   begin-is n none = refl
   begin-is n (of-bytes k) = refl
 
-  run-is : (n : ℤ) (t : Trail) → run n t ≡ resultFrom (begun (isShort n t)) expiry (stepsOf n)
+  run-is : (n : ℤ) (t : Trail) → run n t ≡ resultFrom (start (isShort n t)) (q .expiry) (stepsOf n)
   unfolding solveOf solveWithTrail solveKeeping
   run-is n none = refl
   run-is n (of-bytes k) = refl
 
-  long-run-is : (n : ℤ) (t : Trail) → LongEnough n t → run n t ≡ resultFrom (begun false) expiry (stepsOf n)
+  long-run-is : (n : ℤ) (t : Trail) → LongEnough n t → run n t ≡ resultFrom (start false) (q .expiry) (stepsOf n)
   long-run-is n t l = rw (run-is n t, not-short n t l)
 
-  form : (n : ℤ) (t : Trail) → BeginForm (isShort n t) (begun (isShort n t))
-  form n t = begin-form set (isShort n t) price forward strike expiry kind
+  form : (n : ℤ) (t : Trail) → StartForm (isShort n t) (start (isShort n t))
+  form n t = start-form set (isShort n t) q
 
   run-facts : (n : ℤ) (t : Trail) → OneRun (stepsOf n) (begin n t) (run n t)
-  run-facts n t = rw (begin-is n t, run-is n t) (one-run _ (form n t) expiry (stepsOf n))
+  run-facts n t = rw (begin-is n t, run-is n t) (one-run _ (form n t) (q .expiry) (stepsOf n))
 
   sentences : Sentences begin run
   sentences = record {
-    longer = λ n m t t′ l a b. rw (long-run-is n t a, long-run-is m t′ b) (longer-run (begun false) expiry (stepsOf n) (stepsOf m) l);
-    steps = λ n t. rw (run-is n t) (run-steps _ expiry (stepsOf n));
+    longer = λ n m t t′ l a b. rw (long-run-is n t a, long-run-is m t′ b) (longer-run (start false) (q .expiry) (stepsOf n) (stepsOf m) l);
+    steps = λ n t. rw (run-is n t) (run-steps _ (q .expiry) (stepsOf n));
     each-run = run-facts;
     half-step = λ n t. answer-half (stepsOf n) (begin n t) (run n t) (run-facts n t);
     without-trail = λ n t l.
@@ -70,7 +69,7 @@ module _ (set : RuleSet) (price forward strike expiry : Float) (kind : OptionTyp
   }
 
   numbers : (n : ℤ) (t : Trail) → Numbers (LongEnough n t) (run n t .answer)
-  numbers n t = rw (run-is n t) (run-numbers (LongEnough n t) (not-short n t) _ (form n t) expiry (stepsOf n))
+  numbers n t = rw (run-is n t) (run-numbers (LongEnough n t) (not-short n t) _ (form n t) (q .expiry) (stepsOf n))
 
 -- ---- the promises
 

@@ -1,4 +1,4 @@
 -- Words that only the contracts of private functions use; no promise leans on them.
-pub mod NormalisedStart
+pub mod Start
 pub mod Branch
 pub mod Trail

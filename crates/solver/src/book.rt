@@ -66,7 +66,8 @@ fn put_book_record(out: &mut [u8], quote: Quote, limit: i32, a: ImpliedVolatilit
     put_float(out, 32, a.volatility);
     put_number_at(out, 40, 4, limit_bits(limit));
     put_number_at(out, 44, 4, a.steps as u64);
-    put_number_at(out, 48, 1, kind_byte(quote.option_type) as u64);
+    let option_type = quote.option_type;
+    put_number_at(out, 48, 1, kind_byte(option_type) as u64);
     put_number_at(out, 49, 1, a.branch as u64);
     put_number_at(out, 50, 1, a.ending as u64);
     put_number_at(out, 51, 13, 0);
@@ -154,10 +155,11 @@ fn agrees(r: &[u8], a: ImpliedVolatility) -> bool
     requires { ⌜ 64 ≤ length (now r) ⌝ }
     ensures { λ b. ⌜ b ≡ agreesOf (now (r .entry)) a ⌝ }
 {
+    let steps = a.steps as u64;
     if number_at(r, 32, 8) != bits_of(a.volatility) {
         return false;
     }
-    if number_at(r, 44, 4) != a.steps as u64 {
+    if number_at(r, 44, 4) != steps {
         return false;
     }
     if r[49] != a.branch {

@@ -68,7 +68,10 @@ fn inverse_f_lower_map(set: RuleSet, x: f64, f: f64) -> f64
         abs(
             x
                 / (SQRT_THREE
-                    * inverse_normal_cdf_under(set, powf_1_3(f / (TWO_PI_OVER_SQRT_TWENTY_SEVEN * abs(x))))),
+                    * inverse_normal_cdf_under(
+                        set,
+                        powf_1_3(f / (TWO_PI_OVER_SQRT_TWENTY_SEVEN * abs(x))),
+                    )),
         )
     }
 }
@@ -220,7 +223,8 @@ fn upper_guess(set: RuleSet, x: f64, beta: f64, b_max: f64, b_h: f64, s_h: f64) 
             if f <= 0.0 {
                 let h = b_max - b_h;
                 let t = (beta - b_h) / h;
-                return Answer::Value(inverse_f_upper_map_under(set, 
+                return Answer::Value(inverse_f_upper_map_under(
+                    set,
                     (m.f * (1.0 - t) + 0.5 * h * t) * (1.0 - t),
                 ));
             }
@@ -246,7 +250,14 @@ fn start_at(left: f64, right: f64, s: f64) -> State
 }
 
 // A loop from its guess; a refusal passes up.
-fn start_loop(set: RuleSet, branch: u8, m: NormalisedMarket, left: f64, right: f64, guess: Answer) -> Start
+fn start_loop(
+    set: RuleSet,
+    branch: u8,
+    m: NormalisedMarket,
+    left: f64,
+    right: f64,
+    guess: Answer,
+) -> Start
     requires { ⌜ HasExponentials m ⌝ }
     ensures { λ r. ⌜ Implements set r (withValue guess (λ s. Guess.looping branch (m .beta) (branchStep set branch (m .«b_max») (m .x) (m .beta)) (startAt left right s))) ⌝ }
 {
@@ -346,12 +357,15 @@ fn mapped_start(set: RuleSet, x: f64, beta: f64) -> Start
         return Start::Answered(MAX);
     }
     let down = exp(-0.5 * x);
-    guessed_start(set, NormalisedMarket {
-        x,
-        beta,
-        b_max,
-        down,
-    })
+    guessed_start(
+        set,
+        NormalisedMarket {
+            x,
+            beta,
+            b_max,
+            down,
+        },
+    )
 }
 
 // The Rust's unchecked_normalised_implied_volatility_.., up to its loops.

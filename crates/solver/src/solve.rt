@@ -28,9 +28,6 @@ use elementary::sqrt::sqrt;
 use prices::black::is_finite;
 use prices::black::is_positive_normal;
 use prices::inputs::OptionType;
-use prices::refusals::EXPIRY_REFUSED;
-use prices::refusals::FORWARD_REFUSED;
-use prices::refusals::STRIKE_REFUSED;
 ghost use mathlib.Core.Path.{_≡_};
 ghost use mathlib.Core.Bool.{true};
 ghost use Prim.Native.Nat.{_*_, _≤_};
@@ -60,11 +57,11 @@ pub(crate) fn input_number(quote: Quote) -> u8
                 if is_positive_normal(quote.expiry) {
                     return 0;
                 }
-                return EXPIRY_REFUSED;
+                return 4;
             }
-            return STRIKE_REFUSED;
+            return 3;
         }
-        return FORWARD_REFUSED;
+        return 2;
     }
     PRICE_REFUSED
 }
@@ -76,20 +73,8 @@ fn max_price(set: RuleSet, option_type: OptionType, forward: f64, strike: f64) -
     ensures { λ r. ⌜ r ≡ capOf set «option_type» forward strike ⌝ }
 {
     match option_type {
-        OptionType::Call => {
-            if set.textbook_cap {
-                forward
-            } else {
-                strike
-            }
-        }
-        OptionType::Put => {
-            if set.textbook_cap {
-                strike
-            } else {
-                forward
-            }
-        }
+        OptionType::Call => { if set.textbook_cap { forward } else { strike } }
+        OptionType::Put => { if set.textbook_cap { strike } else { forward } }
     }
 }
 
@@ -161,7 +146,10 @@ fn run(
             break LoopExit { ending: LIMIT, st };
         }
         if is_close(st) {
-            break LoopExit { ending: STEP_TEST, st };
+            break LoopExit {
+                ending: STEP_TEST,
+                st,
+            };
         }
         match step(set, branch, m, st) {
             StepResult::Completed(next, r) => {

@@ -22,8 +22,8 @@ use Rattle.solver.specs.Promises.Demand3.{At, Linked, NotBelow, NotAbove
 use Rattle.solver.proofs.Laws.Runs.{trace, every, linked, from}
 
 -- ---- a completed step, from the state that it starts at
-pub went : (step : State → StepResult) (st st′ : State) (r : Record) → nextBy step st ≡ advance r st′ → step st ≡ Completed st′ r
-went step st st′ r = cases (isClose st) (step st)
+pub step-completed : (step : State → StepResult) (st st′ : State) (r : Record) → nextBy step st ≡ advance r st′ → step st ≡ Completed st′ r
+step-completed step st st′ r = cases (isClose st) (step st)
   where
     cases : (c : Bool) (w : StepResult) → cond c (stop (by-test st)) (transitionOf w) ≡ advance r st′ → w ≡ Completed st′ r
     cases true w e = cc
@@ -31,22 +31,22 @@ went step st st′ r = cases (isClose st) (step st)
     cases false (Refused n) e = cc
 
 -- ---- what it says of the ends: those of its record are the state's, moved by its price and its s, and the next state has them
-pub record Moved (beta : Float) (st st′ : State) (r : Record) : Type 0 where
+pub record BracketMove (beta : Float) (st st′ : State) (r : Record) : Type 0 where
   pub bracket : bracketAfter (r .b) beta (r .s) (st .left) (st .right) ≡ record { left = r .left; right = r .right }
   pub left : st′ .left ≡ r .left
   pub right : st′ .right ≡ r .right
 
 module _ (dsOf : Float → Float → Float → Bracket → Float) (afterOf : Float → Float → Float) (set : RuleSet) (x beta : Float) where
   -- the record and the state of a completed step, and its s after
-  pub record Completed (st st′ : State) (r : Record) : Type 0 where
-    pub moved : Moved beta st st′ r
+  pub record StepFacts (st st′ : State) (r : Record) : Type 0 where
+    pub moves : BracketMove beta st st′ r
     pub from-s : r .s ≡ st .s
     pub ds : Float
     pub after : r .after ≡ afterOf (st .s) ds
     pub next-s : st′ .s ≡ r .after
 
-  pub completed : (st st′ : State) (r : Record) → nextBy (stepBy dsOf afterOf set x beta) st ≡ advance r st′ → Completed st st′ r
-  completed st st′ r e = priced (callOf set x (st .s)) (went (stepBy dsOf afterOf set x beta) st st′ r e)
+  pub step-facts : (st st′ : State) (r : Record) → nextBy (stepBy dsOf afterOf set x beta) st ≡ advance r st′ → StepFacts st st′ r
+  step-facts st st′ r e = priced (callOf set x (st .s)) (step-completed (stepBy dsOf afterOf set x beta) st st′ r e)
     where
       S : Float → State
       S b = stateAfter dsOf afterOf beta st b (vegaOf x (st .s))
@@ -63,11 +63,11 @@ module _ (dsOf : Float → Float → Float → Bracket → Float) (afterOf : Flo
       apart : (n : ℕ) → Refused n ≡ Completed st′ r → ⊥
       apart n h = let z : _≡_ {A = ℕ} 0 1 = cc in omega arith
 
-      priced : (a : Answer) → withPrice a (λ b. Completed (S b) (R b)) ≡ Completed st′ r → Completed st st′ r
+      priced : (a : Answer) → withPrice a (λ b. Completed (S b) (R b)) ≡ Completed st′ r → StepFacts st st′ r
       priced (Number n) h = absurd (apart n h)
       priced (Value b) h =
           rw (← same-state b h, ← same-record b h)
-          (record { moved = record { bracket = refl; left = refl; right = refl }; from-s = refl; ds = dsAt dsOf afterOf beta st b (vegaOf x (st .s)); after = refl; next-s = refl })
+          (record { moves = record { bracket = refl; left = refl; right = refl }; from-s = refl; ds = dsAt dsOf afterOf beta st b (vegaOf x (st .s)); after = refl; next-s = refl })
 
 -- ---- the ends
 pub lt-irrefl : (x : Float) → lt x x ≡ false
@@ -122,7 +122,7 @@ right-nan b beta s left = rw (nan-above s, and-false (lt beta b)) (go (lt b beta
     go true = refl
     go false = refl
 
-module _ (step : State → StepResult) (beta : Float) (moved : (st st′ : State) (r : Record) → nextBy step st ≡ advance r st′ → Moved beta st st′ r) where
+module _ (step : State → StepResult) (beta : Float) (moved : (st st′ : State) (r : Record) → nextBy step st ≡ advance r st′ → BracketMove beta st st′ r) where
   ends-move : (st st′ : State) (r : Record) (e : nextBy step st ≡ advance r st′) → Facts (r .b) beta (r .s) (st .left) (st .right) (record { left = r .left; right = r .right })
   ends-move st st′ r e = subst (Facts (r .b) beta (r .s) (st .left) (st .right)) (moved st st′ r e .bracket) (facts (r .b) beta (r .s) (st .left) (st .right))
 

@@ -29,8 +29,8 @@ hex-length zero n = refl
 hex-length (suc k) n = simp length-append (omega (arith, hex-length k (n / 16)))
 
 pub answer-length : (answer : Solution) → length (answerBytes answer) ≤ 80
-answer-length (Solved volatility branch ending steps) =
-    simp length-append (omega (arith, hex-length 16 (toBits binary64 volatility), decimal-length 20 steps, decimal-length 20 branch, decimal-length 20 ending))
+answer-length (Solved a) =
+    simp length-append (omega (arith, hex-length 16 (toBits binary64 (a .volatility)), decimal-length 20 (a .steps), decimal-length 20 (a .branch), decimal-length 20 (a .ending)))
 answer-length (Refused n steps) = omega (arith, decimal-length 20 n)
 
 module _ (set : RuleSet) (i : ℕ) (bytes : List ℕ) where

@@ -27,10 +27,10 @@ use Rattle.solver.specs.Solve.{SolveResult, answerOf, resultOfRun, resul
 use Rattle.solver.specs.Promises.Demand3.{At, here, there, LeavesHalf, LongerRun, LoopRecords, LoopAnswer, OneRun}
 use Rattle.solver.specs.Promises.Answers.{Numbers}
 use Rattle.solver.proofs.Laws.Runs.{byLimit, Counts, counts, begins, same, steps, trace, every}
-use Rattle.solver.proofs.Laws.Bracket.{Moved, completed, left-never-falls, right-never-grows, left-stays, right-stays, left-from, right-from}
+use Rattle.solver.proofs.Laws.Bracket.{BracketMove, step-facts, left-never-falls, right-never-grows, left-stays, right-stays, left-from, right-from}
 use Rattle.solver.proofs.Laws.Half.{leaves-half}
 use Rattle.solver.proofs.Laws.Numbers.{Refusal, price-number, forward-number, strike-number, expiry-number, trail-number, cubic-number, region-number, OnlySeven, loop-ends}
-use Rattle.solver.proofs.Laws.Forms.{LoopForm, lower, upper, lower-middle, upper-middle, upper-tail, BeginForm, ended, loop}
+use Rattle.solver.proofs.Laws.Forms.{LoopForm, lower, upper, lower-middle, upper-middle, upper-tail, StartForm, ended, loop}
 use Rattle.solver.proofs.Laws.Trails.{begins-alike}
 
 -- ---- a short run and a long one
@@ -106,8 +106,8 @@ module _ (dsOf : Float → Float → Float → Bracket → Float) (afterOf : Flo
   abbrev HalfSteps : Type 0
   HalfSteps = (i : ℕ) (r : Record) → At (w .records) i r → LeavesHalf r
 
-  move : (q q′ : State) (r : Record) → nextBy step q ≡ advance r q′ → Moved beta q q′ r
-  move q q′ r e = completed dsOf afterOf set x beta q q′ r e .moved
+  move : (q q′ : State) (r : Record) → nextBy step q ≡ advance r q′ → BracketMove beta q q′ r
+  move q q′ r e = step-facts dsOf afterOf set x beta q q′ r e .moves
 
   in-loop : (branch : ℕ) → (1 ≤ branch) × (branch ≤ 5) → ((branch ≡ 1) ⊎ (branch ≡ 4) → HalfSteps) → LoopRecords branch beta (st .left) (st .right) (w .records) × LoopAnswer n branch (resultOfRun branch root w .answer)
   in-loop branch range half = (
@@ -128,7 +128,7 @@ half-steps : (dsOf : Float → Float → Float → Bracket → Float) (set : Rul
 half-steps dsOf set x beta root n st f i r a =
     every (nextBy (stepBy dsOf atLeastHalf set x beta)) (λ q. T (fits binary64 (q .s))) LeavesHalf
     (λ q q′ p e g.
-    let h = completed dsOf atLeastHalf set x beta q q′ p e in
+    let h = step-facts dsOf atLeastHalf set x beta q q′ p e in
     (rw (h .next-s, h .after) (add-fits binary64 (q .s) _), half-from p (q .s) (h .ds) (h .from-s) (h .after) g))
     (trace (nextBy (stepBy dsOf atLeastHalf set x beta)) n st) f a
 
@@ -150,7 +150,7 @@ loop-run branch beta step st (upper-middle set x) root n =
 loop-run branch beta step st (upper-tail set x) root n =
     in-loop (generalDs x beta) wholeStep set x beta root n st 5 (omega arith, omega arith) (neither (λ e. omega arith) (λ e. omega arith))
 
-pub one-run : {short : Bool} (b : Start) → BeginForm short b → (expiry : Float) (n : ℕ) → OneRun n b (resultFrom b expiry n)
+pub one-run : {short : Bool} (b : Start) → StartForm short b → (expiry : Float) (n : ℕ) → OneRun n b (resultFrom b expiry n)
 unfolding resultFrom
 one-run (answered v) f expiry n = (refl, refl, refl, refl, refl)
 one-run (stopped k) f expiry n = (refl, refl)
@@ -162,7 +162,7 @@ nothing-at here e = let z : _≡_ {A = ℕ} 0 1 = cc in omega arith
 nothing-at (there a) e = let z : _≡_ {A = ℕ} 0 1 = cc in omega arith
 
 refused-branch : (a : Solution) → numberIn a ≡ 7 → branchIn a ≡ 0
-refused-branch (Solved v branch ending steps) e = absurd (omega arith)
+refused-branch (Solved a) e = absurd (omega arith)
 refused-branch (Refused n steps) e = refl
 
 loop-branch : {limit branch : ℕ} {a : Solution} → LoopAnswer limit branch a → (branchIn a ≡ 1) ⊎ (branchIn a ≡ 4) → branchIn a ≡ branch
@@ -208,7 +208,7 @@ not-0 region-number e = omega arith
 
 -- a loop's answer of number 0 has the loop's branch, and so is no refusal
 loop-solved : (limit branch : ℕ) (a : Solution) → LoopAnswer limit branch a → numberIn a ≡ 0 → isSolved a ≡ true
-loop-solved limit branch (Solved v b e k) l z = refl
+loop-solved limit branch (Solved a) l z = refl
 loop-solved limit branch (Refused n k) l z = absurd (none (l .branch-is z) (l .a-loop .0))
   where
     none : 0 ≡ branch → 1 ≤ branch → ⊥
@@ -218,7 +218,7 @@ loop-numbers : (enough : Type 0) (a : Solution) → (numberIn a ≡ 0 → isSolv
 loop-numbers enough a s (inl z) = record { answered = s; number = first z; no-21 = λ l e. omega arith; steps = λ h. first z }
 loop-numbers enough a s (inr z) = record { answered = s; number = rw z (refusal-number {short = false} region-number); no-21 = λ l e. omega arith; steps = λ h. next (first z) }
 
-pub run-numbers : {short : Bool} (enough : Type 0) → (enough → short ≡ false) → (b : Start) → BeginForm short b → (expiry : Float) (n : ℕ) → Numbers enough (resultFrom b expiry n .answer)
+pub run-numbers : {short : Bool} (enough : Type 0) → (enough → short ≡ false) → (b : Start) → StartForm short b → (expiry : Float) (n : ℕ) → Numbers enough (resultFrom b expiry n .answer)
 unfolding resultFrom
 run-numbers enough l (answered v) f expiry n = loop-numbers enough _ (λ z. refl) (inl refl)
 run-numbers enough l (stopped k) (ended r) expiry n = record { answered = λ z. absurd (not-0 r z); number = refusal-number r; no-21 = λ h. not-21 r (l h); steps = λ h. absurd (omega arith) }

@@ -12,6 +12,7 @@ use Rattle.prices.specs.declared.answer.Answer.the-variants.{Value, Refused as 
 use Rattle.prices.specs.Black.{callOf, isPositiveNormal, isFinite}
 use Rattle.prices.specs.RationalCubic.{isInfinite, interpolationOf}
 use Rattle.prices.proofs.Laws.Refusals.{CallAnswer, price as a-price, outside-the-region, call-answer}
+use Rattle.solver.specs.declared.quote.Quote.{Quote}
 use Rattle.solver.specs.declared.state.State.{State}
 use Rattle.solver.specs.declared.state.Record.{Record}
 use Rattle.solver.specs.declared.state.Bracket.{Bracket}
@@ -67,9 +68,9 @@ pub data Refusal (short : Bool) : ℕ → Type 0 where
   cubic-number : Refusal short 6
   region-number : Refusal short 7
 
-pub input-number : (short : Bool) (price forward strike expiry : Float) → (inputNumber price forward strike expiry ≡ 0) ⊎ Refusal short (inputNumber price forward strike expiry)
+pub input-number : (short : Bool) (q : Quote) → (inputNumber q ≡ 0) ⊎ Refusal short (inputNumber q)
 unfolding inputNumber
-input-number short price forward strike expiry = go (isFinite price) (isPositiveNormal forward) (isPositiveNormal strike) (isPositiveNormal expiry)
+input-number short q = go (isFinite (q .price)) (isPositiveNormal (q .forward)) (isPositiveNormal (q .strike)) (isPositiveNormal (q .expiry))
   where
     number : Bool → Bool → Bool → Bool → ℕ
     number p f k e = cond p (cond f (cond k (cond e 0 4) 3) 2) 1

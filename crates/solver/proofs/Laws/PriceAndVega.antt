@@ -1,7 +1,7 @@
--- What `priced` found, as the definitions' price and vega. Assumes nothing.
+-- What `price_and_vega_at` answers, as the definitions' price and vega. Assumes nothing.
 use mathlib.Core.Path.{_≡_}
 use lib.Ieee.{Float}
-use Rattle.elementary.specs.RuleSets.{rule-set-0}
+use Rattle.elementary.specs.declared.rule_set.RuleSet.{RuleSet}
 use Rattle.prices.specs.declared.answer.Answer.the-variants.{Value, Refused}
 use Rattle.prices.specs.declared.point.PriceAndVega.{PriceAndVega}
 use Rattle.prices.specs.Vega.{vegaOf}
@@ -10,12 +10,12 @@ use Rattle.prices.specs.Inside.Point.{priceAndVega}
 use Rattle.prices.proofs.Laws.Refusals.{call-answer}
 use Rattle.prices.proofs.Laws.Exponentials.{price-told, refusal-told, vega-told}
 
-module _ (x s : Float) (p : PriceAndVega) (e : p ≡ priceAndVega (callOf rule-set-0 x s) (vegaOf x s)) where
-  pub price-is : p .number ≡ 0 → callOf rule-set-0 x s ≡ Value (p .price)
-  price-is n = price-told _ (call-answer 1 rule-set-0 x s) (vegaOf x s) p e n
+module _ (set : RuleSet) (x s : Float) (p : PriceAndVega) (e : p ≡ priceAndVega (callOf set x s) (vegaOf x s)) where
+  pub price-is : p .number ≡ 0 → callOf set x s ≡ Value (p .price)
+  price-is n = price-told _ (call-answer 1 set x s) (vegaOf x s) p e n
 
-  pub refusal-is : (p .number ≡ 0 → ⊥) → callOf rule-set-0 x s ≡ Refused (p .number)
+  pub refusal-is : (p .number ≡ 0 → ⊥) → callOf set x s ≡ Refused (p .number)
   refusal-is n = refusal-told _ (vegaOf x s) p e n
 
   pub vega-is : vegaOf x s ≡ p .vega
-  vega-is = vega-told (callOf rule-set-0 x s) (vegaOf x s) p e
+  vega-is = vega-told (callOf set x s) (vegaOf x s) p e

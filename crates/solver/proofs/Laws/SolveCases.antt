@@ -8,9 +8,8 @@ use native.Mathlib.Omega.{arith}
 use native.Mathlib.Nat.{mul-comm}
 use borrow.Author.Tests.{ne-eqb, ltb-false}
 use lib.Dec.{ltb}
-use lib.Ieee.{Float}
-use Rattle.elementary.specs.RuleSets.{rule-set-0}
-use Rattle.prices.specs.declared.inputs.OptionType.{OptionType}
+use Rattle.elementary.specs.declared.rule_set.RuleSet.{RuleSet}
+use Rattle.solver.specs.declared.quote.Quote.{Quote}
 use Rattle.solver.specs.declared.answers.Solution.{Solution}
 use Rattle.solver.specs.declared.answers.Solution.the-variants.{Refused}
 use Rattle.solver.specs.declared.state.Start.{Start as CodeStart}
@@ -19,20 +18,20 @@ use Rattle.solver.specs.Solve.{acceptedStart, inputNumber, startOf, Solv
 use Rattle.solver.specs.Inside.Trail.{trailIfKept}
 use Rattle.solver.proofs.Laws.Reached.{none-wrote}
 
-module _ (keep : Bool) (bytes : ℕ) (price forward strike expiry : Float) (kind : OptionType) (n : ℕ) where
+module _ (keep : Bool) (bytes : ℕ) (set : RuleSet) (q : Quote) (n : ℕ) where
   abbrev w : SolveResult
-  w = solveKeeping rule-set-0 keep bytes price forward strike expiry kind n
+  w = solveKeeping set keep bytes q n
 
-  pub by-number : (k : ℕ) → k ≡ inputNumber price forward strike expiry → (k ≡ 0 → ⊥) → w ≡ record { records = []; answer = Refused k 0 }
+  pub by-number : (k : ℕ) → k ≡ inputNumber q → (k ≡ 0 → ⊥) → w ≡ record { records = []; answer = Refused k 0 }
   unfolding solveKeeping resultFrom startOf
   by-number k e h = rw (← e, ne-eqb k 0 h)
 
-  module _ (k : ℕ) (e : k ≡ inputNumber price forward strike expiry) (h : k ≡ 0) where
+  module _ (k : ℕ) (e : k ≡ inputNumber q) (h : k ≡ 0) where
     pub by-trail : (keep && ltb bytes (48 * n)) ≡ true → w ≡ record { records = []; answer = Refused 21 0 }
     unfolding solveKeeping resultFrom startOf
     by-trail t = rw (← e, h, t)
 
-    pub by-start : (keep && ltb bytes (48 * n)) ≡ false → (s : Start) → startMeaning rule-set-0 s ≡ acceptedStart rule-set-0 price forward strike expiry kind → (s′ : Start) → s ≡ s′ → w ≡ resultFrom (startMeaning rule-set-0 s′) expiry n
+    pub by-start : (keep && ltb bytes (48 * n)) ≡ false → (s : CodeStart) → startMeaning set s ≡ acceptedStart set q → (s′ : CodeStart) → s ≡ s′ → w ≡ resultFrom (startMeaning set s′) (q .expiry) n
     unfolding solveKeeping startOf
     by-start t s b s′ g = rw (← g, b, ← e, h, t)
 
@@ -57,6 +56,6 @@ pub untouched : (w : SolveResult) (answer : Solution) (keep : Bool) (old : List 
 untouched w answer keep old e = (rw e refl, rw e (none-wrote keep old))
 
 -- what the run answered and left, as solve's own
-pub ran-on : (keep : Bool) (w q : SolveResult) (answer : Solution) (old trail : List ℕ) → w ≡ q → (answer ≡ q .answer) × (trail ≡ trailIfKept keep (q .records) old)
+pub result-of : (keep : Bool) (w q : SolveResult) (answer : Solution) (old trail : List ℕ) → w ≡ q → (answer ≡ q .answer) × (trail ≡ trailIfKept keep (q .records) old)
     → (answer ≡ w .answer) × (trail ≡ trailIfKept keep (w .records) old)
-ran-on keep w q answer old trail e h = rw e h
+result-of keep w q answer old trail e h = rw e h

@@ -1,4 +1,4 @@
--- A record's slot of the book: where one is held, its 64 bytes are inside, and what read and recheck answer there.
+-- A record's slot of the book: where the record exists, its 64 bytes are inside, and what read and recheck answer there.
 use mathlib.Core.Path.{_≡_, refl, sym}
 use mathlib.Core.Bool.{Bool, true, false, true≢false, cond, _&&_}
 use mathlib.Core.List.{List, []}
@@ -37,21 +37,21 @@ module _ (book : List ℕ) (used k : ℕ) where
       omega (arith, ltb-true k used (h .0), leb-true used (slots book) (h .1))
 
   -- read's number says it too
-  pub held : readOf book used k .number ≡ 0 → recordExists book used k ≡ true
+  pub exists : readOf book used k .number ≡ 0 → recordExists book used k ≡ true
   unfolding readOf
-  held e = number-zero (recordExists book used k) (recordAt k book) e
+  exists e = number-zero (recordExists book used k) (recordAt k book) e
 
-  pub read-held : recordExists book used k ≡ true → (slot k book ≡ readOf book used k .bytes) × (0 ≡ readOf book used k .number)
+  pub read-existing : recordExists book used k ≡ true → (slot k book ≡ readOf book used k .bytes) × (0 ≡ readOf book used k .number)
   unfolding readOf
-  read-held e = rw (e, slot-is k book) (refl, refl)
+  read-existing e = rw (e, slot-is k book) (refl, refl)
 
   pub read-none : recordExists book used k ≡ false → ([] ≡ readOf book used k .bytes) × (23 ≡ readOf book used k .number)
   unfolding readOf
   read-none e = rw e (refl, refl)
 
-  pub recheck-held : (set : RuleSet) (a : Checking) → recordExists book used k ≡ true → a ≡ checkingOf (slot k book) (solveRecord set (slot k book)) → a ≡ recheckOf set book used k
+  pub recheck-existing : (set : RuleSet) (a : Checking) → recordExists book used k ≡ true → a ≡ checkingOf (slot k book) (solveRecord set (slot k book)) → a ≡ recheckOf set book used k
   unfolding recheckOf
-  recheck-held set a e h = rw e (rw (slot-is k book) at h)
+  recheck-existing set a e h = rw e (rw (slot-is k book) at h)
 
   pub recheck-none : (set : RuleSet) → recordExists book used k ≡ false → Refused 23 0 ≡ recheckOf set book used k
   unfolding recheckOf

@@ -11,6 +11,7 @@ use lib.Dec.{eqb}
 use lib.Ieee.{Float, binary64, toBits}
 use lib.ListN.{length, getD}
 use lib.Seq.{drop-cons}
+use Rattle.solver.specs.declared.answers.ImpliedVolatility.{ImpliedVolatility}
 use Rattle.solver.specs.LittleEndian.{bytesOf, floatBytes, part, numberAt}
 use Rattle.solver.specs.Book.{sameBytes, agrees}
 use borrow.Author.Needs.{needs}
@@ -43,43 +44,46 @@ record Sized (r : List ℕ) (v : Float) (steps : ℕ) : Type 0 where
   bits : toBits binary64 v < 18446744073709551616
   count : steps < 4294967296
 
-module _ (r : List ℕ) (v : Float) (branch ending steps : ℕ) (s : Sized r v steps) where
-  same-bits : sameBytes (part 32 8 r) (floatBytes v) ≡ eqb (numberAt 32 8 r) (toBits binary64 v)
-  same-bits = same-number r 8 32 (toBits binary64 v) (s .bytes) (omega arith) (s .bits)
+module _ (r : List ℕ) (a : ImpliedVolatility) (s : Sized r (a .volatility) (a .steps)) where
+  same-bits : sameBytes (part 32 8 r) (floatBytes (a .volatility)) ≡ eqb (numberAt 32 8 r) (toBits binary64 (a .volatility))
+  same-bits = same-number r 8 32 (toBits binary64 (a .volatility)) (s .bytes) (omega arith) (s .bits)
 
-  same-steps : sameBytes (part 44 4 r) (bytesOf 4 steps) ≡ eqb (numberAt 44 4 r) steps
-  same-steps = same-number r 4 44 steps (s .bytes) (omega arith) (s .count)
+  same-steps : sameBytes (part 44 4 r) (bytesOf 4 (a .steps)) ≡ eqb (numberAt 44 4 r) (a .steps)
+  same-steps = same-number r 4 44 (a .steps) (s .bytes) (omega arith) (s .count)
 
-  other-bits : (numberAt 32 8 r ≡ toBits binary64 v → ⊥) → false ≡ agrees r v branch ending steps
-  other-bits h = rw (same-bits, ne-eqb (numberAt 32 8 r) (toBits binary64 v) h)
+  other-bits : (numberAt 32 8 r ≡ toBits binary64 (a .volatility) → ⊥) → false ≡ agrees r a
+  other-bits h = rw (same-bits, ne-eqb (numberAt 32 8 r) (toBits binary64 (a .volatility)) h)
 
-  module _ (e : numberAt 32 8 r ≡ toBits binary64 v) where
-    other-steps : (numberAt 44 4 r ≡ steps → ⊥) → false ≡ agrees r v branch ending steps
-    other-steps h = rw (same-bits, eq-eqb (numberAt 32 8 r) (toBits binary64 v) e, same-steps, ne-eqb (numberAt 44 4 r) steps h)
+  module _ (e : numberAt 32 8 r ≡ toBits binary64 (a .volatility)) where
+    other-steps : (numberAt 44 4 r ≡ a .steps → ⊥) → false ≡ agrees r a
+    other-steps h = rw (same-bits, eq-eqb (numberAt 32 8 r) (toBits binary64 (a .volatility)) e, same-steps, ne-eqb (numberAt 44 4 r) (a .steps) h)
 
-    module _ (f : numberAt 44 4 r ≡ steps) where
-      other-branch : (getD r 49 0 ≡ branch → ⊥) → false ≡ agrees r v branch ending steps
+    module _ (f : numberAt 44 4 r ≡ a .steps) where
+      other-branch : (getD r 49 0 ≡ a .branch → ⊥) → false ≡ agrees r a
       other-branch h =
-          rw (same-bits, eq-eqb (numberAt 32 8 r) (toBits binary64 v) e, same-steps, eq-eqb (numberAt 44 4 r) steps f, ne-eqb (getD r 49 0) branch h)
+          rw (same-bits, eq-eqb (numberAt 32 8 r) (toBits binary64 (a .volatility)) e, same-steps, eq-eqb (numberAt 44 4 r) (a .steps) f, ne-eqb (getD r 49 0) (a .branch) h)
 
-      the-ending : getD r 49 0 ≡ branch → eqb (getD r 50 0) ending ≡ agrees r v branch ending steps
+      the-ending : getD r 49 0 ≡ a .branch → eqb (getD r 50 0) (a .ending) ≡ agrees r a
       the-ending h =
-          rw (same-bits, eq-eqb (numberAt 32 8 r) (toBits binary64 v) e, same-steps, eq-eqb (numberAt 44 4 r) steps f, eq-eqb (getD r 49 0) branch h)
+          rw (same-bits, eq-eqb (numberAt 32 8 r) (toBits binary64 (a .volatility)) e, same-steps, eq-eqb (numberAt 44 4 r) (a .steps) f, eq-eqb (getD r 49 0) (a .branch) h)
 
-sized : (c : tie.After-bits-of) → Sized (now (c .before .before .before .args .r)) (c .before .before .before .args .volatility) (c .before .before .before .args .steps)
+sized : (c : tie.After-bits-of) → let a = c .before .before .before .before .args in Sized (now (a .r)) (a .a .volatility) (a .a .steps)
 sized c =
     record {
-      bytes = λ i. omega (arith, c .before .before .shared-slice-known .given i);
-      long = c .before .before .before .pre;
+      bytes = λ i. omega (arith, c .before .before .before .shared-slice-known .given i);
+      long = c .before .before .before .before .pre;
       bits = omega (arith, c .bits-of .ok, c .bits-of .ensures);
-      count = omega (arith, c .before .before .before .fits .steps);
+      count = omega (arith, c .before .before .struct-known .given);
     }
 
-bits : (c : tie.Else1) → numberAt 32 8 (now (c .before .before .before .before .args .r)) ≡ toBits binary64 (c .before .before .before .before .args .volatility)
+bits : (c : tie.Else1) → let a = c .before .before .before .before .before .args in numberAt 32 8 (now (a .r)) ≡ toBits binary64 (a .a .volatility)
 bits c = rw (c .before .before .number-at .ensures, c .before .bits-of .ensures) at (c .if1 .left)
 
-count : (c : tie.Else2) → numberAt 44 4 (now (c .before .before .before .before .before .before .args .r)) ≡ c .before .before .before .before .before .before .args .steps
+count : (c : tie.Else2) → let a = c .before .before .before .before .before .before .before .args in numberAt 44 4 (now (a .r)) ≡ a .a .steps
 count c = rw (c .before .number-at2 .ensures) at (c .if2 .left)
+
+cast-steps : tie.Need-cast-steps
+cast-steps c = search needs
 
 number-at-requires : tie.Need-number-at-requires
 number-at-requires c κs = search needs
@@ -90,8 +94,8 @@ bits-of-requires c κs = search needs
 returns : tie.Need-returns
 returns c =
     let s = c .before in
-    let a = s .before .before .before .args in
-    other-bits (now (a .r)) (a .volatility) (a .branch) (a .ending) (a .steps) (sized s) (rw (s .before .number-at .ensures, s .bits-of .ensures) at (c .if1 .taken))
+    let a = s .before .before .before .before .args in
+    other-bits (now (a .r)) (a .a) (sized s) (rw (s .before .number-at .ensures, s .bits-of .ensures) at (c .if1 .taken))
 
 number-at-requires-2 : tie.Need-number-at-requires-2
 number-at-requires-2 c κs = search needs
@@ -99,33 +103,34 @@ number-at-requires-2 c κs = search needs
 returns-2 : tie.Need-returns-2
 returns-2 c =
     let s = c .before .before .before in
-    let a = s .before .before .before .args in
-    other-steps (now (a .r)) (a .volatility) (a .branch) (a .ending) (a .steps) (sized s) (bits (c .before .before)) (rw (c .before .number-at2 .ensures) at (c .if2 .taken))
+    let a = s .before .before .before .before .args in
+    other-steps (now (a .r)) (a .a) (sized s) (bits (c .before .before)) (rw (c .before .number-at2 .ensures) at (c .if2 .taken))
 
 shared-slice-read-if3 : tie.Need-shared-slice-read-if3
 shared-slice-read-if3 c = search needs
 
 returns-3 : tie.Need-returns-3
 returns-3 c =
-    let d = c .before .before in
+    let d = c .before .before .before in
     let s = d .before .before .before in
-    let a = s .before .before .before .args in
-    other-branch (now (a .r)) (a .volatility) (a .branch) (a .ending) (a .steps) (sized s) (bits (d .before .before)) (count d) (c .if3 .taken)
+    let a = s .before .before .before .before .args in
+    other-branch (now (a .r)) (a .a) (sized s) (bits (d .before .before)) (count d) (c .if3 .taken)
 
 shared-slice-read-result : tie.Need-shared-slice-read-result
 shared-slice-read-result c = search needs
 
 returns-4 : tie.Need-returns-4
 returns-4 c =
-    let d = c .before .before .before in
+    let d = c .before .before .before .before .before in
     let s = d .before .before .before in
-    let a = s .before .before .before .args in
-    the-ending (now (a .r)) (a .volatility) (a .branch) (a .ending) (a .steps) (sized s) (bits (d .before .before)) (count d) (c .before .if3 .left)
+    let a = s .before .before .before .before .args in
+    the-ending (now (a .r)) (a .a) (sized s) (bits (d .before .before)) (count d) (c .before .before .if3 .left)
 
 pub agrees-spec : {M : Type 1} → statement M
 agrees-spec =
     tie.close
     (tie.spec
+    cast-steps
     number-at-requires
     bits-of-requires
     returns

@@ -1,89 +1,21 @@
--- `book::file` meets its contract: a case of the definition for each way out.
-use mathlib.Core.Path.{_≡_, refl}
-use mathlib.Core.List.{List}
-use Prim.Native.Nat.{ℕ, _/_, _≤_, _<_}
-use native.Mathlib.Omega.{arith}
-use borrow.Author.Tests.{eq-eqb, ne-eqb, lt-ltb, le-ltb, le-leb, lt-leb}
-use denote.Ref.{now}
-use lib.Ieee.{Float}
-use lib.IntN.{ℤ}
-use lib.ListN.{length}
+-- `book::file` meets its contract: it is `book::file_quote` by document 01's rules.
+use borrow.Author.Needs.{needs}
 use mir.Syntax.{w32}
 use mir.ValLaws.{toZ-ofZ}
-use Rattle.prices.specs.declared.inputs.OptionType.{OptionType}
-use Rattle.solver.specs.declared.answers.Solution.{Solution}
-use Rattle.solver.specs.declared.answers.Filing.{Filing}
-use Rattle.solver.specs.declared.answers.Filing.the-variants.{Refused as NotFiled}
-use Rattle.elementary.specs.RuleSets.{rule-set-0}
-use Rattle.solver.specs.Solve.{inputNumber, solveOf, stepsOf}
-use Rattle.solver.specs.Book.{fileAnswer, fileOf}
-use borrow.Author.Needs.{needs}
 use Rattle.solver.proofs.book.file.Statement.{statement}
 use Rattle.solver.proofs.book.file.Tie as tie
 
-module _ (price forward strike expiry : Float) (kind : OptionType) (limit : ℤ) (book : List ℕ) (used : ℕ) where
-  -- the answer, and the book that is left
-  abbrev Files : Filing → List ℕ → Type 0
-  Files f b = (f ≡ fileOf price forward strike expiry kind limit book used rule-set-0 .answer) × (b ≡ fileOf price forward strike expiry kind limit book used rule-set-0 .book)
-
-  abbrev answer : Solution
-  answer = solveOf rule-set-0 price forward strike expiry kind (stepsOf limit) .answer
-
-  module _ (n : ℕ) (i : n ≡ inputNumber price forward strike expiry) where
-    no-input : (n ≡ 0 → ⊥) → Files (NotFiled n 0) book
-    unfolding fileOf
-    no-input h = rw (← i, ne-eqb n 0 h) (refl, refl)
-
-    module _ (e : n ≡ 0) where
-      past : length book / 64 < used → Files (NotFiled 23 0) book
-      unfolding fileOf
-      past h = rw (← i, eq-eqb n 0 e, lt-leb used (length book / 64) h) (refl, refl)
-
-      full : used ≤ length book / 64 → used ≡ length book / 64 → Files (NotFiled 22 0) book
-      unfolding fileOf
-      full h g = rw (← i, eq-eqb n 0 e, le-leb used (length book / 64) h, le-ltb used (length book / 64) (omega arith)) (refl, refl)
-
-      solved : used < length book / 64 → (f : Filing) (b : List ℕ)
-          → (f ≡ fileAnswer price forward strike expiry kind limit book used answer .answer) × (b ≡ fileAnswer price forward strike expiry kind limit book used answer .book) → Files f b
-      unfolding fileOf
-      solved g f b h =
-          rw (← i, eq-eqb n 0 e, le-leb used (length book / 64) (omega arith), lt-ltb used (length book / 64) g) h
-
-input-number-requires : tie.Need-input-number-requires
-input-number-requires c κs = search needs
-
-returns : tie.Need-returns
-returns c =
-    let n = c .before in
-    let a = n .before .before .args in
-    no-input (a .price) (a .forward) (a .strike) (a .expiry) (a .option-type) (a .limit) (now (a .book)) (a .used) _ (n .input-number .ensures) (c .if1 .taken)
-
-returns-2 : tie.Need-returns-2
-returns-2 c =
-    let n = c .before .before in
-    let a = n .before .before .args in
-    past (a .price) (a .forward) (a .strike) (a .expiry) (a .option-type) (a .limit) (now (a .book)) (a .used) _ (n .input-number .ensures) (c .before .if1 .left) (c .if2 .taken)
-
-returns-3 : tie.Need-returns-3
-returns-3 c =
-    let n = c .before .before .before in
-    let a = n .before .before .args in
-    full (a .price) (a .forward) (a .strike) (a .expiry) (a .option-type) (a .limit) (now (a .book)) (a .used) _ (n .input-number .ensures) (c .before .before .if1 .left) (c .before .if2 .left) (c .if3 .taken)
-
-file-in-slot-requires : tie.Need-file-in-slot-requires
-file-in-slot-requires c κs = search needs
+file-quote-requires : tie.Need-file-quote-requires
+file-quote-requires c κs = search needs
 
 same-length : tie.Need-same-length
 same-length c = search needs
 
-returns-4 : tie.Need-returns-4
-returns-4 c =
-    let p = c .before .before in
-    let d = p .before .before in
-    let n = d .before .before .before in
-    let a = n .before .before .args in
-    solved (a .price) (a .forward) (a .strike) (a .expiry) (a .option-type) (a .limit) (now (a .book)) (a .used) _ (n .input-number .ensures) (d .before .before .if1 .left) (omega arith) _ _
-    (rw (toZ-ofZ w32 (a .limit) (n .before .before .fits .limit)) at (p .file-in-slot .ensures))
+returns : tie.Need-returns
+returns c =
+    let f = c .before .before in
+    let start = f .before .before .before in
+    rw (toZ-ofZ w32 (start .args .limit) (start .fits .limit)) at (f .file-quote .ensures)
 
 pub file-spec : {M : Type 1} → statement M
-file-spec = tie.close (tie.spec input-number-requires returns returns-2 returns-3 file-in-slot-requires same-length returns-4)
+file-spec = tie.close (tie.spec file-quote-requires same-length returns)

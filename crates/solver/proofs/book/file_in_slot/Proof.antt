@@ -1,16 +1,16 @@
--- `book::file_in_slot` meets its contract: a solution's bytes are laid in slot `used`, a refusal leaves the book.
+-- `book::file_in_slot` meets its contract: a solution's bytes stand in slot `used`, a refusal leaves the book.
 use mathlib.Core.Path.{_≡_, refl}
 use mathlib.Core.List.{List, _++_}
 use Prim.Native.Nat.{ℕ, _+_, _-_, _*_}
 use native.Mathlib.Nat.{mul-comm}
 use borrow.Rule.Slice.PartMut.{midOf, putMid}
 use denote.Ref.{now}
-use lib.Ieee.{Float}
 use lib.IntN.{ℤ}
 use lib.ListN.{length, drop}
 use mir.Syntax.{w32}
 use mir.ValLaws.{toZ-ofZ}
-use Rattle.prices.specs.declared.inputs.OptionType.{OptionType}
+use Rattle.solver.specs.declared.quote.Quote.{Quote}
+use Rattle.solver.specs.declared.answers.ImpliedVolatility.{ImpliedVolatility}
 use Rattle.solver.specs.declared.answers.Solution.{Solution}
 use Rattle.solver.specs.declared.answers.Solution.the-variants.{Solved, Refused}
 use Rattle.solver.specs.declared.answers.Filing.{Filing}
@@ -21,25 +21,25 @@ use borrow.Author.Needs.{needs}
 use Rattle.solver.proofs.book.file_in_slot.Statement.{statement}
 use Rattle.solver.proofs.book.file_in_slot.Tie as tie
 
-module _ (price forward strike expiry : Float) (kind : OptionType) (limit : ℤ) (book : List ℕ) (used : ℕ) (a w : Solution) (e : a ≡ w) where
+module _ (q : Quote) (limit : ℤ) (book : List ℕ) (used : ℕ) (a w : Solution) (e : a ≡ w) where
   -- the answer, and the book that is left
   abbrev Files : Filing → List ℕ → Type 0
-  Files f b = (f ≡ fileAnswer price forward strike expiry kind limit book used w .answer) × (b ≡ fileAnswer price forward strike expiry kind limit book used w .book)
+  Files f b = (f ≡ fileAnswer q limit book used w .answer) × (b ≡ fileAnswer q limit book used w .book)
 
   stopped : (n steps : ℕ) → a ≡ Refused n steps → Files (NotFiled n steps) book
-  stopped n steps q = rw (← e, q) (refl, refl)
+  stopped n steps s = rw (← e, s) (refl, refl)
 
-  module _ (v : Float) (branch ending steps : ℕ) where
+  module _ (v : ImpliedVolatility) where
     abbrev bytes : List ℕ
-    bytes = bookRecordBytes price forward strike expiry kind limit v branch ending steps
+    bytes = bookRecordBytes q limit v
 
     bytes-length : length bytes ≡ 64
     unfolding bookRecordBytes
     bytes-length = refl
 
-    laid-in : (ys : List ℕ) → a ≡ Solved v branch ending steps → ys ≡ bytes ++ drop 64 (midOf (used * 64) (length book - used * 64) book)
+    files : (ys : List ℕ) → a ≡ Solved v → ys ≡ bytes ++ drop 64 (midOf (used * 64) (length book - used * 64) book)
         → Files (Filed (used + 1)) (putMid (used * 64) (length book - used * 64) book ys)
-    laid-in ys q h = rw (← e, q) (refl, rw (mul-comm 64 used) (part-laid (used * 64) book bytes ys (rw bytes-length h)))
+    files ys s h = rw (← e, s) (refl, rw (mul-comm 64 used) (part-laid (used * 64) book bytes ys (rw bytes-length h)))
 
 put-book-record-requires : tie.Need-put-book-record-requires
 put-book-record-requires c κs = search needs
@@ -55,8 +55,8 @@ returns c =
     let start = s .before .before .before in
     let a = start .args in
     let z = toZ-ofZ w32 (a .limit) (start .fits .limit) in
-    laid-in (a .price) (a .forward) (a .strike) (a .expiry) (a .option-type) (a .limit) (now (a .book)) (a .used) _ _ (rw (s .before .steps-of .ensures, z) at (s .solve-without-trail .ensures)) _ _ _ _ _
-    (v .volatility .given .1) (rw z at (p .put-book-record .ensures))
+    files (a .quote) (a .limit) (now (a .book)) (a .used) _ _ (rw (s .before .steps-of .ensures, z) at (s .solve-quote .ensures)) _ _
+    (v .a .given .1) (rw z at (p .put-book-record .ensures))
 
 returns-2 : tie.Need-returns-2
 returns-2 c =
@@ -64,7 +64,7 @@ returns-2 c =
     let start = s .before .before .before in
     let a = start .args in
     let z = toZ-ofZ w32 (a .limit) (start .fits .limit) in
-    stopped (a .price) (a .forward) (a .strike) (a .expiry) (a .option-type) (a .limit) (now (a .book)) (a .used) _ _ (rw (s .before .steps-of .ensures, z) at (s .solve-without-trail .ensures)) _ _ (c .before .n .given .1)
+    stopped (a .quote) (a .limit) (now (a .book)) (a .used) _ _ (rw (s .before .steps-of .ensures, z) at (s .solve-quote .ensures)) _ _ (c .before .n .given .1)
 
 pub file-in-slot-spec : {M : Type 1} → statement M
 file-in-slot-spec =

@@ -1,4 +1,4 @@
--- `book::read` meets its contract: the slot where the record is held, and the empty part.
+-- `book::read` meets its contract: the slot where the record is exists, and the empty part.
 use mathlib.Core.Path.{_≡_}
 use mathlib.Core.Bool.{true}
 use Prim.Native.Nat.{_+_, _*_, _≤_}
@@ -6,16 +6,16 @@ use native.Mathlib.Omega.{arith}
 use denote.Ref.{now}
 use lib.ListN.{length}
 use Rattle.solver.specs.Book.{recordExists}
-use Rattle.solver.proofs.book.Slots.{inside, read-held, read-none}
+use Rattle.solver.proofs.book.Slots.{inside, read-existing, read-none}
 use borrow.Author.Needs.{needs}
 use Rattle.solver.proofs.book.read.Statement.{statement}
 use Rattle.solver.proofs.book.read.Tie as tie
 
-held : (c : tie.Then1) → recordExists (now (c .before .before .before .args .book)) (c .before .before .before .args .used) (c .before .before .before .args .k) ≡ true
-held c = rw (c .before .record-exists .ensures) at (c .if1 .taken)
+exists : (c : tie.Then1) → recordExists (now (c .before .before .before .args .book)) (c .before .before .before .args .used) (c .before .before .before .args .k) ≡ true
+exists c = rw (c .before .record-exists .ensures) at (c .if1 .taken)
 
 within : (c : tie.Then1) → c .before .before .before .args .k * 64 + 64 ≤ length (now (c .before .before .before .args .book))
-within c = let a = c .before .before .before .args in inside (now (a .book)) (a .used) (a .k) (held c)
+within c = let a = c .before .before .before .args in inside (now (a .book)) (a .used) (a .k) (exists c)
 
 record-exists-requires : tie.Need-record-exists-requires
 record-exists-requires c κs = search needs
@@ -36,7 +36,7 @@ part-result-end : tie.Need-part-result-end
 part-result-end c = within c
 
 returns : tie.Need-returns
-returns c = let a = c .before .before .before .before .args in read-held (now (a .book)) (a .used) (a .k) (held (c .before))
+returns c = let a = c .before .before .before .before .args in read-existing (now (a .book)) (a .used) (a .k) (exists (c .before))
 
 sub-result-2 : tie.Need-sub-result-2
 sub-result-2 c = search needs

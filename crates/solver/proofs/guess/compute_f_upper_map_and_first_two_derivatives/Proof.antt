@@ -6,8 +6,8 @@ use Rattle.solver.proofs.guess.compute_f_upper_map_and_first_two_deriva
 }
 use Rattle.solver.proofs.guess.compute_f_upper_map_and_first_two_derivatives.Tie as tie
 
-standard-normal-cdf-requires : tie.Need-standard-normal-cdf-requires
-standard-normal-cdf-requires c κs = search needs
+standard-normal-cdf-under-requires : tie.Need-standard-normal-cdf-under-requires
+standard-normal-cdf-under-requires c κs = search needs
 
 is-below-horizon-requires : tie.Need-is-below-horizon-requires
 is-below-horizon-requires c κs = search needs
@@ -23,7 +23,7 @@ exp-requires-2 c κs = search needs
 
 returns : tie.Need-returns
 unfolding upperMap
-returns c = rw (c .before .before .standard-normal-cdf .ensures, rw (c .before .is-below-horizon .ensures) at (c .if1 .taken))
+returns c = rw (c .before .before .standard-normal-cdf-under .ensures, rw (c .before .is-below-horizon .ensures) at (c .if1 .taken))
 
 returns-2 : tie.Need-returns-2
 unfolding upperMap
@@ -33,13 +33,13 @@ returns-2 c =
     let at-if1 = at-square .before in
     let at-horizon = at-if1 .before in
     let at-cdf = at-horizon .before in
-    rw (c .exp2 .ensures, at-exp .exp .ensures, at-square .powi-2 .ensures, at-cdf .standard-normal-cdf .ensures, rw (at-horizon .is-below-horizon .ensures) at (at-if1 .if1 .left))
+    rw (c .exp2 .ensures, at-exp .exp .ensures, at-square .powi-2 .ensures, at-cdf .standard-normal-cdf-under .ensures, rw (at-horizon .is-below-horizon .ensures) at (at-if1 .if1 .left))
 
 pub compute-f-upper-map-and-first-two-derivatives-spec : {M : Type 1} → statement M
 compute-f-upper-map-and-first-two-derivatives-spec =
     tie.close
     (tie.spec
-    standard-normal-cdf-requires
+    standard-normal-cdf-under-requires
     is-below-horizon-requires
     powi-2-requires
     exp-requires

@@ -2,7 +2,6 @@
 use mathlib.Core.Path.{_≡_, refl}
 use mathlib.Core.Bool.{cond}
 use lib.Ieee.{lt}
-use Rattle.elementary.specs.RuleSets.{rule-set-0}
 use Rattle.solver.specs.Guess.{withValue, lowerStart, upperStart, guessedStart}
 use Rattle.solver.proofs.Laws.PriceAndVega.{price-is, refusal-is, vega-is}
 use borrow.Author.Needs.{needs}
@@ -23,16 +22,17 @@ guessed : (c : tie.Else1) →
     let p = c .before .before .price-and-vega-at .result in
     let s-c = c .before .before .before .sqrt .result in
     let m = c .before .before .before .before .before .args .m in
-    guessedStart rule-set-0 (m .x) (m .beta) (m .«b_max»)
-    ≡ cond (lt (m .beta) (p .price)) (lowerStart rule-set-0 (m .x) (m .beta) s-c (p .price) (p .vega)) (upperStart rule-set-0 (m .x) (m .beta) (m .«b_max») s-c (p .price) (p .vega))
+    let set = c .before .before .before .before .before .args .set in
+    guessedStart set (m .x) (m .beta) (m .«b_max»)
+    ≡ cond (lt (m .beta) (p .price)) (lowerStart set (m .x) (m .beta) s-c (p .price) (p .vega)) (upperStart set (m .x) (m .beta) (m .«b_max») s-c (p .price) (p .vega))
 unfolding withValue
 guessed c =
-    let priced = c .before .before .price-and-vega-at .ensures in
-    rw (← c .before .before .before .before .abs .ensures, ← c .before .before .before .sqrt .ensures, price-is _ _ _ priced (c .if1 .left), vega-is _ _ _ priced)
+    let found = c .before .before .price-and-vega-at .ensures in
+    rw (← c .before .before .before .before .abs .ensures, ← c .before .before .before .sqrt .ensures, price-is _ _ _ _ found (c .if1 .left), vega-is _ _ _ _ found)
 
 returns : tie.Need-returns
 unfolding withValue
-returns c = rw (← c .before .before .before .before .abs .ensures, ← c .before .before .before .sqrt .ensures, refusal-is _ _ _ (c .before .before .price-and-vega-at .ensures) (c .if1 .taken)) (record { meaning = refl; exponentials = tt })
+returns c = rw (← c .before .before .before .before .abs .ensures, ← c .before .before .before .sqrt .ensures, refusal-is _ _ _ _ (c .before .before .price-and-vega-at .ensures) (c .if1 .taken)) (record { meaning = refl; exponentials = tt })
 
 lower-start-requires : tie.Need-lower-start-requires
 lower-start-requires c κs = c .before .before .before .before .before .before .before .before .pre

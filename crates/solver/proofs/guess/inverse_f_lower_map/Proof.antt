@@ -13,8 +13,8 @@ abs-requires c κs = search needs
 powf-1-3-requires : tie.Need-powf-1-3-requires
 powf-1-3-requires c κs = search needs
 
-inverse-normal-cdf-requires : tie.Need-inverse-normal-cdf-requires
-inverse-normal-cdf-requires c κs = search needs
+inverse-normal-cdf-under-requires : tie.Need-inverse-normal-cdf-under-requires
+inverse-normal-cdf-under-requires c κs = search needs
 
 abs-requires-2 : tie.Need-abs-requires-2
 abs-requires-2 c κs = search needs
@@ -31,7 +31,7 @@ returns-2 c =
     let at-abs = at-root .before in
     let at-if1 = at-abs .before in
     let at-horizon = at-if1 .before in
-    rw (c .abs2 .ensures, at-inverse .inverse-normal-cdf .ensures, at-root .powf-1-3 .ensures, at-abs .abs .ensures, rw (at-horizon .is-below-horizon .ensures) at (at-if1 .if1 .left))
+    rw (c .abs2 .ensures, at-inverse .inverse-normal-cdf-under .ensures, at-root .powf-1-3 .ensures, at-abs .abs .ensures, rw (at-horizon .is-below-horizon .ensures) at (at-if1 .if1 .left))
 
 pub inverse-f-lower-map-spec : {M : Type 1} → statement M
 inverse-f-lower-map-spec =
@@ -40,7 +40,7 @@ inverse-f-lower-map-spec =
     is-below-horizon-requires
     abs-requires
     powf-1-3-requires
-    inverse-normal-cdf-requires
+    inverse-normal-cdf-under-requires
     abs-requires-2
     returns
     returns-2)

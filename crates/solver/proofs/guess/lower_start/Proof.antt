@@ -12,7 +12,7 @@ price-and-vega-at-requires c κs = c .pre
 
 returns : tie.Need-returns
 unfolding lowerStart withValue
-returns c = rw (refusal-is _ _ _ (c .before .before .price-and-vega-at .ensures) (c .if1 .taken)) (record { meaning = refl; exponentials = tt })
+returns c = rw (refusal-is _ _ _ _ (c .before .before .price-and-vega-at .ensures) (c .if1 .taken)) (record { meaning = refl; exponentials = tt })
 
 lower-guess-requires : tie.Need-lower-guess-requires
 lower-guess-requires c κs = search needs
@@ -25,7 +25,7 @@ unfolding lowerStart withValue lowerStep
 returns-2 c =
     let at-if2 = c .before .before in
     let at-if1 = at-if2 .before .before in
-    rw (price-is _ _ _ (at-if1 .before .before .price-and-vega-at .ensures) (at-if1 .if1 .left), at-if2 .if2 .taken, ← c .before .lower-guess .ensures) (c .start-loop .ensures)
+    rw (price-is _ _ _ _ (at-if1 .before .before .price-and-vega-at .ensures) (at-if1 .if1 .left), at-if2 .if2 .taken, ← c .before .lower-guess .ensures) (c .start-loop .ensures)
 
 middle-guess-requires : tie.Need-middle-guess-requires
 middle-guess-requires c κs = search needs
@@ -38,8 +38,8 @@ unfolding lowerStart withValue generalStep
 returns-3 c =
     let at-if2 = c .before .before in
     let at-if1 = at-if2 .before .before in
-    let priced = at-if1 .before .before .price-and-vega-at .ensures in
-    rw (price-is _ _ _ priced (at-if1 .if1 .left), at-if2 .if2 .left, vega-is _ _ _ priced, ← c .before .middle-guess .ensures) (c .start-loop2 .ensures)
+    let found = at-if1 .before .before .price-and-vega-at .ensures in
+    rw (price-is _ _ _ _ found (at-if1 .if1 .left), at-if2 .if2 .left, vega-is _ _ _ _ found, ← c .before .middle-guess .ensures) (c .start-loop2 .ensures)
 
 pub lower-start-spec : {M : Type 1} → statement M
 lower-start-spec =

@@ -14,8 +14,8 @@ upper-f-requires c κs = search needs
 enum-known-f : tie.Need-enum-known-f
 enum-known-f c = search needs
 
-inverse-f-upper-map-requires : tie.Need-inverse-f-upper-map-requires
-inverse-f-upper-map-requires c κs = search needs
+inverse-f-upper-map-under-requires : tie.Need-inverse-f-upper-map-under-requires
+inverse-f-upper-map-under-requires c κs = search needs
 
 returns : tie.Need-returns
 unfolding upperGuess onValue
@@ -24,10 +24,10 @@ returns c =
     let at-f = at-if1 .before .before in
     let at-upper-f = at-f .before .before in
     let at-map = at-upper-f .before in
-    rw (c .inverse-f-upper-map .ensures, ← at-map .compute-f-upper-map-and-first-two-derivatives .ensures, ← at-upper-f .upper-f .ensures, at-f .f .given .1, at-if1 .if1 .taken)
+    rw (c .inverse-f-upper-map-under .ensures, ← at-map .compute-f-upper-map-and-first-two-derivatives .ensures, ← at-upper-f .upper-f .ensures, at-f .f .given .1, at-if1 .if1 .taken)
 
-inverse-f-upper-map-requires-2 : tie.Need-inverse-f-upper-map-requires-2
-inverse-f-upper-map-requires-2 c κs = search needs
+inverse-f-upper-map-under-requires-2 : tie.Need-inverse-f-upper-map-under-requires-2
+inverse-f-upper-map-under-requires-2 c κs = search needs
 
 enum-known-n : tie.Need-enum-known-n
 enum-known-n c = search needs
@@ -39,7 +39,7 @@ returns-2 c =
     let at-f = at-if1 .before .before in
     let at-upper-f = at-f .before .before in
     let at-map = at-upper-f .before in
-    rw (c .inverse-f-upper-map2 .ensures, ← at-map .compute-f-upper-map-and-first-two-derivatives .ensures, ← at-upper-f .upper-f .ensures, at-f .f .given .1, at-if1 .if1 .left)
+    rw (c .inverse-f-upper-map-under2 .ensures, ← at-map .compute-f-upper-map-and-first-two-derivatives .ensures, ← at-upper-f .upper-f .ensures, at-f .f .given .1, at-if1 .if1 .left)
 
 returns-3 : tie.Need-returns-3
 unfolding upperGuess onValue
@@ -52,9 +52,9 @@ upper-guess-spec =
     compute-f-upper-map-and-first-two-derivatives-requires
     upper-f-requires
     enum-known-f
-    inverse-f-upper-map-requires
+    inverse-f-upper-map-under-requires
     returns
-    inverse-f-upper-map-requires-2
+    inverse-f-upper-map-under-requires-2
     enum-known-n
     returns-2
     returns-3)

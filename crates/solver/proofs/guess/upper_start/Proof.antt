@@ -15,7 +15,7 @@ price-and-vega-at-requires c κs = c .before .pre
 
 returns : tie.Need-returns
 unfolding upperStart withValue
-returns c = rw (← c .before .before .before .upper-place .ensures, refusal-is _ _ _ (c .before .before .price-and-vega-at .ensures) (c .if1 .taken)) (record { meaning = refl; exponentials = tt })
+returns c = rw (← c .before .before .before .upper-place .ensures, refusal-is _ _ _ _ (c .before .before .price-and-vega-at .ensures) (c .if1 .taken)) (record { meaning = refl; exponentials = tt })
 
 middle-guess-requires : tie.Need-middle-guess-requires
 middle-guess-requires c κs = search needs
@@ -28,8 +28,8 @@ unfolding upperStart withValue generalStep
 returns-2 c =
     let at-if2 = c .before .before in
     let at-if1 = at-if2 .before .before in
-    let priced = at-if1 .before .before .price-and-vega-at .ensures in
-    rw (← at-if1 .before .before .before .upper-place .ensures, price-is _ _ _ priced (at-if1 .if1 .left), at-if2 .if2 .taken, vega-is _ _ _ priced, ← c .before .middle-guess .ensures) (c .start-loop .ensures)
+    let found = at-if1 .before .before .price-and-vega-at .ensures in
+    rw (← at-if1 .before .before .before .upper-place .ensures, price-is _ _ _ _ found (at-if1 .if1 .left), at-if2 .if2 .taken, vega-is _ _ _ _ found, ← c .before .middle-guess .ensures) (c .start-loop .ensures)
 
 tail-start-requires : tie.Need-tail-start-requires
 tail-start-requires c κs = c .before .before .before .before .before .before .pre
@@ -39,7 +39,7 @@ unfolding upperStart withValue
 returns-3 c =
     let at-if2 = c .before in
     let at-if1 = at-if2 .before .before in
-    rw (← at-if1 .before .before .before .upper-place .ensures, price-is _ _ _ (at-if1 .before .before .price-and-vega-at .ensures) (at-if1 .if1 .left), at-if2 .if2 .left) (c .tail-start .ensures)
+    rw (← at-if1 .before .before .before .upper-place .ensures, price-is _ _ _ _ (at-if1 .before .before .price-and-vega-at .ensures) (at-if1 .if1 .left), at-if2 .if2 .left) (c .tail-start .ensures)
 
 pub upper-start-spec : {M : Type 1} → statement M
 upper-start-spec =

@@ -15,7 +15,7 @@ solve-record-requires c κs = search needs
 
 returns-2 : tie.Need-returns-2
 unfolding answerAt
-returns-2 c = rw (le-ltb (length (c .before .before .before .args .bytes .now)) 64 (c .before .if1 .left)) (c .solveRecord .ensures)
+returns-2 c = rw (le-ltb (length (c .before .before .before .args .bytes .now)) 64 (c .before .if1 .left)) (c .solve-record .ensures)
 
 pub answer-of-spec : {M : Type 1} → statement M
 answer-of-spec = tie.close (tie.spec returns solve-record-requires returns-2)

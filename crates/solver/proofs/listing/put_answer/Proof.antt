@@ -1,6 +1,6 @@
 -- `listing::put_answer` meets its contract: the runs of bytes, one behind the other, are the answer's. Assumes nothing.
 use mathlib.Core.List.{List, [], _∷_, _++_}
-use Prim.Native.Nat.{ℕ, _≤_}
+use Prim.Native.Nat.{ℕ, _+_, _≤_}
 use native.Mathlib.Omega.{arith}
 use lib.ListN.{length}
 use Rattle.solver.specs.Listing.{hexBy, spaceAndCount}
@@ -26,25 +26,29 @@ cast-put-space-and-count : tie.Need-cast-put-space-and-count
 cast-put-space-and-count c = search needs
 
 put-space-and-count-requires : tie.Need-put-space-and-count-requires
-put-space-and-count-requires c κs = omega (arith, hex-length 16 (c .before .before .before .before .bits-of .result))
+put-space-and-count-requires c κs = omega (arith, hex-length 16 (c .before .before .before .before .before .bits-of .result))
 
 cast-put-space-and-count-2 : tie.Need-cast-put-space-and-count-2
 cast-put-space-and-count-2 c = search needs
 
 put-space-and-count-requires-2 : tie.Need-put-space-and-count-requires-2
 put-space-and-count-requires-2 c κs =
-    let bits = c .before .before .before .before .before .before .before .before in
-    let fields = bits .before .before .before .answer .given .0 in
-    omega (arith, hex-length 16 (bits .bits-of .result), decimal-length 20 (fields .1 .1 .1 .0))
+    let bits = c .before .before .before .before .before .before .before .before .before .before in
+    let a = bits .before .before .before .answer .given .0 .0 in
+    omega (arith, hex-length 16 (bits .bits-of .result), decimal-length 20 (a .steps))
 
 cast-put-space-and-count-3 : tie.Need-cast-put-space-and-count-3
 cast-put-space-and-count-3 c = search needs
 
+-- the room that is left after the second count
+room : (c : tie.After-put-space-and-count2) → c .put-space-and-count2 .result + 21 ≤ length (c .put-space-and-count2 .last .0)
+room c =
+    let bits = c .before .before .before .before .before .before .before .before .before .before .before in
+    let a = bits .before .before .before .answer .given .0 .0 in
+    omega (arith, hex-length 16 (bits .bits-of .result), decimal-length 20 (a .steps), decimal-length 20 (a .branch))
+
 put-space-and-count-requires-3 : tie.Need-put-space-and-count-requires-3
-put-space-and-count-requires-3 c κs =
-    let bits = c .before .before .before .before .before .before .before .before .before .before .before .before in
-    let fields = bits .before .before .before .answer .given .0 in
-    omega (arith, hex-length 16 (bits .bits-of .result), decimal-length 20 (fields .1 .1 .1 .0), decimal-length 20 (fields .1 .0))
+put-space-and-count-requires-3 c κs = omega (arith, room (c .before .before .before .before))
 
 enum-known-answer-2 : tie.Need-enum-known-answer-2
 enum-known-answer-2 c = search needs
@@ -70,19 +74,19 @@ same-length c = search needs
 returns : tie.Need-returns
 returns c =
     let p₅ = c .before .before in
-    let p₄ = p₅ .before .before .before .before in
-    let p₃ = p₄ .before .before .before .before in
-    let p₂ = p₃ .before .before .before .before in
+    let p₄ = p₅ .before .before .before .before .before in
+    let p₃ = p₄ .before .before .before .before .before in
+    let p₂ = p₃ .before .before .before .before .before in
     let bits = p₂ .before in
     let met = bits .before .before .before in
     let p₁ = met .before .before .before .before in
     let a = p₁ .before .before .before .args in
-    let v = met .answer .given .0 in
+    let v = met .answer .given .0 .0 in
     let xs₁ : List ℕ = 32 ∷ [] in
     let xs₂ = hexBy 16 (bits .bits-of .result) in
-    let xs₃ = spaceAndCount (v .1 .1 .1 .0) in
-    let xs₄ = spaceAndCount (v .1 .0) in
-    let xs₅ = spaceAndCount (v .1 .1 .0) in
+    let xs₃ = spaceAndCount (v .steps) in
+    let xs₄ = spaceAndCount (v .branch) in
+    let xs₅ = spaceAndCount (v .ending) in
     let room : a .at ≤ length (a .out .now) = omega arith in
     let q₂ = put-both (a .at) xs₁ xs₂ (a .out .now) _ _ _ _ room (p₁ .put-byte .ensures) (p₂ .put-hex .ensures) in
     let q₃ = put-both (a .at) (xs₁ ++ xs₂) xs₃ (a .out .now) _ _ _ _ room q₂ (p₃ .put-space-and-count .ensures) in

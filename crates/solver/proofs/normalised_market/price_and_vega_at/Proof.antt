@@ -1,5 +1,4 @@
 -- `normalised_market::price_and_vega_at` meets its contract: the exponentials are those of x. Assumes nothing.
-use Rattle.elementary.specs.RuleSets.{rule-set-0}
 use Rattle.prices.proofs.Laws.Exponentials.{at-own-exponentials}
 use borrow.Author.Needs.{needs}
 use Rattle.solver.proofs.normalised_market.price_and_vega_at.Statement.{statement}
@@ -10,8 +9,8 @@ price-and-vega-requires c κs = search needs
 
 returns : tie.Need-returns
 returns c =
-    let shared = c .before .pre in
-    rw (← at-own-exponentials rule-set-0 (c .before .args .m .x) (c .before .args .s), ← shared .up-is, ← shared .down-is) (c .price-and-vega .ensures)
+    let e = c .before .pre in
+    rw (← at-own-exponentials (c .before .args .set) (c .before .args .m .x) (c .before .args .s), ← e .up-is, ← e .down-is) (c .price-and-vega .ensures)
 
 pub price-and-vega-at-spec : {M : Type 1} → statement M
 price-and-vega-at-spec = tie.close (tie.spec price-and-vega-requires returns)

@@ -3,7 +3,6 @@ use mathlib.Core.Path.{_≡_, refl}
 use mathlib.Core.Bool.{cond}
 use lib.Ieee.{lt}
 use Rattle.elementary.specs.Ops.{_⊖_, _⊗_, _⊘_, +0}
-use Rattle.elementary.specs.RuleSets.{rule-set-0}
 use Rattle.elementary.specs.Methods.{maxOf}
 use Rattle.prices.specs.Inputs.{negated}
 use Rattle.solver.specs.Guess.{normalisedStart}
@@ -57,12 +56,13 @@ over-expiry-requires c κs = c .normalised-start .ensures .exponentials
 guessed : (c : tie.After-times2) →
     let at-ln = c .before .before .before in
     let at-max = at-ln .before .before .before .before in
-    let a = at-max .before .before .args in
+    let set = at-max .before .before .args .set in
+    let q = at-max .before .before .args .quote in
     let x = at-ln .ln .result in
     let root = c .before .before .sqrt .result ⊗ c .before .sqrt2 .result in
-    let mapped = maxOf (a .price ⊖ at-max .max .result) +0 ⊘ root in
-    acceptedStart rule-set-0 (a .price) (a .forward) (a .strike) (a .expiry) (a .option-type)
-    ≡ cond (lt +0 (c .times2 .result)) (overExpiry (a .expiry) (normalisedStart rule-set-0 mapped x (negated (a .option-type)))) (overExpiry (a .expiry) (normalisedStart rule-set-0 (a .price ⊘ root) x (a .option-type)))
+    let mapped = maxOf (q .price ⊖ at-max .max .result) +0 ⊘ root in
+    acceptedStart set q
+    ≡ cond (lt +0 (c .times2 .result)) (overExpiry (q .expiry) (normalisedStart set mapped x (negated (q .«option_type»)))) (overExpiry (q .expiry) (normalisedStart set (q .price ⊘ root) x (q .«option_type»)))
 unfolding acceptedStart
 guessed c =
     let at-ln = c .before .before .before in

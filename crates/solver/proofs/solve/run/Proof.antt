@@ -8,7 +8,6 @@ use native.Mathlib.Omega.{arith}
 use borrow.Author.Needs.{needs}
 use Rattle.solver.proofs.Laws.Reached.{Reached, none-wrote, one-more, goes-on, stops, runs-out, next-goes, next-refused, next-tested, ended}
 use Rattle.solver.proofs.Laws.Parts.{part-laid}
-use Rattle.elementary.specs.RuleSets.{rule-set-0}
 use Rattle.solver.specs.declared.state.State.{State}
 use Rattle.solver.specs.declared.state.StepResult.{StepResult}
 use Rattle.solver.specs.Loop.{by-test, by-limit, by-refusal, run}
@@ -19,10 +18,10 @@ use Rattle.solver.proofs.solve.run.Statement.{statement}
 use Rattle.solver.proofs.solve.run.Tie as tie
 
 abbrev Inv-loop : tie.InvT-loop
-Inv-loop branch m root limit trail₀ keep st₀ steps₀ trail st steps = Reached (nextBy (branchStep rule-set-0 branch (m .«b_max») (m .x) (m .beta))) limit keep st₀ trail₀ trail st steps
+Inv-loop set branch m root limit trail₀ keep st₀ steps₀ trail st steps = Reached (nextBy (branchStep set branch (m .«b_max») (m .x) (m .beta))) limit keep st₀ trail₀ trail st steps
 
 abbrev μ-loop : tie.MeasureT-loop
-μ-loop branch m root limit trail₀ keep st₀ steps₀ trail st steps = limit - steps
+μ-loop set branch m root limit trail₀ keep st₀ steps₀ trail st steps = limit - steps
 
 loop-holds : tie.Need-loop-holds Inv-loop μ-loop
 loop-holds c = record { rs = []; count = refl; within = omega arith; rest = let k : c .before .args .limit - 0 ≡ c .before .args .limit = omega arith in rw k; wrote = none-wrote (c .before .args .keep) _; long = refl }
@@ -75,7 +74,7 @@ loop-again c =
     let at = room .before in
     let a = at .before .before .args in
     let inv = at .loop .inv in
-    let step-of : State → StepResult = branchStep rule-set-0 (a .branch) (a .m .«b_max») (a .m .x) (a .m .beta) in
+    let step-of : State → StepResult = branchStep (a .set) (a .branch) (a .m .«b_max») (a .m .x) (a .m .beta) in
     let st′ = next .0 .0 in
     let r = next .0 .1 .0 in
     record {
@@ -104,7 +103,7 @@ returns c =
     let at = room .before in
     let a = at .before .before .args in
     let inv = at .loop .inv in
-    let step-of : State → StepResult = branchStep rule-set-0 (a .branch) (a .m .«b_max») (a .m .x) (a .m .beta) in
+    let step-of : State → StepResult = branchStep (a .set) (a .branch) (a .m .«b_max») (a .m .x) (a .m .beta) in
     let n = c .before .n .given in
     let next = nextBy step-of in
     let w = run next (a .limit) (a .start) in
@@ -119,7 +118,7 @@ returns-2 c =
     let at = c .before .before .before in
     let a = at .before .before .args in
     let inv = at .loop .inv in
-    let step-of : State → StepResult = branchStep rule-set-0 (a .branch) (a .m .«b_max») (a .m .x) (a .m .beta) in
+    let step-of : State → StepResult = branchStep (a .set) (a .branch) (a .m .«b_max») (a .m .x) (a .m .beta) in
     let next = nextBy step-of in
     let all = run next (a .limit) (a .start) in
     let st = at .loop .st in

@@ -4,7 +4,7 @@ use lib.ListN.{length}
 use denote.Ref.{now}
 use borrow.Author.Needs.{needs}
 use Rattle.solver.specs.Solve.{resultFrom}
-use Rattle.solver.proofs.Laws.SolveCases.{by-number, by-trail, by-start, Long, short, long, room, untouched, ran-on}
+use Rattle.solver.proofs.Laws.SolveCases.{by-number, by-trail, by-start, Long, short, long, room, untouched, result-of}
 use Rattle.solver.proofs.solve.solve.Statement.{statement}
 use Rattle.solver.proofs.solve.solve.Tie as tie
 
@@ -14,7 +14,7 @@ input-number-requires c κs = search needs
 returns : tie.Need-returns
 returns c =
     let a = c .before .before .before .args in
-    untouched _ _ (a .keep) (now (a .trail)) (by-number (a .keep) (length (now (a .trail))) (a .price) (a .forward) (a .strike) (a .expiry) (a .option-type) (a .limit) _ (c .before .input-number .ensures) (c .if1 .taken))
+    untouched _ _ (a .keep) (now (a .trail)) (by-number (a .keep) (length (now (a .trail))) (a .set) (a .quote) (a .limit) _ (c .before .input-number .ensures) (c .if1 .taken))
 
 mul-if3 : tie.Need-mul-if3
 mul-if3 c = search needs
@@ -23,7 +23,7 @@ returns-2 : tie.Need-returns-2
 returns-2 c =
     let a = c .before .before .before .before .before .args in
     untouched _ _ (a .keep) (now (a .trail))
-    (by-trail (a .keep) (length (now (a .trail))) (a .price) (a .forward) (a .strike) (a .expiry) (a .option-type) (a .limit) _ (c .before .before .before .input-number .ensures) (c .before .before .if1 .left)
+    (by-trail (a .keep) (length (now (a .trail))) (a .set) (a .quote) (a .limit) _ (c .before .before .before .input-number .ensures) (c .before .before .if1 .left)
     (short (a .keep) (length (now (a .trail))) (a .limit) (c .before .if2 .taken) (c .if3 .taken)))
 
 -- where the trail was not too short
@@ -59,7 +59,7 @@ returns-3 c =
     let start = c .before .before .before in
     let test = start .before in
     let a = test .before .before .before .before .args in
-    untouched _ _ (a .keep) (now (a .trail)) (by-start (a .keep) (length (now (a .trail))) (a .price) (a .forward) (a .strike) (a .expiry) (a .option-type) (a .limit) _ (test .before .before .input-number .ensures) (test .before .if1 .left) (long (a .keep) (length (now (a .trail))) (a .limit) (came test)) _ (start .accepted-start .ensures .meaning) _ (c .before .v .given .1))
+    untouched _ _ (a .keep) (now (a .trail)) (by-start (a .keep) (length (now (a .trail))) (a .set) (a .quote) (a .limit) _ (test .before .before .input-number .ensures) (test .before .if1 .left) (long (a .keep) (length (now (a .trail))) (a .limit) (came test)) _ (start .accepted-start .ensures .meaning) _ (c .before .v .given .1))
 
 returns-4 : tie.Need-returns-4
 unfolding resultFrom
@@ -67,7 +67,7 @@ returns-4 c =
     let start = c .before .before .before in
     let test = start .before in
     let a = test .before .before .before .before .args in
-    untouched _ _ (a .keep) (now (a .trail)) (by-start (a .keep) (length (now (a .trail))) (a .price) (a .forward) (a .strike) (a .expiry) (a .option-type) (a .limit) _ (test .before .before .input-number .ensures) (test .before .if1 .left) (long (a .keep) (length (now (a .trail))) (a .limit) (came test)) _ (start .accepted-start .ensures .meaning) _ (c .before .n .given .1))
+    untouched _ _ (a .keep) (now (a .trail)) (by-start (a .keep) (length (now (a .trail))) (a .set) (a .quote) (a .limit) _ (test .before .before .input-number .ensures) (test .before .if1 .left) (long (a .keep) (length (now (a .trail))) (a .limit) (came test)) _ (start .accepted-start .ensures .meaning) _ (c .before .n .given .1))
 
 same-length : tie.Need-same-length
 same-length c = search needs
@@ -81,8 +81,8 @@ returns-5 c =
     let start = ahead .before .before in
     let test = start .before in
     let a = test .before .before .before .before .args in
-    ran-on (a .keep) _ _ _ _ _
-    (by-start (a .keep) (length (now (a .trail))) (a .price) (a .forward) (a .strike) (a .expiry) (a .option-type) (a .limit) _ (test .before .before .input-number .ensures) (test .before .if1 .left) (long (a .keep) (length (now (a .trail))) (a .limit) (came test)) _ (start .accepted-start .ensures .meaning) _ (ahead .branch .given .1))
+    result-of (a .keep) _ _ _ _ _
+    (by-start (a .keep) (length (now (a .trail))) (a .set) (a .quote) (a .limit) _ (test .before .before .input-number .ensures) (test .before .if1 .left) (long (a .keep) (length (now (a .trail))) (a .limit) (came test)) _ (start .accepted-start .ensures .meaning) _ (ahead .branch .given .1))
     (rw (root .sqrt .ensures) at (call .run .ensures))
 
 pub solve-spec : {M : Type 1} → statement M

@@ -8,7 +8,7 @@ price-and-vega-at-requires : tie.Need-price-and-vega-at-requires
 price-and-vega-at-requires c κs = c .pre
 
 returns : tie.Need-returns
-returns c = rw (refusal-is _ _ _ (c .before .before .price-and-vega-at .ensures) (c .if1 .taken))
+returns c = rw (refusal-is _ _ _ _ (c .before .before .price-and-vega-at .ensures) (c .if1 .taken))
 
 bracket-after-requires : tie.Need-bracket-after-requires
 bracket-after-requires c κs = search needs
@@ -22,10 +22,10 @@ branch-after-requires c κs = search needs
 returns-2 : tie.Need-returns-2
 returns-2 c =
     let ds = c .before in
-    let stop = ds .before in
-    let at-if1 = stop .before in
-    let priced = at-if1 .before .before .price-and-vega-at .ensures in
-    rw (price-is _ _ _ priced (at-if1 .if1 .left), vega-is _ _ _ priced, c .branch-after .ensures, ds .branch-ds .ensures, stop .bracket-after .ensures)
+    let bracket = ds .before in
+    let at-if1 = bracket .before in
+    let found = at-if1 .before .before .price-and-vega-at .ensures in
+    rw (price-is _ _ _ _ found (at-if1 .if1 .left), vega-is _ _ _ _ found, c .branch-after .ensures, ds .branch-ds .ensures, bracket .bracket-after .ensures)
 
 pub step-spec : {M : Type 1} → statement M
 step-spec =

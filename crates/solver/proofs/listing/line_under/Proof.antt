@@ -1,4 +1,4 @@
--- `listing::line` meets its contract: the record's number, what it answers and the line feed, one behind the other, of which 128 bytes have the room. Assumes nothing.
+-- `listing::line_under` meets its contract: the record's number, what it answers and the line feed, one behind the other, of which 128 bytes have the room. Assumes nothing.
 use mathlib.Core.Path.{refl, _∙_}
 use mathlib.Core.List.{[], _∷_, _++_}
 use Prim.Native.Nat.{_≤_}
@@ -10,8 +10,8 @@ use borrow.Author.Tests.{lt-ltb, le-ltb}
 use Rattle.solver.specs.Listing.{decimalBy, answerBytes, lineOf, lineIn}
 use Rattle.solver.proofs.Laws.Overwritten.{put-both}
 use Rattle.solver.proofs.Laws.Lines.{decimal-length, answer-length}
-use Rattle.solver.proofs.listing.line.Statement.{statement}
-use Rattle.solver.proofs.listing.line.Tie as tie
+use Rattle.solver.proofs.listing.line_under.Statement.{statement}
+use Rattle.solver.proofs.listing.line_under.Tie as tie
 
 returns : tie.Need-returns
 unfolding lineIn
@@ -52,8 +52,8 @@ returns-2 c =
     let q₃ = put-both 0 (number ++ answerBytes (answer .result)) (10 ∷ []) (a .out .now) _ _ _ _ room q₂ (p₃ .put-byte .ensures) in
     rw (le-ltb (length (a .out .now)) 128 (large .if1 .left), ← answer .ensures) (q₃ .0 ∙ zero-add _, q₃ .1)
 
-pub line-spec : {M : Type 1} → statement M
-line-spec =
+pub line-under-spec : {M : Type 1} → statement M
+line-under-spec =
     tie.close
     (tie.spec
     returns
