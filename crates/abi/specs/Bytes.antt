@@ -4,16 +4,16 @@ use mathlib.Core.Bool.{Bool, not, cond}
 use lib.Dec.{eqb}
 use lib.Ieee.{Float}
 use Rattle.prices.specs.declared.inputs.OptionType.{OptionType}
-use Rattle.prices.specs.declared.inputs.OptionType.the-variants.{Call, Put}
 use Rattle.prices.specs.declared.answer.Answer.{Answer}
 use Rattle.prices.specs.declared.answer.Answer.the-variants.{Value, Refused}
 use Rattle.prices.specs.declared.rational_cubic.Side.{Side}
 use Rattle.prices.specs.declared.rational_cubic.Side.the-variants.{Left, Right}
 use Rattle.prices.specs.Intrinsic.{intrinsicOf}
+use Rattle.solver.specs.Book.{isKind, kindFrom}
 
 -- A kind is document 01's byte, 1 Call and 2 Put. Any other byte is refused, before all else, with its number for a kind outside the layout.
 abbrev pub ofKind : ℕ → (OptionType → Answer) → Answer
-ofKind kind answer = cond (eqb kind 1) (answer Call) (cond (eqb kind 2) (answer Put) (Refused 24))
+ofKind kind answer = let known = answer (kindFrom kind) in cond (isKind kind) known (Refused 24)
 
 -- 0 is Left, any other byte Right
 abbrev pub sideOf : ℕ → Side

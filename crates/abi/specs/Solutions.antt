@@ -4,8 +4,8 @@ use mathlib.Core.List.{List, []}
 use Prim.Native.Nat.{ℕ, _+_, _*_, _^_}
 use lib.Dec.{eqb}
 use lib.IntN.{ℤ}
-use lib.Ieee.{Float}
-use Rattle.prices.specs.declared.inputs.OptionType.the-variants.{Call, Put}
+use lib.Ieee.{binary64, ofBits}
+use Rattle.solver.specs.declared.quote.Quote.{Quote}
 use Rattle.solver.specs.declared.answers.Solution.{Solution}
 use Rattle.solver.specs.declared.answers.Solution.the-variants.{Refused}
 use Rattle.solver.specs.declared.answers.Filing.{Filing}
@@ -13,8 +13,8 @@ use Rattle.solver.specs.declared.answers.Filing.the-variants.{Refused as NotFil
 use Rattle.solver.specs.declared.answers.Checking.{Checking}
 use Rattle.solver.specs.Answers.{numberIn, branchIn, endingIn, stepsIn, filingNumber, filingSteps, checkingNumber, checkingAgrees, checkingSteps}
 use Rattle.elementary.specs.RuleSets.{rule-set-0}
-use Rattle.solver.specs.Solve.{SolveResult, solveOf, solveWithTrail, stepsOf}
-use Rattle.solver.specs.Book.{FileResult, fileOf, Read}
+use Rattle.solver.specs.Solve.{SolveResult, solveOf, solveWithTrail, quoteOf, stepsOf}
+use Rattle.solver.specs.Book.{isKind, kindFrom, FileResult, fileOf, Read}
 
 -- number, branch, ending and steps in one word: bytes 0, 1 and 2, and from byte 4 on the steps
 abbrev pub outcomeFrom : ℕ → ℕ → ℕ → ℕ → ℕ
@@ -24,11 +24,11 @@ outcomeFrom number branch ending steps = number + branch * 256 + ending * 65536 
 abbrev pub outcomeOf : Solution → ℕ
 outcomeOf a = outcomeFrom (numberIn a) (branchIn a) (endingIn a) (stepsIn a)
 
--- file has no branch and no ending to tell: they are in the book
+-- file answers with no branch and no ending: they are in the book
 abbrev pub filingOutcome : Filing → ℕ
 filingOutcome a = outcomeFrom (filingNumber a) 0 0 (filingSteps a)
 
--- nor has recheck
+-- nor does recheck
 abbrev pub checkingOutcome : Checking → ℕ
 checkingOutcome a = outcomeFrom (checkingNumber a) 0 0 (checkingSteps a)
 
@@ -36,28 +36,23 @@ checkingOutcome a = outcomeFrom (checkingNumber a) 0 0 (checkingSteps a)
 abbrev pub agreesByte : Checking → ℕ
 agreesByte a = cond (checkingAgrees a) 1 0
 
--- ---- a kind as document 01's byte; any other byte is refused before all else, with its number for a kind outside the layout
+-- ---- a quote from bits and a kind's byte; another byte is refused before all else, with document 01's number for a kind outside the layout
+
+-- the quote that these bits and this byte say
+abbrev pub quoteFrom : ℕ → ℕ → ℕ → ℕ → ℕ → Quote
+quoteFrom price forward strike expiry kind = quoteOf (ofBits binary64 price) (ofBits binary64 forward) (ofBits binary64 strike) (ofBits binary64 expiry) (kindFrom kind)
 
 -- solve with a trail of so many bytes
-unfoldable pub solvingAt : ℕ → Float → Float → Float → Float → ℤ → ℕ → SolveResult
-solvingAt kind price forward strike expiry limit bytes =
-    let call = solveWithTrail rule-set-0 price forward strike expiry Call (stepsOf limit) bytes in
-    let put = solveWithTrail rule-set-0 price forward strike expiry Put (stepsOf limit) bytes in
-    cond (eqb kind 1) call (cond (eqb kind 2) put (record { records = []; answer = Refused 24 0 }))
+unfoldable pub solveWithTrailFor : ℕ → Quote → ℤ → ℕ → SolveResult
+solveWithTrailFor kind q limit bytes = let known = solveWithTrail rule-set-0 q (stepsOf limit) bytes in cond (isKind kind) known (record { records = []; answer = Refused 24 0 })
 
 -- solve without a trail, for so many steps
-unfoldable pub untrailedAt : ℕ → Float → Float → Float → Float → ℕ → Solution
-untrailedAt kind price forward strike expiry n =
-    let call = solveOf rule-set-0 price forward strike expiry Call n .answer in
-    let put = solveOf rule-set-0 price forward strike expiry Put n .answer in
-    cond (eqb kind 1) call (cond (eqb kind 2) put (Refused 24 0))
+unfoldable pub solveFor : ℕ → Quote → ℕ → Solution
+solveFor kind q n = let known = solveOf rule-set-0 q n .answer in cond (isKind kind) known (Refused 24 0)
 
 -- file, into slot `used` of the book
-unfoldable pub filingAt : ℕ → Float → Float → Float → Float → ℤ → List ℕ → ℕ → FileResult
-filingAt kind price forward strike expiry limit book used =
-    let call = fileOf price forward strike expiry Call limit book used rule-set-0 in
-    let put = fileOf price forward strike expiry Put limit book used rule-set-0 in
-    cond (eqb kind 1) call (cond (eqb kind 2) put (record { answer = NotFiled 24 0; book = book }))
+unfoldable pub fileFor : ℕ → Quote → ℤ → List ℕ → ℕ → FileResult
+fileFor kind q limit book used = let known = fileOf q limit book used rule-set-0 in cond (isKind kind) known (record { answer = NotFiled 24 0; book = book })
 
 -- ---- read
 

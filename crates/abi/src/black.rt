@@ -6,11 +6,13 @@ ghost use Rattle.elementary.specs.RuleSets.{rule-set-0};
 ghost use Rattle.prices.specs.Answers.{numberOf, valueOf};
 ghost use Rattle.prices.specs.Black.{smallTOf, asymptoticOf, usingErfcxOf, codysOf, callOf, normalisedBlackOf, blackOf};
 ghost use Rattle.abi.specs.Bytes.{ofKind};
-use crate::answer::handed;
+use crate::export::export_answer;
 use elementary::methods::bits_of;
 use elementary::methods::float_of;
 use prices::answer::Answer;
-use prices::inputs::OptionType;
+use solver::book::is_kind;
+use solver::book::kind_from;
+use solver::numbers::OUTSIDE_THE_LAYOUT;
 
 #[no_mangle]
 pub extern "C" fn gintubalos_normalised_black_call_with_optimal_use_of_codys_functions(
@@ -42,7 +44,7 @@ pub extern "C" fn gintubalos_small_t_expansion_of_normalised_black_call(
     ensures { λ r. ⌜ r ≡ toBits binary64 (valueOf (smallTOf (ofBits binary64 h) (ofBits binary64 t))) ⌝ }
     ensures { λ _. ⌜ now (number .exit) ≡ numberOf (smallTOf (ofBits binary64 h) (ofBits binary64 t)) ⌝ }
 {
-    handed(
+    export_answer(
         prices::black::small_t_expansion_of_normalised_black_call(float_of(h), float_of(t)),
         number,
     )
@@ -58,7 +60,7 @@ pub extern "C" fn gintubalos_asymptotic_expansion_of_normalised_black_call(
     ensures { λ r. ⌜ r ≡ toBits binary64 (valueOf (asymptoticOf (ofBits binary64 h) (ofBits binary64 t))) ⌝ }
     ensures { λ _. ⌜ now (number .exit) ≡ numberOf (asymptoticOf (ofBits binary64 h) (ofBits binary64 t)) ⌝ }
 {
-    handed(
+    export_answer(
         prices::black::asymptotic_expansion_of_normalised_black_call(float_of(h), float_of(t)),
         number,
     )
@@ -69,7 +71,7 @@ pub extern "C" fn gintubalos_normalised_black_call(x: u64, s: u64, number: &mut 
     ensures { λ r. ⌜ r ≡ toBits binary64 (valueOf (callOf rule-set-0 (ofBits binary64 x) (ofBits binary64 s))) ⌝ }
     ensures { λ _. ⌜ now (number .exit) ≡ numberOf (callOf rule-set-0 (ofBits binary64 x) (ofBits binary64 s)) ⌝ }
 {
-    handed(
+    export_answer(
         prices::black::normalised_black_call(float_of(x), float_of(s)),
         number,
     )
@@ -78,11 +80,10 @@ pub extern "C" fn gintubalos_normalised_black_call(x: u64, s: u64, number: &mut 
 fn normalised_black(x: f64, s: f64, kind: u8) -> Answer
     ensures { λ r. ⌜ r ≡ ofKind kind (normalisedBlackOf rule-set-0 x s) ⌝ }
 {
-    match kind {
-        1 => prices::black::normalised_black(x, s, OptionType::Call),
-        2 => prices::black::normalised_black(x, s, OptionType::Put),
-        _ => Answer::Refused(24),
+    if is_kind(kind) {
+        return prices::black::normalised_black(x, s, kind_from(kind));
     }
+    Answer::Refused(OUTSIDE_THE_LAYOUT)
 }
 
 #[no_mangle]
@@ -90,17 +91,16 @@ pub extern "C" fn gintubalos_normalised_black(x: u64, s: u64, kind: u8, number: 
     ensures { λ r. ⌜ r ≡ toBits binary64 (valueOf (ofKind kind (normalisedBlackOf rule-set-0 (ofBits binary64 x) (ofBits binary64 s)))) ⌝ }
     ensures { λ _. ⌜ now (number .exit) ≡ numberOf (ofKind kind (normalisedBlackOf rule-set-0 (ofBits binary64 x) (ofBits binary64 s))) ⌝ }
 {
-    handed(normalised_black(float_of(x), float_of(s), kind), number)
+    export_answer(normalised_black(float_of(x), float_of(s), kind), number)
 }
 
 fn black(forward: f64, strike: f64, sigma: f64, expiry: f64, kind: u8) -> Answer
     ensures { λ r. ⌜ r ≡ ofKind kind (blackOf rule-set-0 forward strike sigma expiry) ⌝ }
 {
-    match kind {
-        1 => prices::black::black(forward, strike, sigma, expiry, OptionType::Call),
-        2 => prices::black::black(forward, strike, sigma, expiry, OptionType::Put),
-        _ => Answer::Refused(24),
+    if is_kind(kind) {
+        return prices::black::black(forward, strike, sigma, expiry, kind_from(kind));
     }
+    Answer::Refused(OUTSIDE_THE_LAYOUT)
 }
 
 // Refused with 2, 3, 5 or 4 for an input that has no price, with 7 at the asymptotic region's edge.
@@ -116,7 +116,7 @@ pub extern "C" fn gintubalos_black(
     ensures { λ r. ⌜ r ≡ toBits binary64 (valueOf (ofKind kind (blackOf rule-set-0 (ofBits binary64 forward) (ofBits binary64 strike) (ofBits binary64 sigma) (ofBits binary64 expiry)))) ⌝ }
     ensures { λ _. ⌜ now (number .exit) ≡ numberOf (ofKind kind (blackOf rule-set-0 (ofBits binary64 forward) (ofBits binary64 strike) (ofBits binary64 sigma) (ofBits binary64 expiry))) ⌝ }
 {
-    handed(
+    export_answer(
         black(
             float_of(forward),
             float_of(strike),

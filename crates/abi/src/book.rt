@@ -1,20 +1,23 @@
 // file, recheck, read and the line of relist. A book is a slice, a record's number and the used count
 // are u64; number and steps of a refusal go to `outcome`.
 ghost use mathlib.Core.Path.{_≡_};
-ghost use lib.Ieee.{binary64, ofBits};
 ghost use Rattle.elementary.specs.RuleSets.{rule-set-0};
 ghost use Rattle.solver.specs.Answers.{filingUsed};
 ghost use Rattle.solver.specs.Book.{recheckOf, readOf};
 ghost use Rattle.solver.specs.Listing.{lineIn};
-ghost use Rattle.abi.specs.Solutions.{filingOutcome, checkingOutcome, agreesByte, filingAt, placeOf};
+ghost use Rattle.abi.specs.Solutions.{filingOutcome, checkingOutcome, agreesByte, quoteFrom, fileFor, placeOf};
 use crate::solve::outcome_from;
-use elementary::methods::float_of;
-use prices::inputs::OptionType;
+use crate::solve::quote_from;
+use elementary::rule_set::RULE_SET_0;
 use solver::answers::Checking;
 use solver::answers::Filing;
+use solver::book::file_quote;
+use solver::book::is_kind;
+use solver::numbers::OUTSIDE_THE_LAYOUT;
+use solver::quote::Quote;
 
 // The used count after it, 0 where it is refused.
-fn filed(answer: Filing, outcome: &mut u64) -> u64
+fn export_filing(answer: Filing, outcome: &mut u64) -> u64
     ensures { λ r. ⌜ r ≡ filingUsed answer ⌝ }
     ensures { λ _. ⌜ now (outcome .exit) ≡ filingOutcome answer ⌝ }
 {
@@ -30,42 +33,14 @@ fn filed(answer: Filing, outcome: &mut u64) -> u64
     }
 }
 
-fn file(
-    price: f64,
-    forward: f64,
-    strike: f64,
-    expiry: f64,
-    kind: u8,
-    limit: i32,
-    book: &mut [u8],
-    used: u64,
-) -> Filing
-    ensures { λ r. ⌜ r ≡ filingAt kind price forward strike expiry limit (now (book .entry)) used .answer ⌝ }
-    ensures { λ _. ⌜ now (book .exit) ≡ filingAt kind price forward strike expiry limit (now (book .entry)) used .book ⌝ }
+fn file_for(kind: u8, quote: Quote, limit: i32, book: &mut [u8], used: u64) -> Filing
+    ensures { λ r. ⌜ r ≡ fileFor kind quote limit (now (book .entry)) used .answer ⌝ }
+    ensures { λ _. ⌜ now (book .exit) ≡ fileFor kind quote limit (now (book .entry)) used .book ⌝ }
 {
-    match kind {
-        1 => solver::book::file(
-            price,
-            forward,
-            strike,
-            expiry,
-            OptionType::Call,
-            limit,
-            book,
-            used,
-        ),
-        2 => solver::book::file(
-            price,
-            forward,
-            strike,
-            expiry,
-            OptionType::Put,
-            limit,
-            book,
-            used,
-        ),
-        _ => Filing::Refused(24, 0),
+    if is_kind(kind) {
+        return file_quote(RULE_SET_0, quote, limit, book, used);
     }
+    Filing::Refused(OUTSIDE_THE_LAYOUT, 0)
 }
 
 #[no_mangle]
@@ -80,27 +55,16 @@ pub extern "C" fn gintubalos_file(
     used: u64,
     outcome: &mut u64,
 ) -> u64
-    ensures { λ r. ⌜ r ≡ filingUsed (filingAt kind (ofBits binary64 price) (ofBits binary64 forward) (ofBits binary64 strike) (ofBits binary64 expiry) limit (now (book .entry)) used .answer) ⌝ }
-    ensures { λ _. ⌜ now (outcome .exit) ≡ filingOutcome (filingAt kind (ofBits binary64 price) (ofBits binary64 forward) (ofBits binary64 strike) (ofBits binary64 expiry) limit (now (book .entry)) used .answer) ⌝ }
-    ensures { λ _. ⌜ now (book .exit) ≡ filingAt kind (ofBits binary64 price) (ofBits binary64 forward) (ofBits binary64 strike) (ofBits binary64 expiry) limit (now (book .entry)) used .book ⌝ }
+    ensures { λ r. ⌜ r ≡ filingUsed (fileFor kind (quoteFrom price forward strike expiry kind) limit (now (book .entry)) used .answer) ⌝ }
+    ensures { λ _. ⌜ now (outcome .exit) ≡ filingOutcome (fileFor kind (quoteFrom price forward strike expiry kind) limit (now (book .entry)) used .answer) ⌝ }
+    ensures { λ _. ⌜ now (book .exit) ≡ fileFor kind (quoteFrom price forward strike expiry kind) limit (now (book .entry)) used .book ⌝ }
 {
-    filed(
-        file(
-            float_of(price),
-            float_of(forward),
-            float_of(strike),
-            float_of(expiry),
-            kind,
-            limit,
-            book,
-            used,
-        ),
-        outcome,
-    )
+    let quote = quote_from(price, forward, strike, expiry, kind);
+    export_filing(file_for(kind, quote, limit, book, used), outcome)
 }
 
 // 1 where it agrees; 0 where it differs or is refused.
-fn checked(answer: Checking, outcome: &mut u64) -> u8
+fn export_checking(answer: Checking, outcome: &mut u64) -> u8
     ensures { λ r. ⌜ r ≡ agreesByte answer ⌝ }
     ensures { λ _. ⌜ now (outcome .exit) ≡ checkingOutcome answer ⌝ }
 {
@@ -125,7 +89,7 @@ pub extern "C" fn gintubalos_recheck(book: &[u8], used: u64, k: u64, outcome: &m
     ensures { λ r. ⌜ r ≡ agreesByte (recheckOf rule-set-0 (now (book .entry)) used k) ⌝ }
     ensures { λ _. ⌜ now (outcome .exit) ≡ checkingOutcome (recheckOf rule-set-0 (now (book .entry)) used k) ⌝ }
 {
-    checked(solver::book::recheck(book, used, k), outcome)
+    export_checking(solver::book::recheck(book, used, k), outcome)
 }
 
 // The byte at which record k's own part begins, and 0 in `number`; or 0, and 23 there.
@@ -138,7 +102,7 @@ pub extern "C" fn gintubalos_read(book: &[u8], used: u64, k: u64, number: &mut u
     if *number == 0 { k * 64 } else { 0 }
 }
 
-// The line of record `index`, laid at the start of `out`; its length.
+// Writes the line of record `index` to the start of `out`; its length.
 #[no_mangle]
 pub extern "C" fn gintubalos_line(index: u64, bytes: &[u8], out: &mut [u8]) -> usize
     ensures { λ r. ⌜ r ≡ lineIn rule-set-0 index (now (bytes .entry)) (now (out .entry)) .count ⌝ }

@@ -3,19 +3,20 @@ ghost use mathlib.Core.Path.{_≡_};
 ghost use lib.Ieee.{binary64, toBits, ofBits};
 ghost use Rattle.prices.specs.Answers.{numberOf, valueOf};
 ghost use Rattle.abi.specs.Bytes.{ofKind, intrinsicAnswer};
-use crate::answer::handed;
+use crate::export::export_answer;
 use elementary::methods::float_of;
 use prices::answer::Answer;
-use prices::inputs::OptionType;
+use solver::book::is_kind;
+use solver::book::kind_from;
+use solver::numbers::OUTSIDE_THE_LAYOUT;
 
 fn intrinsic(x: f64, kind: u8) -> Answer
     ensures { λ r. ⌜ r ≡ ofKind kind (intrinsicAnswer x) ⌝ }
 {
-    match kind {
-        1 => Answer::Value(prices::intrinsic::normalised_intrinsic(x, OptionType::Call)),
-        2 => Answer::Value(prices::intrinsic::normalised_intrinsic(x, OptionType::Put)),
-        _ => Answer::Refused(24),
+    if is_kind(kind) {
+        return Answer::Value(prices::intrinsic::normalised_intrinsic(x, kind_from(kind)));
     }
+    Answer::Refused(OUTSIDE_THE_LAYOUT)
 }
 
 #[no_mangle]
@@ -23,5 +24,5 @@ pub extern "C" fn gintubalos_normalised_intrinsic(x: u64, kind: u8, number: &mut
     ensures { λ r. ⌜ r ≡ toBits binary64 (valueOf (ofKind kind (intrinsicAnswer (ofBits binary64 x)))) ⌝ }
     ensures { λ _. ⌜ now (number .exit) ≡ numberOf (ofKind kind (intrinsicAnswer (ofBits binary64 x))) ⌝ }
 {
-    handed(intrinsic(float_of(x), kind), number)
+    export_answer(intrinsic(float_of(x), kind), number)
 }

@@ -1,9 +1,9 @@
 // What other languages link: the functions of the layers, with floats as their bits. A NaN leaves
 // with the bits 7FF8000000000000.
-mod answer;
 pub mod black;
 pub mod book;
 pub mod cody;
+mod export;
 pub mod functions;
 pub mod intrinsic;
 pub mod normal_distribution;

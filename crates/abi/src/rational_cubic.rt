@@ -5,7 +5,7 @@ ghost use lib.Ieee.{binary64, toBits, ofBits};
 ghost use Rattle.prices.specs.Answers.{numberOf, valueOf};
 ghost use Rattle.prices.specs.RationalCubic.{interpolationOf, minimumParameterOf, controlParameterOf, convexParameterOf};
 ghost use Rattle.abi.specs.Bytes.{sideOf, choiceOf};
-use crate::answer::handed;
+use crate::export::export_answer;
 use elementary::methods::bits_of;
 use elementary::methods::float_of;
 use prices::rational_cubic::Side;
@@ -41,7 +41,7 @@ pub extern "C" fn gintubalos_rational_cubic_interpolation(
     ensures { λ y. ⌜ y ≡ toBits binary64 (valueOf (interpolationOf (ofBits binary64 x) (ofBits binary64 «x_l») (ofBits binary64 «x_r») (ofBits binary64 «y_l») (ofBits binary64 «y_r») (ofBits binary64 «d_l») (ofBits binary64 «d_r») (ofBits binary64 r))) ⌝ }
     ensures { λ _. ⌜ now (number .exit) ≡ numberOf (interpolationOf (ofBits binary64 x) (ofBits binary64 «x_l») (ofBits binary64 «x_r») (ofBits binary64 «y_l») (ofBits binary64 «y_r») (ofBits binary64 «d_l») (ofBits binary64 «d_r») (ofBits binary64 r)) ⌝ }
 {
-    handed(
+    export_answer(
         prices::rational_cubic::rational_cubic_interpolation(
             float_of(x),
             float_of(x_l),

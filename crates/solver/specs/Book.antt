@@ -49,7 +49,11 @@ bookRecordBytes q limit a =
 abbrev pub stepsFrom : ℕ → ℕ
 stepsFrom bits = cond (ltb bits (2 ^ 31)) bits 0
 
--- the kind of a byte that is 1 or 2
+-- a byte says a kind
+abbrev pub isKind : ℕ → Bool
+isKind byte = eqb byte 1 || eqb byte 2
+
+-- the kind that it says
 abbrev pub kindFrom : ℕ → OptionType
 kindFrom byte = cond (eqb byte 1) Call Put
 
@@ -60,7 +64,7 @@ allZero (b ∷ bs) = eqb b 0 && allZero bs
 
 -- kind 1 or 2, branch to 5, ending to 2, spare bytes zero: no 24
 abbrev pub inLayout : List ℕ → Bool
-inLayout r = (eqb (getD r 48 0) 1 || eqb (getD r 48 0) 2) && leb (getD r 49 0) 5 && leb (getD r 50 0) 2 && allZero (part 51 13 r)
+inLayout r = isKind (getD r 48 0) && leb (getD r 49 0) 5 && leb (getD r 50 0) 2 && allZero (part 51 13 r)
 
 -- ---- solving a record again: 24, then solve's own numbers
 

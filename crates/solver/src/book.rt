@@ -27,7 +27,7 @@ ghost use lib.ListN.{length, drop};
 ghost use Rattle.elementary.specs.RuleSets.{rule-set-0};
 ghost use Rattle.solver.specs.Solve.{solveOf, quoteOf, stepsOf};
 ghost use Rattle.solver.specs.LittleEndian.{part};
-ghost use Rattle.solver.specs.Book.{kindByte, limitBits, bookRecordBytes, stepsFrom, kindFrom, quoteIn, allZero, inLayout, recordExists, solveRecord, agrees as agreesOf, checkingOf, readOf, recheckOf, fileAnswer, fileOf};
+ghost use Rattle.solver.specs.Book.{kindByte, limitBits, bookRecordBytes, stepsFrom, isKind, kindFrom, quoteIn, allZero, inLayout, recordExists, solveRecord, agrees as agreesOf, checkingOf, readOf, recheckOf, fileAnswer, fileOf};
 
 // A record's bytes in the book.
 const RECORD_BYTES: usize = 64;
@@ -75,7 +75,18 @@ fn put_book_record(out: &mut [u8], quote: Quote, limit: i32, a: ImpliedVolatilit
 
 // ---- a record read
 
-fn kind_from(byte: u8) -> OptionType
+// Whether a byte says a kind.
+pub fn is_kind(byte: u8) -> bool
+    ensures { λ r. ⌜ r ≡ isKind byte ⌝ }
+{
+    if byte == 1 {
+        return true;
+    }
+    byte == 2
+}
+
+// The kind that a byte says; Put where it says none.
+pub fn kind_from(byte: u8) -> OptionType
     ensures { λ r. ⌜ r ≡ kindFrom byte ⌝ }
 {
     if byte == 1 {
@@ -112,8 +123,7 @@ fn in_layout(r: &[u8]) -> bool
     requires { ⌜ 64 ≤ length (now r) ⌝ }
     ensures { λ b. ⌜ b ≡ inLayout (now (r .entry)) ⌝ }
 {
-    let kind = r[48];
-    if kind != 1 && kind != 2 {
+    if !is_kind(r[48]) {
         return false;
     }
     if r[49] > UPPER_REST {
@@ -188,7 +198,7 @@ fn file_in_slot(set: RuleSet, quote: Quote, limit: i32, book: &mut [u8], used: u
 
 // Files the solution in slot `used` and answers used + 1, or a number: 1 to 4, 23, 22, then solve's.
 // A refusal leaves the book as it was.
-fn file_quote(set: RuleSet, quote: Quote, limit: i32, book: &mut [u8], used: u64) -> Filing
+pub fn file_quote(set: RuleSet, quote: Quote, limit: i32, book: &mut [u8], used: u64) -> Filing
     ensures { λ r. ⌜ r ≡ fileOf quote limit (now (book .entry)) used set .answer ⌝ }
     ensures { λ _. ⌜ now (book .exit) ≡ fileOf quote limit (now (book .entry)) used set .book ⌝ }
 {

@@ -211,6 +211,19 @@ pub fn steps_of(limit: i32) -> u32
 
 // The volatility with its branch, ending and steps, and the steps' records in the trail, which has room
 // for as many as the limit allows; or the number of the refusal, with the completed steps.
+pub fn solve_quote_with_trail(
+    set: RuleSet,
+    quote: Quote,
+    limit: u32,
+    trail: &mut [u8],
+) -> Solution
+    ensures { λ r. ⌜ r ≡ solveWithTrail set quote limit (length (now (trail .entry))) .answer ⌝ }
+    ensures { λ _. ⌜ now (trail .exit) ≡ trailAfter (solveWithTrail set quote limit (length (now (trail .entry))) .records) (now (trail .entry)) ⌝ }
+{
+    solve(set, quote, limit, trail, true)
+}
+
+// The same by document 01's rules.
 pub fn implied_volatility_from_a_transformed_rational_guess_with_limited_iterations(
     market_price: f64,
     forward_price: f64,
@@ -230,10 +243,10 @@ pub fn implied_volatility_from_a_transformed_rational_guess_with_limited_iterati
         expiry: time_to_maturity,
         option_type,
     };
-    solve(RULE_SET_0, quote, steps_of(max_iteration), trail, true)
+    solve_quote_with_trail(RULE_SET_0, quote, steps_of(max_iteration), trail)
 }
 
-// The same of a quote without a trail, under any rule set and for max(limit, 0) steps.
+// The same without a trail.
 pub fn solve_quote(set: RuleSet, quote: Quote, limit: u32) -> Solution
     ensures { λ r. ⌜ r ≡ solveOf set quote limit .answer ⌝ }
 {

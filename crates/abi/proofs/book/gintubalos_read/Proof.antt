@@ -1,4 +1,4 @@
--- `abi::book::gintubalos_read` meets its contract: where a record is held its place is inside the book. Assumes nothing.
+-- `abi::book::gintubalos_read` meets its contract: where the record exists its place is inside the book. Assumes nothing.
 use mathlib.Core.Path.{_≡_, refl, sym, _∙_}
 use Prim.Native.Nat.{_*_, _≤_}
 use native.Mathlib.Omega.{arith}
@@ -6,14 +6,14 @@ use borrow.Author.Needs.{needs}
 use borrow.Author.Tests.{ne-eqb}
 use denote.Ref.{now}
 use lib.ListN.{length}
-use Rattle.solver.proofs.book.Slots.{inside, held}
+use Rattle.solver.proofs.book.Slots.{inside, exists}
 use Rattle.abi.proofs.book.gintubalos_read.Statement.{statement}
 use Rattle.abi.proofs.book.gintubalos_read.Tie as tie
 
 within : (c : tie.Then1) → c .before .before .before .before .before .args .k * 64 ≤ length (now (c .before .before .before .before .before .args .book))
 within c =
     let a = c .before .before .before .before .before .args in
-    omega (arith, inside (now (a .book)) (a .used) (a .k) (held (now (a .book)) (a .used) (a .k) (sym (c .before .before .read .ensures .1) ∙ c .if1 .taken)))
+    omega (arith, inside (now (a .book)) (a .used) (a .k) (exists (now (a .book)) (a .used) (a .k) (sym (c .before .before .read .ensures .1) ∙ c .if1 .taken)))
 
 mul-result : tie.Need-mul-result
 mul-result c = omega (arith, within c)

@@ -1,4 +1,4 @@
-// Answers, kinds, sides and choices as plain numbers.
+// An answer as plain numbers.
 ghost use mathlib.Core.Path.{_≡_};
 ghost use lib.Ieee.{binary64, toBits};
 ghost use Rattle.prices.specs.Answers.{numberOf, valueOf};
@@ -6,7 +6,7 @@ use elementary::methods::bits_of;
 use prices::answer::Answer;
 
 // The value's bits, a NaN's where there is none; document 01's number, 0 for none, goes to `number`.
-pub fn handed(answer: Answer, number: &mut u8) -> u64
+pub fn export_answer(answer: Answer, number: &mut u8) -> u64
     ensures { λ r. ⌜ r ≡ toBits binary64 (valueOf answer) ⌝ }
     ensures { λ _. ⌜ now (number .exit) ≡ numberOf answer ⌝ }
 {

@@ -1,0 +1,19 @@
+-- `abi::export::export_answer` meets its contract: the variant met says which case it is, and 0 over 0 is a NaN. Assumes nothing.
+use borrow.Author.Needs.{needs}
+use lib.Ieee.{div, ofBits}
+use Rattle.abi.proofs.export.export_answer.Statement.{statement}
+use Rattle.abi.proofs.export.export_answer.Tie as tie
+
+returns : tie.Need-returns
+returns c =
+    let met = c .before .before .answer .given .1 in
+    (rw (met, c .bits-of .ensures), rw met)
+
+returns-2 : tie.Need-returns-2
+unfolding div ofBits
+returns-2 c =
+    let met = c .before .before .answer2 .given .1 in
+    (rw (met, c .bits-of2 .ensures), rw met)
+
+pub export-answer-spec : {M : Type 1} → statement M
+export-answer-spec = tie.close (tie.spec (λ c. search needs) (λ c κs. search needs) (λ c. search needs) (λ c κs. search needs) returns returns-2)
