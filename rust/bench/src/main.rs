@@ -39,8 +39,8 @@ macro_rules! rust_solve {
     };
 }
 
-rust_solve!(rules_solve, reference);
-rust_solve!(published_solve, published);
+rust_solve!(rules_solve, rust_over_rules);
+rust_solve!(std_solve, rust_over_std);
 
 struct Bench {
     effort: Effort,
@@ -91,7 +91,7 @@ impl Bench {
         }
         let markets = class.markets(COUNT);
         let rules = |m: &Market| rules_solve(m.floats, m.kind, LIMIT);
-        let published = |m: &Market| published_solve(m.floats, m.kind, LIMIT);
+        let published = |m: &Market| std_solve(m.floats, m.kind, LIMIT);
         let ours = |m: &Market| {
             let [price, forward, strike, expiry] = m.bits();
             bits::implied_volatility_from_a_transformed_rational_guess(price, forward, strike, expiry, m.kind).0
@@ -116,18 +116,21 @@ impl Bench {
                 let [forward, strike, sigma, expiry] = x.map(f64::to_bits);
                 bits::black(forward, strike, sigma, expiry, 1).0
             },
-            |x| reference::lets_be_rational::black(x[0], x[1], x[2], x[3], reference::OptionType::Call),
-            |x| published::lets_be_rational::black(x[0], x[1], x[2], x[3], published::OptionType::Call),
+            |x| rust_over_rules::lets_be_rational::black(x[0], x[1], x[2], x[3], rust_over_rules::OptionType::Call),
+            |x| rust_over_std::lets_be_rational::black(x[0], x[1], x[2], x[3], rust_over_std::OptionType::Call),
         );
         self.row(
             &format!("normalised_black_call, {region}"),
             &inputs::region(region, COUNT),
             |x| bits::normalised_black_call(x[0].to_bits(), x[1].to_bits()).0,
-            |x| reference::lets_be_rational::black::normalised_black_call(x[0], x[1]),
-            |x| published::lets_be_rational::black::normalised_black_call(x[0], x[1]),
+            |x| rust_over_rules::lets_be_rational::black::normalised_black_call(x[0], x[1]),
+            |x| rust_over_std::lets_be_rational::black::normalised_black_call(x[0], x[1]),
         );
         if region == REGIONS[2] {
-            use {published::lets_be_rational::black as std_side, reference::lets_be_rational::black as rules_side};
+            use {
+                rust_over_rules::lets_be_rational::black as rules_side,
+                rust_over_std::lets_be_rational::black as std_side,
+            };
             // The same work with a float for an answer: the difference is what the answer that may refuse costs.
             self.row(
                 "normalised_black_call, the rest, as a plain float",
@@ -143,8 +146,8 @@ impl Bench {
     }
 
     fn elementary(&self) {
-        use published::lets_be_rational as std_side;
-        use reference::{elementary as rules, lets_be_rational as rules_side};
+        use rust_over_rules::{elementary as rules, lets_be_rational as rules_side};
+        use rust_over_std::lets_be_rational as std_side;
         let one = |name: &str, ours: fn(u64) -> u64, rules: fn(f64) -> f64, published: fn(f64) -> f64| {
             let inputs = inputs::arguments(name, COUNT);
             self.row(name, &inputs, |x| ours(x[0].to_bits()), |x| rules(x[0]), |x| published(x[0]));
@@ -218,7 +221,7 @@ fn wanted() -> Bench {
                 let side = words.next();
                 let solve = match listing::RUST_SIDES.iter().position(|known| Some(*known) == side.as_deref()) {
                     Some(0) => rules_solve,
-                    Some(_) => published_solve,
+                    Some(_) => std_solve,
                     None => usage("no such side"),
                 };
                 if let Err(e) = listing::list(solve) {
@@ -235,7 +238,7 @@ fn wanted() -> Bench {
 
 fn main() {
     let bench = wanted();
-    let Some(source) = reference::SOURCE else {
+    let Some(source) = rust_over_rules::SOURCE else {
         println!("no Rust source: there is nothing to compare with");
         exit(3);
     };
@@ -243,7 +246,7 @@ fn main() {
     if !cfg!(target_feature = "fma") {
         println!("built without the machine's fused multiply-add: the Rust calls the C library's");
     }
-    if reference::LAID_OPEN {
+    if rust_over_rules::LAID_OPEN {
         println!("the Rust has the calls in it that lay its steps open: build this program alone");
     }
     println!("\n| ns per call | ours | Rust over 01 | ratio | Rust over std | ratio |");

@@ -1,8 +1,8 @@
 //! How far document 01's rules are from the truth, over the table that rust/accuracy/table.py writes. The rules are those
 //! of the reference, which the comparison holds equal to the proved functions.
 
-use reference::elementary::{exp, ln};
-use reference::lets_be_rational::cody::optimized::erfc;
+use rust_over_rules::elementary::{exp, ln};
+use rust_over_rules::lets_be_rational::cody::optimized::erfc;
 use std::io::{stdin, BufRead};
 
 /// What was measured of one function, in units in the last place.

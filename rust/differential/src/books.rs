@@ -6,8 +6,8 @@ use crate::{
     words::Words,
 };
 use gintubalos::bits as ours;
-use reference::book::{self, asked, record, Refused, RECORD};
-use reference::solver::solve;
+use rust_over_rules::book::{self, asked, record, Refused, RECORD};
+use rust_over_rules::solver::solve;
 use std::hint::black_box;
 
 /// Whether a run of this limit is one to compare: a limit of many millions is only where the step test or a refusal cuts

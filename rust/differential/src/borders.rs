@@ -5,7 +5,7 @@ use crate::{
     inputs::{power, wide, Arguments},
     sevens,
 };
-use reference::elementary::ln;
+use rust_over_rules::elementary::ln;
 use std::f64::consts::SQRT_2;
 
 /// Twice the sixteenth root of f64::EPSILON: the Taylor sum's region ends at this t.

@@ -5,10 +5,10 @@ use crate::edges::{edges, sixteenths, POINTS};
 use crate::inputs::{exponent, fused, line, pair, positive, probability, square, whole, wide, Arguments};
 use crate::{prices as markets, words::Words};
 use gintubalos::bits as ours;
-use reference::elementary::{self, bits_of, NAN_BITS};
-use reference::lets_be_rational::{cody::optimized as cody, normal_distribution as normal};
-use reference::prices::{self, Side};
-use reference::OptionType;
+use rust_over_rules::elementary::{self, bits_of, NAN_BITS};
+use rust_over_rules::lets_be_rational::{cody::optimized as cody, normal_distribution as normal};
+use rust_over_rules::prices::{self, Side};
+use rust_over_rules::OptionType;
 
 /// Bits, and document 01's number of a refusal, 0 where there is none.
 pub type Answer = (u64, u8);

@@ -128,7 +128,7 @@ fn show(function: &Function, found: &Found) {
 
 fn main() {
     let wanted = wanted();
-    let Some(source) = reference::SOURCE else {
+    let Some(source) = rust_over_rules::SOURCE else {
         println!("no Rust source: comparison not run");
         exit(3);
     };

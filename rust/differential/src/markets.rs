@@ -8,9 +8,9 @@ use crate::{
     prices::{beside, forward_and_strike, kind, log_uniform, on, special},
     words::Words,
 };
-use reference::elementary::{exp, ln, sqrt};
-use reference::prices::{black, normalised_black_call, normalised_vega};
-use reference::{book::kind_of, solver::Market};
+use rust_over_rules::elementary::{exp, ln, sqrt};
+use rust_over_rules::prices::{black, normalised_black_call, normalised_vega};
+use rust_over_rules::{book::kind_of, solver::Market};
 
 /// A market as it crosses to the archive: price, forward, strike and expiry as bits, and the kind's byte.
 #[derive(Clone, Copy, PartialEq, Eq, Debug)]

@@ -7,7 +7,7 @@ use crate::{
     inputs::{float, near, uniform, SIGN},
     words::Words,
 };
-use reference::elementary::{exp, ln};
+use rust_over_rules::elementary::{exp, ln};
 
 /// A few units up or down.
 pub fn beside(words: &mut Words, x: f64) -> u64 {

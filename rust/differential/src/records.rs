@@ -8,7 +8,7 @@ use crate::{
     solves::fixed,
     words::Words,
 };
-use reference::{
+use rust_over_rules::{
     book::{self, write_trail, Refused, RECORD},
     elementary::bits_of,
     solver::{self, Market},

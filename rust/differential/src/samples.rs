@@ -11,7 +11,7 @@ use crate::{
     records,
     words::Words,
 };
-use reference::lets_be_rational::cody::optimized::erfc;
+use rust_over_rules::lets_be_rational::cody::optimized::erfc;
 
 /// Abramowitz and Stegun's table 7.1 and points of the far tail, as rust/accuracy/table.py writes them: x, erf x as
 /// printed (or a hyphen), the bits of x and of the float nearest to erfc x.

@@ -12,7 +12,7 @@ use crate::{
     solves::{solve, Tally},
     words::Words,
 };
-use reference::{book::STEP, elementary::ln, prices::normalised_black_call, solver};
+use rust_over_rules::{book::STEP, elementary::ln, prices::normalised_black_call, solver};
 
 /// So many units are stepped to either side.
 const STEPS: i64 = 12;

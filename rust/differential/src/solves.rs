@@ -10,7 +10,7 @@ use crate::{
     words::Words,
 };
 use gintubalos::bits as ours;
-use reference::{
+use rust_over_rules::{
     book::{write_trail, STEP},
     elementary::{bits_of, NAN_BITS},
     solver,
@@ -330,7 +330,7 @@ impl Part {
 #[cfg(test)]
 mod tests {
     use super::*;
-    use reference::solver::is_long_enough;
+    use rust_over_rules::solver::is_long_enough;
 
     /// A trail of `room` bytes is long enough exactly where the limit isn't above 200.
     #[test]

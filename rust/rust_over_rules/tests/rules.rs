@@ -1,6 +1,6 @@
 //! The reference against document 01's own values and against exact arithmetic.
 
-use reference::elementary::{abs, bits_of, exp, ln, max, mul_add, powf_1_3, rounded, scaled, NAN_BITS};
+use rust_over_rules::elementary::{abs, bits_of, exp, ln, max, mul_add, powf_1_3, rounded, scaled, NAN_BITS};
 
 /// A small generator, so that a failure can be found again.
 struct Words(u64);
@@ -107,15 +107,15 @@ fn fused_multiply_add() {
 
 #[cfg(rust_source)]
 mod source {
-    use reference::elementary::{bits_of, NAN_BITS};
-    use reference::lets_be_rational::{
+    use rust_over_rules::elementary::{bits_of, NAN_BITS};
+    use rust_over_rules::lets_be_rational::{
         black,
         cody::optimized::{erfc, erfcx},
         implied_volatility_from_a_transformed_rational_guess as implied_volatility,
         normal_distribution::{inverse_f_upper_map, inverse_normal_cdf, standard_normal_cdf},
     };
-    use reference::prices;
-    use reference::OptionType::{Call, Put};
+    use rust_over_rules::prices;
+    use rust_over_rules::OptionType::{Call, Put};
 
     /// Document 01's P7 and P8, and what it says of erfc's far end.
     #[test]

@@ -1,4 +1,4 @@
-//! The Rust of the source folder as it was published: std's exp, ln, sqrt, powf, mul_add and floor. reference/build.rs
+//! The Rust of the source folder as it was published: std's exp, ln, sqrt, powf, mul_add and floor. rust_over_rules/build.rs
 //! reads it. The registry crates that it asks for aren't at hand; `statrs` says what stands in for them.
 
 #[cfg(rust_source)]
@@ -9,6 +9,6 @@ mod statrs;
 #[cfg(rust_source)]
 include!(concat!(env!("OUT_DIR"), "/source.rs"));
 #[cfg(not(rust_source))]
-include!("../../reference/src/absent.rs");
+include!("../../rust_over_rules/src/absent.rs");
 
 pub use inputs::OptionType;

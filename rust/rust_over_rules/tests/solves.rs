@@ -2,11 +2,11 @@
 
 #![cfg(rust_source)]
 
-use reference::book::{asked, file, kind_of, line, read, recheck, write_trail, Refused, RECORD, STEP};
-use reference::elementary::{bits_of, exp, sqrt};
-use reference::prices::{black, normalised_black_call, normalised_vega};
-use reference::solver::{implied_volatility_from_a_transformed_rational_guess, solve, Market, Run};
-use reference::OptionType::{self, Call, Put};
+use rust_over_rules::book::{asked, file, kind_of, line, read, recheck, write_trail, Refused, RECORD, STEP};
+use rust_over_rules::elementary::{bits_of, exp, sqrt};
+use rust_over_rules::prices::{black, normalised_black_call, normalised_vega};
+use rust_over_rules::solver::{implied_volatility_from_a_transformed_rational_guess, solve, Market, Run};
+use rust_over_rules::OptionType::{self, Call, Put};
 
 fn market(price: f64, forward: f64, strike: f64, expiry: f64, kind: OptionType) -> Market {
     Market { price, forward, strike, expiry, kind }

@@ -176,7 +176,7 @@ fn read(root: &Path, file: &File) -> String {
 
 /// Whether the source is built as it was published, and not over document 01's rules.
 fn is_published() -> bool {
-    env::var("CARGO_PKG_NAME").as_deref() == Ok("published")
+    env::var("CARGO_PKG_NAME").as_deref() == Ok("rust_over_std")
 }
 
 fn transformed(root: &Path, file: &File) -> String {
@@ -233,7 +233,7 @@ fn fingerprint(root: &Path) -> u64 {
 
 fn main() {
     // Seen from either crate.
-    println!("cargo:rerun-if-changed=../reference/build.rs");
+    println!("cargo:rerun-if-changed=../rust_over_rules/build.rs");
     println!("cargo:rerun-if-env-changed={VARIABLE}");
     let here = PathBuf::from(env::var("CARGO_MANIFEST_DIR").expect("cargo sets it"));
     let root = env::var_os(VARIABLE).map_or_else(|| here.join(DEFAULT), PathBuf::from);
