@@ -161,7 +161,7 @@ pub fn powf_1_3(y: f64) -> f64 {
     }
 }
 
-/// The names that build.rs puts in place of f64's own methods.
+/// The names that `rust_source` puts in place of f64's own methods.
 pub trait Rules {
     fn rule_exp(self) -> f64;
     fn rule_ln(self) -> f64;

@@ -1,5 +1,5 @@
 //! The Rust of the source folder, built over document 01's elementary functions. `elementary` has those, written from
-//! document 01; build.rs reads the rest from the source folder; `prices` and `solver` have what document 01 says instead of
+//! document 01; `rust_source` reads the rest from the source folder; `prices` and `solver` have what document 01 says instead of
 //! a panic. `book` is document 01's trail, book and listing, which the Rust doesn't have.
 
 #[cfg(feature = "steps")]
@@ -17,10 +17,7 @@ mod num_traits;
 #[cfg(rust_source)]
 mod statrs;
 
-#[cfg(rust_source)]
 include!(concat!(env!("OUT_DIR"), "/source.rs"));
-#[cfg(not(rust_source))]
-include!("absent.rs");
 
 pub use inputs::OptionType;
 

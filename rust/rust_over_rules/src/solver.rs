@@ -2,8 +2,8 @@
 
 use crate::lets_be_rational::{self, so_rational};
 use crate::prices::positive_normal;
-use crate::refusals::caught;
-use crate::steps::{seen, Step};
+use crate::refusals::catch_refusal;
+use crate::steps::{watch, Step};
 use crate::OptionType;
 
 /// What is asked: an option's price, and what it is an option on.
@@ -53,13 +53,13 @@ impl Market {
     }
 
     fn run(&self, volatility: impl FnOnce() -> f64) -> Run {
-        let (answer, seen) = seen(|| caught(volatility));
-        let ending = match (seen.branch, seen.close) {
+        let (answer, trace) = watch(|| catch_refusal(volatility));
+        let ending = match (trace.branch, trace.close) {
             (0, _) => 0,
             (_, true) => 1,
             (_, false) => 2,
         };
-        Run { answer: answer.map(|volatility| Solved { volatility, branch: seen.branch, ending }), steps: seen.steps }
+        Run { answer: answer.map(|volatility| Solved { volatility, branch: trace.branch, ending }), steps: trace.steps }
     }
 }
 

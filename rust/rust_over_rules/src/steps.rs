@@ -1,4 +1,4 @@
-//! What a run of the Rust's solver did, seen through the calls that build.rs puts into so_rational.rs.
+//! What a run of the Rust's solver did, from the calls that `rust_source` puts into so_rational.rs.
 
 use std::cell::RefCell;
 
@@ -15,7 +15,7 @@ pub struct Step {
 
 /// The branch, 0 before a guess; whether the step test held; and the completed steps.
 #[derive(Debug, Default)]
-pub struct Seen {
+pub struct Trace {
     pub branch: u8,
     pub close: bool,
     pub steps: Vec<Step>,
@@ -25,27 +25,27 @@ pub struct Seen {
 const MOST: usize = 1_000_000;
 
 thread_local! {
-    static SEEN: RefCell<Seen> = RefCell::default();
+    static TRACE: RefCell<Trace> = RefCell::default();
 }
 
-pub fn branch(number: u8) {
-    SEEN.with_borrow_mut(|seen| seen.branch = number);
+pub fn set_branch(number: u8) {
+    TRACE.with_borrow_mut(|trace| trace.branch = number);
 }
 
-pub fn close() {
-    SEEN.with_borrow_mut(|seen| seen.close = true);
+pub fn set_close() {
+    TRACE.with_borrow_mut(|trace| trace.close = true);
 }
 
-pub fn took(s: f64, b: f64, vega: f64, left: f64, right: f64, after: f64) {
-    SEEN.with_borrow_mut(|seen| {
-        assert!(seen.steps.len() < MOST, "a run without an end");
-        seen.steps.push(Step { s, b, vega, left, right, after });
+pub fn add_step(s: f64, b: f64, vega: f64, left: f64, right: f64, after: f64) {
+    TRACE.with_borrow_mut(|trace| {
+        assert!(trace.steps.len() < MOST, "a run without an end");
+        trace.steps.push(Step { s, b, vega, left, right, after });
     });
 }
 
-/// What `run` answers, and what was seen of it on this thread.
-pub fn seen<T>(run: impl FnOnce() -> T) -> (T, Seen) {
-    SEEN.take();
+/// What `run` answers, and its trace on this thread.
+pub fn watch<T>(run: impl FnOnce() -> T) -> (T, Trace) {
+    TRACE.take();
     let answer = run();
-    (answer, SEEN.take())
+    (answer, TRACE.take())
 }
