@@ -5,9 +5,6 @@
 mod clock;
 mod inputs;
 mod listing;
-#[allow(dead_code)]
-#[path = "../../differential/src/words.rs"]
-mod words;
 
 use clock::{measure, over, Effort, SIDES};
 use gintubalos::bits;

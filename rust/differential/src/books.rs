@@ -3,9 +3,9 @@
 use crate::{
     markets::{limit, market, Asked},
     solves::{first_difference, fixed, pattern, word, Tally, LIMITS},
-    words::Words,
 };
 use gintubalos::bits as ours;
+use random_words::Words;
 use rust_over_rules::book::{self, asked, record, Refused, RECORD};
 use rust_over_rules::solver::solve;
 use std::hint::black_box;
@@ -138,7 +138,7 @@ fn any_record(words: &mut Words) -> [u8; RECORD] {
     let mut bytes = filed(of, limit);
     match words.below(8) {
         0..=2 => {}
-        3..=5 => bytes[words.below(64) as usize] = words.next() as u8,
+        3..=5 => bytes[words.below(64) as usize] = words.any() as u8,
         6 => {
             // What the layout leaves out, or just not.
             bytes[48] = words.below(4) as u8;
@@ -148,7 +148,7 @@ fn any_record(words: &mut Words) -> [u8; RECORD] {
         }
         _ => {
             for byte in &mut bytes[..48] {
-                *byte = words.next() as u8;
+                *byte = words.any() as u8;
             }
             bytes[48..].fill(0);
             bytes[48] = 1;
@@ -178,7 +178,7 @@ fn used_and_k(words: &mut Words, book: &[u8]) -> (u64, u64) {
     let slots = slots(book);
     match words.below(8) {
         0 => (words.choice(&counts(slots)), words.choice(&counts(slots))),
-        1 => (words.next(), words.next()),
+        1 => (words.any(), words.any()),
         _ => {
             let used = words.below(slots + 1);
             (used, words.below(used + 1))
@@ -189,7 +189,7 @@ fn used_and_k(words: &mut Words, book: &[u8]) -> (u64, u64) {
 pub fn file_random(words: &mut Words, tally: &mut Tally) {
     let of = market(words);
     let limit = bounded_limit(words, of);
-    let book = any_book(words, |words| std::array::from_fn(|_| words.next() as u8));
+    let book = any_book(words, |words| std::array::from_fn(|_| words.any() as u8));
     let used = if words.below(8) == 0 { words.choice(&counts(slots(&book))) } else { words.below(slots(&book) + 1) };
     file(tally, of, limit, &book, used);
 }
@@ -213,7 +213,7 @@ pub fn line_random(words: &mut Words, tally: &mut Tally) {
         1 => bytes.extend(pattern(words.below(70) as usize)),
         _ => {}
     }
-    let index = words.next() >> words.below(64);
+    let index = words.any() >> words.below(64);
     let len = words.choice(&[128, 128, 129, 200, 127, 0]);
     line(tally, index, &bytes, len);
 }

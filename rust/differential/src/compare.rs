@@ -4,8 +4,8 @@
 use crate::{
     functions::{Answer, Function},
     inputs::Arguments,
-    words::Words,
 };
+use random_words::Words;
 use std::thread;
 
 const BLOCK: u64 = 50_000;

@@ -18,7 +18,6 @@ mod samples;
 mod search;
 mod sevens;
 mod solves;
-mod words;
 
 use compare::{Found, Run};
 use functions::{Answer, Function, FUNCTIONS};

@@ -4,10 +4,10 @@
 use crate::{
     borders::VOLATILITY,
     edges::moved,
-    inputs::{uniform, SIGN},
+    inputs::SIGN,
     prices::{beside, forward_and_strike, kind, log_uniform, on, special},
-    words::Words,
 };
+use random_words::Words;
 use rust_over_rules::elementary::{exp, ln, sqrt};
 use rust_over_rules::prices::{black, normalised_black_call, normalised_vega};
 use rust_over_rules::{book::kind_of, solver::Market};
@@ -143,7 +143,7 @@ fn part_of_the_cap(words: &mut Words) -> Asked {
         4 => log_uniform(words, -60, -1),
         5 => 1.0 - log_uniform(words, -53, -1),
         6 => f64::from_bits(1 + words.below(8)),
-        _ => uniform(words, 0.78, 0.9),
+        _ => words.uniform(0.78, 0.9),
     };
     terms.at((terms.intrinsic() + terms.cap() * part).to_bits())
 }
@@ -156,7 +156,7 @@ fn far_apart(words: &mut Words) -> Asked {
         0 => terms.priced(log_uniform(words, -3, 6)),
         1 => terms.cap() * words.unit(),
         2 => terms.cap() * log_uniform(words, -1022, -1),
-        _ => terms.priced(terms.borders()[1] * uniform(words, 0.2, 2.0)),
+        _ => terms.priced(terms.borders()[1] * words.uniform(0.2, 2.0)),
     };
     terms.at(price.to_bits())
 }
@@ -184,8 +184,8 @@ fn refused(words: &mut Words) -> Asked {
 
 pub fn market(words: &mut Words) -> Asked {
     match words.below(32) {
-        0 => Asked { floats: std::array::from_fn(|_| words.next()), kind: kind(words) as u8 },
-        1 => Asked { floats: std::array::from_fn(|_| words.next() & !SIGN), kind: kind(words) as u8 },
+        0 => Asked { floats: std::array::from_fn(|_| words.any()), kind: kind(words) as u8 },
+        1 => Asked { floats: std::array::from_fn(|_| words.any() & !SIGN), kind: kind(words) as u8 },
         2 | 3 => refused(words),
         4 => at_a_seven(words),
         5..=8 => beside_a_border(words),
@@ -199,7 +199,7 @@ pub fn market(words: &mut Words) -> Asked {
 pub fn limit(words: &mut Words) -> i32 {
     match words.below(32) {
         0 => words.choice(&[i32::MIN, -1, i32::MAX, 1 << 30]),
-        1 => words.next() as i32,
+        1 => words.any() as i32,
         2 | 3 => 0,
         4..=6 => 1,
         7..=9 => 3,

@@ -6,8 +6,8 @@ use crate::{
     samples::line,
     sevens,
     solves::fixed,
-    words::Words,
 };
+use random_words::Words;
 use rust_over_rules::{
     book::{self, write_trail, Refused, RECORD},
     elementary::bits_of,

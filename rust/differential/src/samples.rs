@@ -9,8 +9,8 @@ use crate::{
     functions::{Answer, Function, FUNCTIONS},
     inputs::{wide, Arguments},
     records,
-    words::Words,
 };
+use random_words::Words;
 use rust_over_rules::lets_be_rational::cody::optimized::erfc;
 
 /// Abramowitz and Stegun's table 7.1 and points of the far tail, as rust/accuracy/table.py writes them: x, erf x as

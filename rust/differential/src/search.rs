@@ -10,8 +10,8 @@ use crate::{
     markets::Terms,
     prices::on,
     solves::{solve, Tally},
-    words::Words,
 };
+use random_words::Words;
 use rust_over_rules::{book::STEP, elementary::ln, prices::normalised_black_call, solver};
 
 /// So many units are stepped to either side.
@@ -74,7 +74,7 @@ fn money(border: Option<Border>, words: &mut Words, tries: u64) -> Found {
     let call = named("normalised_black_call");
     let mut found = Found::default();
     while found.tried < tries {
-        let random = f64::from_bits((1020 + words.below(5)) << 52 | words.next() >> 12);
+        let random = f64::from_bits((1020 + words.below(5)) << 52 | words.any() >> 12);
         let (x, s) = border.map_or((-random, VOLATILITY[2](random)), |x_of| (x_of(random), random));
         for k in -STEPS..=STEPS {
             let (x, s) = (x.to_bits(), s.to_bits());

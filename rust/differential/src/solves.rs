@@ -7,9 +7,9 @@ use crate::{
     inputs::wide,
     markets::{limit, market, Asked},
     sevens,
-    words::Words,
 };
 use gintubalos::bits as ours;
+use random_words::Words;
 use rust_over_rules::{
     book::{write_trail, STEP},
     elementary::{bits_of, NAN_BITS},
