@@ -243,7 +243,7 @@ fn main() {
     if !cfg!(target_feature = "fma") {
         println!("built without the machine's fused multiply-add: the Rust calls the C library's");
     }
-    if rust_over_rules::LAID_OPEN {
+    if rust_over_rules::WITH_STEPS {
         println!("the Rust has the calls in it that lay its steps open: build this program alone");
     }
     println!("\n| ns per call | ours | Rust over 01 | ratio | Rust over std | ratio |");

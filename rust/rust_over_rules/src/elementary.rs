@@ -64,7 +64,7 @@ pub fn scaled(p: f64, k: i64) -> f64 {
     // p = significand × 2^exponent, exactly.
     let field = (p.to_bits() >> 52) as i64;
     // Where the result is normal too, the exponent alone changes. For measuring speed: the comparison rounds every time.
-    if !crate::LAID_OPEN && field > 0 && (1..2047).contains(&(field + k)) {
+    if !cfg!(feature = "round_every_exp") && field > 0 && (1..2047).contains(&(field + k)) {
         return f64::from_bits(p.to_bits().wrapping_add((k as u64) << 52));
     }
     let fraction = p.to_bits() & ((1 << 52) - 1);

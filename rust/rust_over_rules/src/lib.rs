@@ -24,8 +24,8 @@ pub use inputs::OptionType;
 /// Says which source was read, if one was.
 pub const SOURCE: Option<&str> = option_env!("GINTUBALOS_SOURCE_FINGERPRINT");
 
-/// Whether the source has the calls in it that lay its steps open.
-pub const LAID_OPEN: bool = cfg!(feature = "steps");
+/// Whether the source has the calls in it that show its steps.
+pub const WITH_STEPS: bool = cfg!(feature = "steps");
 
 // erfcx_above_threshold has an assertion that document 01's build leaves out.
 const _: () = assert!(!cfg!(debug_assertions));
