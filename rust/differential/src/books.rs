@@ -2,7 +2,8 @@
 
 use crate::{
     markets::{limit, market, Asked},
-    solves::{first_difference, fixed, pattern, word, Tally, LIMITS},
+    solves::{first_difference, fixed, pattern, word, LIMITS},
+    tally::Tally,
 };
 use gintubalos::bits as ours;
 use random_words::Words;
@@ -49,7 +50,7 @@ fn file(tally: &mut Tally, of: Asked, limit: i32, old: &[u8], used: u64) {
         },
         Err(number) => (0, word(number, 0, 0, 0)),
     };
-    tally.take(found == expected && book == expected_book, || {
+    tally.count(found == expected && book == expected_book, || {
         let bytes = first_difference(&book, &expected_book);
         let len = old.len();
         format!("file({}, {limit}, {len} bytes, {used}): {found:X?}, document 01 has {expected:X?}{bytes}", of.shown())
@@ -63,7 +64,7 @@ fn recheck(tally: &mut Tally, old: &[u8], used: u64, k: u64) {
         Ok(agrees) => (u8::from(agrees), 0),
         Err(refused) => (0, outcome(refused)),
     };
-    tally.take(found == expected && black_box(&lent) == old, || {
+    tally.count(found == expected && black_box(&lent) == old, || {
         let part = book::read(old, used, k).map_or(String::new(), shown);
         let len = old.len();
         format!("recheck({len} bytes, {used}, {k}) of {part}: {found:X?}, document 01 has {expected:X?}")
@@ -77,7 +78,7 @@ fn read(tally: &mut Tally, old: &[u8], used: u64, k: u64) {
         Ok(part) => ((part.as_ptr() as usize - old.as_ptr() as usize) as u64, 0),
         Err(number) => (0, number),
     };
-    tally.take(found == expected && black_box(&lent) == old, || {
+    tally.count(found == expected && black_box(&lent) == old, || {
         let len = old.len();
         format!("read({len} bytes, {used}, {k}): {found:?}, document 01 has {expected:?}")
     });
@@ -94,7 +95,7 @@ fn line(tally: &mut Tally, index: u64, bytes: &[u8], len: usize) {
         expected = line.len();
         expected_out[..expected].copy_from_slice(line.as_bytes());
     }
-    tally.take(found == expected && out == expected_out, || {
+    tally.count(found == expected && out == expected_out, || {
         let [ours, reference] = [&out, &expected_out].map(|out| out[..len.min(128)].escape_ascii().to_string());
         format!(
             "line({index}, {}, {len} bytes): {found} `{ours}`, document 01 has {expected} `{reference}`",

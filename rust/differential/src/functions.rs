@@ -20,7 +20,7 @@ pub struct Function {
     /// The proved function. It hands a NaN back with document 01's bits, or the comparison fails.
     pub ours: fn(Arguments) -> Answer,
     /// The Rust. Its NaNs are compared as document 01's.
-    pub reference: fn(Arguments) -> Answer,
+    pub rust: fn(Arguments) -> Answer,
     pub edges: fn() -> Edges,
     pub inputs: fn(&mut Words) -> Arguments,
     /// How many times a plain function's time this one takes.
@@ -86,13 +86,13 @@ fn choice(byte: u64) -> Result<bool, u8> {
 }
 
 macro_rules! function {
-    ($name:ident($($x:ident: $is:ident),*), $reference:path, $edges:expr, $inputs:expr, $cost:expr) => {
+    ($name:ident($($x:ident: $is:ident),*), $rust:path, $edges:expr, $inputs:expr, $cost:expr) => {
         Function {
             name: stringify!($name),
             arguments: [$(stringify!($x)),*].len(),
             ours: |[$($x,)* ..]| ours::$name($($x as _),*).answer(),
-            reference: |[$($x,)* ..]| {
-                let answer = || Ok($reference($($is($x)?),*).answer());
+            rust: |[$($x,)* ..]| {
+                let answer = || Ok($rust($($is($x)?),*).answer());
                 answer().unwrap_or_else(|number| Err(number).answer())
             },
             edges: $edges,
@@ -104,11 +104,11 @@ macro_rules! function {
 
 /// A function of one float.
 macro_rules! line {
-    ($name:ident, $reference:path, $inputs:expr, $cost:expr) => {
-        function!($name(x: float), $reference, ones, |w: &mut Words| [$inputs(w)], $cost)
+    ($name:ident, $rust:path, $inputs:expr, $cost:expr) => {
+        function!($name(x: float), $rust, ones, |w: &mut Words| [$inputs(w)], $cost)
     };
-    ($name:ident, $reference:path, $low:expr, $high:expr, $cost:expr) => {
-        line!($name, $reference, |w: &mut Words| line(w, $low, $high), $cost)
+    ($name:ident, $rust:path, $low:expr, $high:expr, $cost:expr) => {
+        line!($name, $rust, |w: &mut Words| line(w, $low, $high), $cost)
     };
 }
 

@@ -18,11 +18,13 @@ mod samples;
 mod search;
 mod sevens;
 mod solves;
+mod tally;
 
-use compare::{Found, Run};
-use functions::{Answer, Function, FUNCTIONS};
+use compare::Run;
+use functions::{Function, FUNCTIONS};
 use solves::{Part, PARTS, SOLVE};
 use std::{env, process::exit, thread};
+use tally::Tally;
 
 const USAGE: &str = "usage: differential [--quick] [--function NAME] [--inputs N] [--seed N] [--threads N]
        differential --search [--inputs N] [--seed N]
@@ -109,22 +111,6 @@ impl Wanted {
     }
 }
 
-fn shown((bits, number): Answer) -> String {
-    if number == 0 {
-        format!("{bits:016X}")
-    } else {
-        format!("{bits:016X} refused with {number}")
-    }
-}
-
-fn show(function: &Function, found: &Found) {
-    for d in &found.first {
-        let arguments: Vec<String> = d.arguments[..function.arguments].iter().map(|x| format!("{x:016X}")).collect();
-        let (ours, reference) = (shown(d.ours), shown(d.reference));
-        println!("{}({}): {ours}, the Rust has {reference}", function.name, arguments.join(", "));
-    }
-}
-
 fn main() {
     let wanted = wanted();
     let Some(source) = rust_over_rules::SOURCE else {
@@ -146,26 +132,26 @@ fn main() {
     if functions.is_empty() && parts.is_empty() {
         usage("there is no such function");
     }
-    let (mut compared, mut different) = (0, 0);
+    let (mut comparisons, mut differences) = (0, 0);
+    let mut add = |tally: &Tally| {
+        tally.lines.iter().for_each(|line| println!("{line}"));
+        comparisons += tally.comparisons;
+        differences += tally.differences;
+    };
     for function in functions {
         // In a quick run a slow function has fewer inputs.
-        let found = wanted.run(if wanted.quick { QUICK / function.cost } else { INPUTS }).function(function);
-        show(function, &found);
-        compared += found.compared;
-        different += found.different;
+        add(&wanted.run(if wanted.quick { QUICK / function.cost } else { INPUTS }).function(function));
     }
     let mut missing = Vec::new();
     for part in parts {
-        let found = part.run(&wanted.run(if wanted.quick { part.quick } else { part.inputs }));
-        found.first.iter().for_each(|line| println!("{line}"));
-        compared += found.compared;
-        different += found.different;
+        let tally = part.run(&wanted.run(if wanted.quick { part.quick } else { part.inputs }));
+        add(&tally);
         if part.name == SOLVE {
-            found.table();
-            missing = found.missing();
+            tally.print_solves();
+            missing = tally.missing();
         }
     }
     missing.iter().for_each(|what| println!("no solve met this: {what}"));
-    println!("{compared} compared, {different} differences");
-    exit(i32::from(different != 0 || !missing.is_empty()));
+    println!("{comparisons} compared, {differences} differences");
+    exit(i32::from(differences != 0 || !missing.is_empty()));
 }

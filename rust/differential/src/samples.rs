@@ -63,7 +63,7 @@ fn inputs(function: &Function) -> Vec<Arguments> {
 pub fn write() {
     published();
     for (i, function) in FUNCTIONS.iter().enumerate() {
-        inputs(function).into_iter().for_each(|a| line(i + 1, a, (function.reference)(a)));
+        inputs(function).into_iter().for_each(|a| line(i + 1, a, (function.rust)(a)));
     }
     records::write(SEED);
 }

@@ -9,7 +9,8 @@ use crate::{
     inputs::{wide, Arguments},
     markets::Terms,
     prices::on,
-    solves::{solve, Tally},
+    solves::solve,
+    tally::Tally,
 };
 use random_words::Words;
 use rust_over_rules::{book::STEP, elementary::ln, prices::normalised_black_call, solver};
@@ -41,7 +42,7 @@ impl Found {
     fn take(&mut self, function: &Function, arguments: Arguments) {
         let answer = (function.ours)(arguments);
         self.tried += 1;
-        let fault = answer != (function.reference)(arguments) || answer.1 != 0 && answer.1 != 7;
+        let fault = answer != (function.rust)(arguments) || answer.1 != 0 && answer.1 != 7;
         self.refused += u64::from(answer.1 == 7);
         self.faults += u64::from(fault);
         if fault || answer.1 == 7 && self.refused <= SHOWN {
@@ -126,7 +127,7 @@ fn solves(at_the_guess: bool, words: &mut Words, tries: u64) -> Found {
             let came = solve(&mut tally, asked, 20, 20 * STEP);
             found.tried += 1;
             found.refused += u64::from(came.number == 7);
-            let fault = tally.different != 0 || came.number != 0 && came.number != 7;
+            let fault = tally.differences != 0 || came.number != 0 && came.number != 7;
             found.faults += u64::from(fault);
             // One of a market is enough.
             if fault || came.number == 7 && found.refused == before + 1 && found.refused <= SHOWN {

@@ -3,10 +3,11 @@
 use crate::{
     books,
     borders::{prices, KINDS},
-    compare::{combine, Run, SHOWN},
+    compare::{combine, Run},
     inputs::wide,
     markets::{limit, market, Asked},
     sevens,
+    tally::Tally,
 };
 use gintubalos::bits as ours;
 use random_words::Words;
@@ -15,7 +16,6 @@ use rust_over_rules::{
     elementary::{bits_of, NAN_BITS},
     solver,
 };
-use std::collections::BTreeMap;
 
 /// A function of layer 3: its name, its random inputs in a whole and in a quick run, and what compares it.
 pub struct Part {
@@ -55,73 +55,6 @@ pub const PARTS: [Part; 7] = [
     Part { name: "read", inputs: 1_000_000, quick: 100_000, edges: books::read_edges, random: books::read_random },
     Part { name: "line", inputs: 200_000, quick: 20_000, edges: books::line_edges, random: books::line_random },
 ];
-
-/// What came of a solve: number, branch, ending, and whether there was a step.
-type Came = (u8, u8, u8, bool);
-
-/// What a part of a run found. `came` counts the solves with a trail by what came of them.
-#[derive(Default)]
-pub struct Tally {
-    pub compared: u64,
-    pub different: u64,
-    pub first: Vec<String>,
-    came: BTreeMap<Came, u64>,
-}
-
-impl Tally {
-    /// Counts a comparison; `shown` is asked for where it fails.
-    pub fn take(&mut self, same: bool, shown: impl FnOnce() -> String) {
-        self.compared += 1;
-        if !same {
-            self.different += 1;
-            if self.first.len() < SHOWN {
-                self.first.push(shown());
-            }
-        }
-    }
-
-    pub fn add(&mut self, other: Tally) {
-        self.compared += other.compared;
-        self.different += other.different;
-        let room = SHOWN - self.first.len();
-        self.first.extend(other.first.into_iter().take(room));
-        for (came, count) in other.came {
-            *self.came.entry(came).or_default() += count;
-        }
-    }
-
-    fn count(&self, of: impl Fn(&Came) -> bool) -> u64 {
-        self.came.iter().filter(|(came, _)| of(came)).map(|(_, count)| count).sum()
-    }
-
-    /// The table of what was met.
-    pub fn table(&self) {
-        println!("solves by branch and ending (0 no loop, 1 step test, 2 limit), and by the number of a refusal:");
-        for (&(number, branch, ending, stepped), count) in &self.came {
-            let what = match number {
-                0 => format!("branch {branch}, ending {ending}"),
-                _ => format!("refused with {number}"),
-            };
-            println!("  {what}, {}: {count}", if stepped { "after steps" } else { "no step" });
-        }
-    }
-
-    /// What the inputs are to reach and did not. Branch 5 isn't among it: it needs a b_h below half of b_max, and the
-    /// reference's tests find none in a scan over x. Nor is 6: no input is known that gives the guess's cubic an infinite
-    /// abscissa. Both are compared where they come.
-    pub fn missing(&self) -> Vec<String> {
-        let endings = (1..5).flat_map(|branch| [(branch, 1), (branch, 2)]);
-        let endings = [(0, 0)].into_iter().chain(endings).filter_map(|(branch, ending)| {
-            let met = self.count(|came| (came.0, came.1, came.2) == (0, branch, ending));
-            (met == 0).then(|| format!("branch {branch} with ending {ending}"))
-        });
-        let numbers = [1, 2, 3, 4, 7, 21, 24].into_iter().filter_map(|number| {
-            let met = self.count(|came| came.0 == number);
-            (met == 0).then(|| format!("refusal {number}"))
-        });
-        endings.chain(numbers).collect()
-    }
-}
 
 /// Bytes that differ from place to place, so that one that is moved or left out shows.
 pub fn pattern(len: usize) -> Vec<u8> {
@@ -168,14 +101,15 @@ pub fn solve(tally: &mut Tally, asked: Asked, limit: i32, len: usize) -> ours::O
         }
         Err(number) => (NAN_BITS, word(number, 0, 0, 0)),
     };
-    let came = ours::Outcome::from(expected.1);
-    *tally.came.entry((came.number, came.branch, came.ending, came.steps > 0)).or_default() += 1;
-    tally.take(found == expected && trail == expected_trail, || {
+    let outcome = ours::Outcome::from(expected.1);
+    let case = (outcome.number, outcome.branch, outcome.ending, outcome.steps > 0);
+    *tally.cases.entry(case).or_default() += 1;
+    tally.count(found == expected && trail == expected_trail, || {
         let (found, expected) = (shown(found), shown(expected));
         let bytes = first_difference(&trail, &expected_trail);
         format!("{SOLVE}({}, {limit}, {len} bytes): {found}, the Rust has {expected}{bytes}", asked.shown())
     });
-    came
+    outcome
 }
 
 fn wrapper(tally: &mut Tally, asked: Asked) {
@@ -185,7 +119,7 @@ fn wrapper(tally: &mut Tally, asked: Asked) {
         Ok(market) => answer(&solver::implied_volatility_from_a_transformed_rational_guess(market)),
         Err(number) => (NAN_BITS, word(number, 0, 0, 0)),
     };
-    tally.take(found == expected, || {
+    tally.count(found == expected, || {
         let (found, expected) = (shown(found), shown(expected));
         let name = PARTS[1].name;
         format!("{name}({}): {found}, the Rust has {expected}", asked.shown())
@@ -199,7 +133,7 @@ fn untrailed(tally: &mut Tally, asked: Asked, limit: i32) {
         Ok(market) => answer(&solver::solve(market, limit, None)),
         Err(number) => (NAN_BITS, word(number, 0, 0, 0)),
     };
-    tally.take(found == expected, || {
+    tally.count(found == expected, || {
         let (found, expected) = (shown(found), shown(expected));
         let name = PARTS[2].name;
         format!("{name}({}, {limit}): {found}, the Rust has {expected}", asked.shown())
@@ -308,22 +242,13 @@ impl Part {
     pub fn run(&self, run: &Run) -> Tally {
         let mut tally = Tally::default();
         (self.edges)(&mut tally);
-        self.progress(&tally, "edge values");
-        let blocks = run.in_parts(run.inputs.div_ceil(BLOCK), |i| {
+        tally.print_progress(self.name, "edge values");
+        tally.add(run.in_parts(run.inputs.div_ceil(BLOCK), |i, tally| {
             let mut words = Words::new(run.seed, self.name, i);
-            let mut tally = Tally::default();
-            for _ in i * BLOCK..run.inputs.min((i + 1) * BLOCK) {
-                (self.random)(&mut words, &mut tally);
-            }
-            tally
-        });
-        blocks.into_iter().for_each(|block| tally.add(block));
-        self.progress(&tally, "random inputs");
+            (i * BLOCK..run.inputs.min((i + 1) * BLOCK)).for_each(|_| (self.random)(&mut words, tally));
+        }));
+        tally.print_progress(self.name, "random inputs");
         tally
-    }
-
-    fn progress(&self, tally: &Tally, what: &str) {
-        println!("{} {} {} different ({what})", self.name, tally.compared, tally.different);
     }
 }
 
