@@ -7,7 +7,7 @@ use crate::{
 };
 use gintubalos::bits as ours;
 use random_words::Words;
-use rust_over_rules::book::{self, asked, record, Refused, RECORD};
+use rust_over_rules::book::{self, market_and_limit, record, Refusal, RECORD};
 use rust_over_rules::solver::solve;
 use std::hint::black_box;
 
@@ -24,15 +24,15 @@ fn is_bounded_record(bytes: &[u8]) -> bool {
         floats: [0, 8, 16, 24].map(|at| u64::from_le_bytes(std::array::from_fn(|i| bytes[at + i]))),
         kind: bytes[48],
     };
-    asked(bytes).map_or(true, |(_, limit)| is_bounded(of, limit))
+    market_and_limit(bytes).map_or(true, |(_, limit)| is_bounded(of, limit))
 }
 
 fn shown(bytes: &[u8]) -> String {
     bytes.iter().map(|byte| format!("{byte:02X}")).collect()
 }
 
-fn outcome(refused: Refused) -> u64 {
-    word(refused.number, 0, 0, refused.steps)
+fn outcome(refusal: Refusal) -> u64 {
+    word(refusal.number, 0, 0, refusal.steps)
 }
 
 // ---- comparisons
@@ -46,7 +46,7 @@ fn file(tally: &mut Tally, of: Asked, limit: i32, old: &[u8], used: u64) {
         Ok(market) => match book::file(market, limit, &mut expected_book, used) {
             // The word has no steps where it is filed: they stand in the book.
             Ok(count) => (count, 0),
-            Err(refused) => (0, outcome(refused)),
+            Err(refusal) => (0, outcome(refusal)),
         },
         Err(number) => (0, word(number, 0, 0, 0)),
     };
@@ -62,7 +62,7 @@ fn recheck(tally: &mut Tally, old: &[u8], used: u64, k: u64) {
     let found = ours::recheck(black_box(&lent), used, k);
     let expected = match book::recheck(old, used, k) {
         Ok(agrees) => (u8::from(agrees), 0),
-        Err(refused) => (0, outcome(refused)),
+        Err(refusal) => (0, outcome(refusal)),
     };
     tally.count(found == expected && black_box(&lent) == old, || {
         let part = book::read(old, used, k).map_or(String::new(), shown);

@@ -9,7 +9,7 @@ use crate::{
 };
 use random_words::Words;
 use rust_over_rules::{
-    book::{self, write_trail, Refused, RECORD},
+    book::{self, write_trail, Refusal, RECORD},
     elementary::bits_of,
     solver::{self, Market},
 };
@@ -51,7 +51,9 @@ fn solve(asked: Asked, market: Market, limit: i32, bytes: usize) {
     write_trail(&run.steps, &mut trail);
     let steps = u64::from(run.count());
     let (volatility, outcome, number) = match run.answer {
-        Ok(solved) => (bits_of(solved.volatility), u64::from(solved.branch) + 256 * u64::from(solved.ending), 0),
+        Ok(solution) => {
+            (bits_of(solution.volatility), u64::from(solution.branch) + 256 * u64::from(solution.ending), 0)
+        }
         Err(number) => (0, 0, number),
     };
     let [a, b, c, d] = asked.floats;
@@ -69,7 +71,7 @@ fn file(asked: Asked, market: Market, limit: i32, used: u64) {
     let mut after = BOOK;
     let (count, number) = match book::file(market, limit, &mut after, used) {
         Ok(count) => (count, 0),
-        Err(Refused { number, .. }) => (0, number),
+        Err(Refusal { number, .. }) => (0, number),
     };
     let [a, b, c, d] = asked.floats;
     let shown = |which: usize, bits: u64| {
@@ -84,7 +86,7 @@ fn file(asked: Asked, market: Market, limit: i32, used: u64) {
 fn recheck(record: [u8; RECORD], k: u64) {
     let (bits, number) = match book::recheck(&record, 1, k) {
         Ok(agrees) => (agrees.into(), 0),
-        Err(Refused { number, .. }) => (0, number),
+        Err(Refusal { number, .. }) => (0, number),
     };
     let mut arguments = [0; 9];
     (0..8).for_each(|i| arguments[i] = word(&record, i));

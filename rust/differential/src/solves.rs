@@ -68,7 +68,7 @@ pub fn word(number: u8, branch: u8, ending: u8, steps: u32) -> u64 {
 
 fn answer(run: &solver::Run) -> (u64, u64) {
     match run.answer {
-        Ok(solved) => (bits_of(solved.volatility), word(0, solved.branch, solved.ending, run.count())),
+        Ok(solution) => (bits_of(solution.volatility), word(0, solution.branch, solution.ending, run.count())),
         Err(number) => (NAN_BITS, word(number, 0, 0, run.count())),
     }
 }

@@ -1,7 +1,7 @@
-//! The reference against document 01's own values and against exact arithmetic.
+//! Document 01's functions and the Rust over them against document 01's own values and against exact arithmetic.
 
 use random_words::Words;
-use rust_over_rules::elementary::{abs, bits_of, exp, ln, max, mul_add, powf_1_3, rounded, scaled, NAN_BITS};
+use rust_over_rules::elementary::{abs, bits_of, exp, ln, max, mul_add, powf_1_3, round, scale, NAN_BITS};
 
 #[test]
 fn small_methods() {
@@ -15,14 +15,14 @@ fn small_methods() {
     assert_eq!(bits_of(max(f64::NAN, f64::NAN)), NAN_BITS);
 }
 
-/// `rounded` of an exact integer is what the machine's conversion from that integer gives.
+/// `round` of an exact integer is what the machine's conversion from that integer gives.
 #[test]
 fn rounding_of_whole_numbers() {
     let mut words = Words::new(1, "whole numbers", 0);
     for _ in 0..100_000 {
         let wide = u128::from(words.any()) << 64 | u128::from(words.any());
         let significand = wide >> (words.any() % 128);
-        assert_eq!(rounded(significand, 0), significand as f64, "{significand}");
+        assert_eq!(round(significand, 0), significand as f64, "{significand}");
     }
 }
 
@@ -36,13 +36,13 @@ fn scaling_is_one_rounding() {
         // 2^(k + 600) × 2^-600 × p: the first product is exact.
         let power = f64::from_bits(((k + 600 + 1023) as u64) << 52);
         let low = f64::from_bits((1023 - 600) << 52);
-        assert_eq!(scaled(p, k), p * power * low, "{p} {k}");
+        assert_eq!(scale(p, k), p * power * low, "{p} {k}");
     }
-    assert_eq!(scaled(1.0, -1075), 0.0);
-    assert_eq!(scaled(1.0000000000000002, -1075).to_bits(), 1);
-    assert_eq!(scaled(1.5, -1074).to_bits(), 2);
-    assert_eq!(scaled(1.0, 1024), f64::INFINITY);
-    assert_eq!(scaled(0.9999999999999999, 1024), f64::MAX);
+    assert_eq!(scale(1.0, -1075), 0.0);
+    assert_eq!(scale(1.0000000000000002, -1075).to_bits(), 1);
+    assert_eq!(scale(1.5, -1074).to_bits(), 2);
+    assert_eq!(scale(1.0, 1024), f64::INFINITY);
+    assert_eq!(scale(0.9999999999999999, 1024), f64::MAX);
 }
 
 #[test]
@@ -90,7 +90,7 @@ fn fused_multiply_add() {
     for _ in 0..100_000 {
         let (a, b, c) = (words.any() >> 11, words.any() >> 11, words.any() >> 11);
         let exact = u128::from(a) * u128::from(b) + u128::from(c);
-        assert_eq!(mul_add(a as f64, b as f64, c as f64), rounded(exact, 0));
+        assert_eq!(mul_add(a as f64, b as f64, c as f64), round(exact, 0));
     }
 }
 
