@@ -81,12 +81,12 @@ impl Run {
 
     fn edges(&self, function: &Function) -> Tally {
         let edges = (function.edges)();
-        let mut tally = self.in_parts(edges.combined[0].len() as u64, |i, tally| {
+        let mut tally = self.in_parts(edges.values[0].len() as u64, |i, tally| {
             let mut arguments = [0; 9];
-            arguments[0] = edges.combined[0][i as usize];
-            combine(&edges.combined, 1, &mut arguments, &mut |a| compare(function, a, tally));
+            arguments[0] = edges.values[0][i as usize];
+            combine(&edges.values, 1, &mut arguments, &mut |a| compare(function, a, tally));
         });
-        edges.further.into_iter().chain(edges.kept).for_each(|a| compare(function, a, &mut tally));
+        edges.borders.into_iter().chain(edges.samples).for_each(|a| compare(function, a, &mut tally));
         tally
     }
 

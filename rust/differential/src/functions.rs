@@ -17,7 +17,7 @@ pub type Answer = (u64, u8);
 pub struct Function {
     pub name: &'static str,
     pub arguments: usize,
-    /// The proved function. It hands a NaN back with document 01's bits, or the comparison fails.
+    /// The proved function. A NaN has document 01's bits, or the comparison fails.
     pub ours: fn(Arguments) -> Answer,
     /// The Rust. Its NaNs are compared as document 01's.
     pub rust: fn(Arguments) -> Answer,
@@ -28,35 +28,35 @@ pub struct Function {
 }
 
 /// What a function of either side returns, as an answer.
-trait Returned {
+trait ToAnswer {
     fn answer(self) -> Answer;
 }
 
-impl Returned for u64 {
+impl ToAnswer for u64 {
     fn answer(self) -> Answer {
         (self, 0)
     }
 }
 
-impl Returned for Answer {
+impl ToAnswer for Answer {
     fn answer(self) -> Answer {
         self
     }
 }
 
-impl Returned for f64 {
+impl ToAnswer for f64 {
     fn answer(self) -> Answer {
         (bits_of(self), 0)
     }
 }
 
-impl Returned for bool {
+impl ToAnswer for bool {
     fn answer(self) -> Answer {
         (self.into(), 0)
     }
 }
 
-impl Returned for Result<f64, u8> {
+impl ToAnswer for Result<f64, u8> {
     fn answer(self) -> Answer {
         self.map_or_else(|number| (NAN_BITS, number), f64::answer)
     }
@@ -113,22 +113,22 @@ macro_rules! line {
 }
 
 fn ones() -> Edges {
-    Edges::combined(vec![[edges(&POINTS, 3), sixteenths()].concat()])
+    Edges::of(vec![[edges(&POINTS, 3), sixteenths()].concat()])
 }
 
 /// With the first floats at which erfc and the cdf are NaN, since y × 16 overflows, and the last ones before them.
 fn far() -> Edges {
     let first = [0x7FB0 << 48, 0x7FB6_A09E_667F_3BCC];
-    let kept = first.into_iter().flat_map(|x: u64| [x - 1, x]).flat_map(|x| [x, x | 1 << 63]);
-    Edges { kept: kept.map(|x| wide([x])).collect(), ..ones() }
+    let samples = first.into_iter().flat_map(|x: u64| [x - 1, x]).flat_map(|x| [x, x | 1 << 63]);
+    Edges { samples: samples.map(|x| wide([x])).collect(), ..ones() }
 }
 
 fn twos() -> Edges {
-    Edges::combined(vec![edges(&POINTS, 3); 2])
+    Edges::of(vec![edges(&POINTS, 3); 2])
 }
 
 fn threes() -> Edges {
-    Edges::combined(vec![edges(&POINTS, 1); 3])
+    Edges::of(vec![edges(&POINTS, 1); 3])
 }
 
 fn either_sign(words: &mut Words) -> [u64; 1] {
@@ -189,8 +189,8 @@ mod tests {
                 assert!(arguments[function.arguments..].iter().all(|x| *x == 0), "{}", function.name);
             }
             let edges = (function.edges)();
-            assert_eq!(edges.combined.len(), function.arguments, "{}", function.name);
-            for arguments in edges.further.into_iter().chain(edges.kept) {
+            assert_eq!(edges.values.len(), function.arguments, "{}", function.name);
+            for arguments in edges.borders.into_iter().chain(edges.samples) {
                 assert!(arguments[function.arguments..].iter().all(|x| *x == 0), "{}", function.name);
             }
         }

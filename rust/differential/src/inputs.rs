@@ -1,7 +1,7 @@
 //! Random inputs: mixtures of any bits, of the range in which a function does its work, and of what lies near the places
 //! where it changes.
 
-use crate::edges::{moved, POINTS};
+use crate::edges::{neighbour, POINTS, SIGN};
 use gintubalos::standard_normal_cdf;
 use random_words::Words;
 use std::f64::consts::{LN_2, SQRT_2};
@@ -9,8 +9,7 @@ use std::f64::consts::{LN_2, SQRT_2};
 /// As many as any function has; the places that a function doesn't have are 0. A float is its bits.
 pub type Arguments = [u64; 9];
 
-pub const SIGN: u64 = 1 << 63;
-pub const FRACTION: u64 = (1 << 52) - 1;
+const FRACTION: u64 = (1 << 52) - 1;
 
 pub fn wide<const N: usize>(short: [u64; N]) -> Arguments {
     let mut all = [0; 9];
@@ -31,7 +30,7 @@ pub fn power(n: i64) -> f64 {
 pub fn near(words: &mut Words, x: f64) -> u64 {
     let spread = 1_i64 << words.below(24);
     let steps = words.between(-spread, spread);
-    moved(x.to_bits(), steps)
+    neighbour(x.to_bits(), steps)
 }
 
 pub fn near_a_point(words: &mut Words) -> u64 {
@@ -44,7 +43,7 @@ pub fn near_a_step(words: &mut Words) -> u64 {
     let fraction = words.choice(&[0, SQRT_2.to_bits() & FRACTION, FRACTION]);
     let exponent = words.below(2047);
     let steps = words.between(-4, 4);
-    moved(float(0, exponent, fraction), steps) | (words.any() & SIGN)
+    neighbour(float(0, exponent, fraction), steps) | (words.any() & SIGN)
 }
 
 /// For a function of one float that does its work from low to high.
@@ -63,7 +62,7 @@ pub fn line(words: &mut Words, low: f64, high: f64) -> u64 {
         5 => {
             let sixteenth = (16.0 * words.uniform(low, high)).floor() / 16.0;
             let steps = words.between(-2, 2);
-            moved(sixteenth.to_bits(), steps)
+            neighbour(sixteenth.to_bits(), steps)
         }
         6 => near_a_step(words),
         _ => {
@@ -106,7 +105,7 @@ pub fn square(words: &mut Words) -> u64 {
     let size = (square as f64).to_bits();
     let exponent = 2 * words.between(-500, 450);
     let steps = words.between(-2, 2);
-    let scaled = f64::from_bits(moved(size, steps)) * power(exponent);
+    let scaled = f64::from_bits(neighbour(size, steps)) * power(exponent);
     scaled.to_bits()
 }
 
@@ -118,7 +117,7 @@ pub fn whole(words: &mut Words) -> u64 {
     let size = (words.any() >> words.below(64)) as f64;
     let half = if words.below(2) == 0 { 0.5 } else { 0.0 };
     let steps = words.between(-2, 2);
-    moved((size + half).to_bits(), steps) | (words.any() & SIGN)
+    neighbour((size + half).to_bits(), steps) | (words.any() & SIGN)
 }
 
 /// Probabilities: log-uniform down to the least subnormal, near 1, and values of the cdf with their neighbours.
@@ -145,7 +144,7 @@ pub fn probability(words: &mut Words) -> u64 {
         _ => {
             let x = words.uniform(-38.6, 8.4);
             let steps = words.between(-3, 3);
-            moved(standard_normal_cdf(x).to_bits(), steps)
+            neighbour(standard_normal_cdf(x).to_bits(), steps)
         }
     }
 }
@@ -156,7 +155,7 @@ pub fn pair(words: &mut Words) -> [u64; 2] {
     let b = match words.below(4) {
         0 => a,
         1 => a ^ SIGN,
-        2 => moved(a, words.between(-2, 2)),
+        2 => neighbour(a, words.between(-2, 2)),
         _ => words.any(),
     };
     [a, b]
@@ -193,7 +192,7 @@ fn cancel(words: &mut Words) -> [u64; 3] {
     let b = between_powers(words, -521, 500);
     let c = (-(a * b)).to_bits();
     let steps = words.between(-3, 3);
-    [a.to_bits(), b.to_bits(), moved(c, steps)]
+    [a.to_bits(), b.to_bits(), neighbour(c, steps)]
 }
 
 /// The product has 54 digits or a few more, the last ones a half: c, far below, decides, or is 0.
@@ -220,7 +219,7 @@ fn tie_of_addend(words: &mut Words) -> [u64; 3] {
     let a = odd * power(split) * words.choice(&[1.0, -1.0]);
     let b = power(unit - 1 - split);
     let steps = words.between(-1, 1);
-    [moved(a.to_bits(), steps), b.to_bits(), c.to_bits()]
+    [neighbour(a.to_bits(), steps), b.to_bits(), c.to_bits()]
 }
 
 /// A product around the least numbers, and an addend there, too.
@@ -232,7 +231,7 @@ fn subnormal_result(words: &mut Words) -> [u64; 3] {
     let c = match words.below(4) {
         0 => 0,
         1 => (words.any() >> 12) >> words.below(52),
-        2 => moved((-(a * b)).to_bits(), words.between(-3, 3)),
+        2 => neighbour((-(a * b)).to_bits(), words.between(-3, 3)),
         _ => words.any() >> 10,
     };
     [a.to_bits(), b.to_bits(), c ^ (words.any() & SIGN)]
@@ -246,7 +245,7 @@ fn subnormal_tie(words: &mut Words) -> [u64; 3] {
     let steps = words.between(-1, 1);
     let b = power(-475);
     let c = if words.below(4) == 0 { 0 } else { (words.any() >> 12) >> words.below(52) };
-    [moved(a.to_bits(), steps) | (words.any() & SIGN), b.to_bits(), c | (words.any() & SIGN)]
+    [neighbour(a.to_bits(), steps) | (words.any() & SIGN), b.to_bits(), c | (words.any() & SIGN)]
 }
 
 /// A product around 2^1024 and an addend that brings it back, or not: the largest number's last half unit is 2^970.
@@ -268,9 +267,9 @@ fn overflow(words: &mut Words) -> [u64; 3] {
     let few = words.choice(&[1.0, 0.5, 0.75, 2.0, 1.5]);
     let b = few * power(970 - exponent);
     let steps = words.between(-2, 2);
-    let first = moved(power(exponent).to_bits(), steps);
+    let first = neighbour(power(exponent).to_bits(), steps);
     let steps = words.between(-2, 0);
-    [first, b.to_bits(), moved(f64::MAX.to_bits(), steps) | (words.any() & SIGN)]
+    [first, b.to_bits(), neighbour(f64::MAX.to_bits(), steps) | (words.any() & SIGN)]
 }
 
 /// The addend's exponent is up to `most` away from the product's.
@@ -320,8 +319,8 @@ mod tests {
 
     #[test]
     fn moving_stops_at_zero_and_infinity() {
-        assert_eq!(moved(1, -3), 0);
-        assert_eq!(moved(SIGN | 1, -3), SIGN);
-        assert_eq!(f64::from_bits(moved(f64::MAX.to_bits(), 9)), f64::INFINITY);
+        assert_eq!(neighbour(1, -3), 0);
+        assert_eq!(neighbour(SIGN | 1, -3), SIGN);
+        assert_eq!(f64::from_bits(neighbour(f64::MAX.to_bits(), 9)), f64::INFINITY);
     }
 }

@@ -3,15 +3,15 @@
 
 use crate::{
     borders::{Border, EXPANSION, MONEYNESS, VOLATILITY},
-    edges::{moved, PRICE_POINTS},
-    inputs::{float, near, SIGN},
+    edges::{neighbour, PRICE_POINTS, SIGN},
+    inputs::{float, near},
 };
 use random_words::Words;
 use rust_over_rules::elementary::{exp, ln};
 
 /// A few units up or down.
 pub fn beside(words: &mut Words, x: f64) -> u64 {
-    moved(x.to_bits(), words.between(-4, 4))
+    neighbour(x.to_bits(), words.between(-4, 4))
 }
 
 fn near_a_price_point(words: &mut Words) -> u64 {
@@ -34,8 +34,8 @@ pub fn special(words: &mut Words) -> u64 {
         1 => (fraction >> 12) >> words.below(52),
         2 => f64::INFINITY.to_bits(),
         3 => float(0, 2047, fraction),
-        4 => moved(least, words.between(-2, 2)),
-        5 => moved(f64::MAX.to_bits(), words.between(-2, 1)),
+        4 => neighbour(least, words.between(-2, 2)),
+        5 => neighbour(f64::MAX.to_bits(), words.between(-2, 1)),
         _ => words.any(),
     };
     size | (words.any() & SIGN)
@@ -138,7 +138,7 @@ pub fn forward_and_strike(words: &mut Words) -> (f64, f64) {
 }
 
 /// A market whose volatility lies at a border, which is given by the size of x out of the money.
-pub fn on(words: &mut Words, border: Border) -> [u64; 5] {
+pub fn market_on(words: &mut Words, border: Border) -> [u64; 5] {
     let (forward, strike) = forward_and_strike(words);
     let expiry = if words.below(4) == 0 { 1.0 } else { log_uniform(words, -9, 5) };
     let sigma = border(ln(forward / strike).abs()) / expiry.sqrt();
@@ -161,12 +161,12 @@ pub fn market(words: &mut Words) -> [u64; 5] {
         }
         3..=6 => {
             let border = words.choice(&VOLATILITY);
-            on(words, border)
+            market_on(words, border)
         }
         7 | 8 => {
             // The asymptotic expansion's, where 7 comes.
             let border = words.choice(&VOLATILITY[..2]);
-            on(words, border)
+            market_on(words, border)
         }
         _ => {
             let (forward, strike) = forward_and_strike(words);

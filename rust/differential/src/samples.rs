@@ -1,4 +1,4 @@
-//! The fixed list that crates/samples replays: answers of the reference, a line for each. The function's number in two
+//! The fixed list that crates/samples replays: answers of the Rust, a line for each. The function's number in two
 //! decimal digits, nine arguments and the answer's bits in sixteen hexadecimal digits each, and document 01's number of a
 //! refusal in two decimal digits, 00 where there is none.
 //!
@@ -46,17 +46,17 @@ fn inputs(function: &Function) -> Vec<Arguments> {
     let mut all: Vec<Arguments> = Vec::new();
     for i in 0..EDGES {
         let mut arguments = [0; 9];
-        for (place, values) in edges.combined.iter().enumerate() {
+        for (place, values) in edges.values.iter().enumerate() {
             arguments[place] = words.choice(values);
         }
         arguments[0] = specials.get(i).copied().unwrap_or(arguments[0]);
         all.push(arguments);
     }
-    if !edges.further.is_empty() {
-        all.extend((0..BORDERS).map(|_| words.choice(&edges.further)));
+    if !edges.borders.is_empty() {
+        all.extend((0..BORDERS).map(|_| words.choice(&edges.borders)));
     }
     all.extend((0..RANDOM).map(|_| (function.inputs)(&mut words)));
-    all.extend(edges.kept);
+    all.extend(edges.samples);
     all
 }
 
