@@ -1,6 +1,6 @@
 //! The Rust of the source folder, built over document 01's elementary functions. `elementary` has those, written from
-//! document 01; `rust_source` reads the rest from the source folder; `prices` and `solver` have what document 01 says instead of
-//! a panic. `book` is document 01's trail, book and listing, which the Rust doesn't have.
+//! document 01; `rust_source` reads the rest from the source folder; `prices` and `solver` have what document 01 says
+//! instead of a panic. `book` is document 01's trail, book and listing, which the Rust doesn't have.
 
 #[cfg(feature = "steps")]
 pub mod book;
