@@ -12,7 +12,7 @@ use rust_over_rules::prices::{black, normalised_black_call, normalised_vega};
 use rust_over_rules::{book::kind_of, solver::Market};
 
 /// What solve is asked, as it crosses to the archive: price, forward, strike and expiry as bits, and the kind's byte.
-#[derive(Clone, Copy, PartialEq, Eq, Debug)]
+#[derive(Clone, Copy)]
 pub struct Question {
     pub floats: [u64; 4],
     pub kind: u8,

@@ -156,8 +156,8 @@ fn fail(what: &str) -> ! {
 fn replace(text: &str, path: &str, from: &str, to: &str, expected: usize) -> String {
     let count = text.matches(from).count();
     if count != expected {
-        let shown = from.trim();
-        fail(&format!("{path}: `{shown}` stands {count} times, expected {expected}: the source has changed"));
+        let piece = from.trim();
+        fail(&format!("{path}: `{piece}` stands {count} times, expected {expected}: the source has changed"));
     }
     text.replace(from, to)
 }
@@ -168,8 +168,8 @@ fn check_methods(text: &str, path: &str) {
         let rest = &text[at + 1..];
         let end = rest.find(|c: char| !(c.is_ascii_alphanumeric() || c == '_')).unwrap_or(rest.len());
         let name = &rest[..end];
-        let called = rest[end..].starts_with('(') && name.starts_with(|c: char| c.is_ascii_lowercase());
-        if called && !name.starts_with("rule_") && !HARMLESS.contains(&name) {
+        let is_call = rest[end..].starts_with('(') && name.starts_with(|c: char| c.is_ascii_lowercase());
+        if is_call && !name.starts_with("rule_") && !HARMLESS.contains(&name) {
             fail(&format!("{path}: the method `{name}` has no rule: the source has changed"));
         }
     }
@@ -193,7 +193,7 @@ fn transform(root: &Path, file: &File, over: Over) -> String {
         }
     }
     for (&(from, to), &count) in METHODS.iter().zip(&file.methods) {
-        // The counts are held to in either case.
+        // The counts are checked in either case.
         text = replace(&text, file.path, from, if over == Over::Std { from } else { to }, count);
     }
     for (&(from, to), &count) in NAMES.iter().zip(&file.names) {
@@ -225,7 +225,7 @@ fn source(root: &Path, over: Over) -> String {
     module(&INPUTS, &transform(root, &INPUTS, over), over) + &module(&MOD, &(outer + "\n" + &inner), over)
 }
 
-/// FNV-1a of the source as it was read: says in a run's output which text it was compared with.
+/// FNV-1a of the source as it is read: says in a run's output which text ours is compared with.
 fn fingerprint(root: &Path) -> u64 {
     let mut hash = 0xcbf2_9ce4_8422_2325_u64;
     for file in FILES.iter().chain([&INPUTS, &MOD]) {
