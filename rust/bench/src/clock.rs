@@ -37,7 +37,7 @@ pub fn measure<I>(inputs: &[I], sides: [Side<I>; SIDES], effort: Effort) -> [f64
     let mut turn = Duration::ZERO;
     let mut sides = sides;
     for (side, repeat) in sides.iter_mut().zip(&mut repeats) {
-        let once = timed(|| side(inputs)).min(timed(|| side(inputs)));
+        let once = time(|| side(inputs)).min(time(|| side(inputs)));
         *repeat = (BLOCK.as_nanos() / once.as_nanos().max(1) + 1) as u32;
         turn += once * *repeat;
     }
@@ -47,14 +47,14 @@ pub fn measure<I>(inputs: &[I], sides: [Side<I>; SIDES], effort: Effort) -> [f64
         for k in 0..SIDES {
             // Another side begins each turn.
             let k = (n + k) % SIDES;
-            let block = timed(|| (0..repeats[k]).fold(0, |sum: u64, _| sum.wrapping_add(sides[k](inputs))));
+            let block = time(|| (0..repeats[k]).fold(0, |sum: u64, _| sum.wrapping_add(sides[k](inputs))));
             best[k] = best[k].min(block);
         }
     }
     std::array::from_fn(|k| best[k].as_nanos() as f64 / f64::from(repeats[k]) / inputs.len() as f64)
 }
 
-fn timed(work: impl FnOnce() -> u64) -> Duration {
+fn time(work: impl FnOnce() -> u64) -> Duration {
     let start = Instant::now();
     black_box(work());
     start.elapsed()

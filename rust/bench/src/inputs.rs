@@ -1,7 +1,7 @@
 //! Inputs from a fixed seed. A market's price is ours at a random volatility, and its class what our solve answers.
 
-use crate::words::Words;
 use gintubalos::{bits, black, exp, ln, normalised_black_call, normalised_vega, sqrt, OptionType};
+use random_words::Words;
 
 /// Below this half-volatility the Rust expands in small t.
 const SMALL_T: f64 = 2.0 * 0.10566243270259357;
@@ -29,10 +29,6 @@ impl Market {
 
 fn log_uniform(words: &mut Words, low: f64, high: f64) -> f64 {
     (low.ln() + (high.ln() - low.ln()) * words.unit()).exp()
-}
-
-fn uniform(words: &mut Words, low: f64, high: f64) -> f64 {
-    low + (high - low) * words.unit()
 }
 
 /// The s at which the branches change, s_l, s_c and s_h, for an x below 0.
@@ -116,11 +112,11 @@ impl Class {
             };
             let [s_l, s_c, s_h] = borders(x);
             let s = match self.branch {
-                1 => uniform(&mut words, 0.2, 1.0) * s_l,
-                2 => uniform(&mut words, s_l, s_c),
-                3 => uniform(&mut words, s_c, s_h),
-                4 => uniform(&mut words, 1.0, 1.5) * s_h,
-                _ => uniform(&mut words, 1.0, 1.1) * s_h,
+                1 => words.uniform(0.2, 1.0) * s_l,
+                2 => words.uniform(s_l, s_c),
+                3 => words.uniform(s_c, s_h),
+                4 => words.uniform(1.0, 1.5) * s_h,
+                _ => words.uniform(1.0, 1.1) * s_h,
             };
             found.extend(market(&mut words, x, s).filter(|m| self.has(m)));
         }
@@ -140,10 +136,10 @@ pub fn quotes(count: usize) -> Vec<Market> {
     let mut words = Words::new(1, "quotes", 0);
     let mut found = Vec::new();
     while found.len() < count {
-        let forward = uniform(&mut words, 50.0, 200.0);
-        let expiry = uniform(&mut words, 0.05, 2.0);
-        let sigma = uniform(&mut words, 0.1, 0.6);
-        let strike = forward * (uniform(&mut words, -1.5, 1.5) * sigma * expiry.sqrt()).exp();
+        let forward = words.uniform(50.0, 200.0);
+        let expiry = words.uniform(0.05, 2.0);
+        let sigma = words.uniform(0.1, 0.6);
+        let strike = forward * (words.uniform(-1.5, 1.5) * sigma * expiry.sqrt()).exp();
         let kind = if forward < strike { OptionType::Call } else { OptionType::Put };
         if let Ok(price) = black(forward, strike, sigma, expiry, kind) {
             found.push(Market { floats: [price, forward, strike, expiry], kind: kind as u8 });
@@ -166,9 +162,9 @@ pub fn region(name: &str, count: usize) -> Vec<[f64; 2]> {
     let mut words = Words::new(1, name, 0);
     let mut draw = || {
         let (h, t) = match name {
-            "asymptotic" => (uniform(&mut words, -30.0, -10.5), uniform(&mut words, 0.001, 0.2)),
-            "small t" => (uniform(&mut words, -8.0, 0.0), uniform(&mut words, 0.001, 0.21)),
-            _ => (uniform(&mut words, -5.0, 0.0), uniform(&mut words, 0.22, 2.0)),
+            "asymptotic" => (words.uniform(-30.0, -10.5), words.uniform(0.001, 0.2)),
+            "small t" => (words.uniform(-8.0, 0.0), words.uniform(0.001, 0.21)),
+            _ => (words.uniform(-5.0, 0.0), words.uniform(0.22, 2.0)),
         };
         [h * 2.0 * t, 2.0 * t]
     };
@@ -192,12 +188,12 @@ pub fn arguments(name: &str, count: usize) -> Vec<[f64; 3]> {
     let mut draw = || {
         let w = &mut words;
         match name {
-            "erfc" => [uniform(w, -4.0, 6.0), 0.0, 0.0],
-            "exp" => [uniform(w, -30.0, 3.0), 0.0, 0.0],
+            "erfc" => [w.uniform(-4.0, 6.0), 0.0, 0.0],
+            "exp" => [w.uniform(-30.0, 3.0), 0.0, 0.0],
             "ln" => [log_uniform(w, 1e-6, 1e2), 0.0, 0.0],
             "sqrt" => [log_uniform(w, 1e-3, 1e3), 0.0, 0.0],
             // What the small t expansion has: a factor up to 1, a positive one, and less.
-            "mul_add, as in small t" => [w.unit(), uniform(w, 3.0, 1000.0), uniform(w, -1000.0, -1.0)],
+            "mul_add, as in small t" => [w.unit(), w.uniform(3.0, 1000.0), w.uniform(-1000.0, -1.0)],
             "mul_add, any sign and size" => [(); 3].map(|()| {
                 let size = log_uniform(w, 1e-9, 1e9);
                 if w.below(2) == 0 {

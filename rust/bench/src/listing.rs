@@ -117,7 +117,7 @@ impl Drop for Folder {
     }
 }
 
-/// Seconds of each side over these records: ours, the Rust over the rules, the Rust as published. The volatilities of the
+/// Seconds of each side over these records: ours, the Rust over the rules, the Rust over std. The volatilities of the
 /// first two are compared.
 pub fn seconds(program: &Path, markets: &[Market], turns: usize) -> io::Result<[f64; 3]> {
     let folder = Folder(env::temp_dir().join(format!("gintubalos-bench-{}", std::process::id())));

@@ -5,9 +5,6 @@
 mod clock;
 mod inputs;
 mod listing;
-#[allow(dead_code)]
-#[path = "../../differential/src/words.rs"]
-mod words;
 
 use clock::{measure, over, Effort, SIDES};
 use gintubalos::bits;
@@ -39,8 +36,8 @@ macro_rules! rust_solve {
     };
 }
 
-rust_solve!(rules_solve, reference);
-rust_solve!(published_solve, published);
+rust_solve!(rules_solve, rust_over_rules);
+rust_solve!(std_solve, rust_over_std);
 
 struct Bench {
     effort: Effort,
@@ -59,8 +56,8 @@ impl Bench {
         name: &str,
         inputs: &[I],
         mut ours: impl FnMut(&I) -> u64,
-        mut rules: impl FnMut(&I) -> f64,
-        mut published: impl FnMut(&I) -> f64,
+        mut over_rules: impl FnMut(&I) -> f64,
+        mut over_std: impl FnMut(&I) -> f64,
     ) {
         if !self.wants(name) {
             return;
@@ -71,32 +68,32 @@ impl Bench {
         }
         // The same answers are the same work.
         for (i, input) in inputs.iter().enumerate() {
-            let (a, b) = (ours(input), rules(input).to_bits());
+            let (a, b) = (ours(input), over_rules(input).to_bits());
             assert!(a == b, "{name}, input {i}: ours {a:016X}, the Rust {b:016X}");
         }
         let sides: [clock::Side<I>; SIDES] = [
             &mut over(&mut ours),
-            &mut over(|input| rules(input).to_bits()),
-            &mut over(|input| published(input).to_bits()),
+            &mut over(|input| over_rules(input).to_bits()),
+            &mut over(|input| over_std(input).to_bits()),
         ];
-        let [ours, rules, published] = measure(inputs, sides, self.effort);
-        let ratio = [ours / rules, ours / published];
-        println!("| {name} | {ours:.1} | {rules:.1} | {:.2} | {published:.1} | {:.2} |", ratio[0], ratio[1]);
+        let [ours, over_rules, over_std] = measure(inputs, sides, self.effort);
+        let ratio = [ours / over_rules, ours / over_std];
+        println!("| {name} | {ours:.1} | {over_rules:.1} | {:.2} | {over_std:.1} | {:.2} |", ratio[0], ratio[1]);
     }
 
     fn solves(&self, class: &Class) {
-        let (plain, trailed) = (format!("solve, {}", class.name), format!("solve with a trail, {}", class.name));
-        if !self.wants(&plain) && !self.wants(&trailed) {
+        let (plain, with_trail) = (format!("solve, {}", class.name), format!("solve with a trail, {}", class.name));
+        if !self.wants(&plain) && !self.wants(&with_trail) {
             return;
         }
         let markets = class.markets(COUNT);
-        let rules = |m: &Market| rules_solve(m.floats, m.kind, LIMIT);
-        let published = |m: &Market| published_solve(m.floats, m.kind, LIMIT);
+        let over_rules = |m: &Market| rules_solve(m.floats, m.kind, LIMIT);
+        let over_std = |m: &Market| std_solve(m.floats, m.kind, LIMIT);
         let ours = |m: &Market| {
             let [price, forward, strike, expiry] = m.bits();
             bits::implied_volatility_from_a_transformed_rational_guess(price, forward, strike, expiry, m.kind).0
         };
-        self.row(&plain, &markets, ours, rules, published);
+        self.row(&plain, &markets, ours, over_rules, over_std);
         let mut trail = [0; 48 * LIMIT as usize];
         let ours = |m: &Market| {
             let [price, forward, strike, expiry] = m.bits();
@@ -105,7 +102,7 @@ impl Bench {
             )
             .0
         };
-        self.row(&trailed, &markets, ours, rules, published);
+        self.row(&with_trail, &markets, ours, over_rules, over_std);
     }
 
     fn prices(&self, region: &str) {
@@ -116,18 +113,21 @@ impl Bench {
                 let [forward, strike, sigma, expiry] = x.map(f64::to_bits);
                 bits::black(forward, strike, sigma, expiry, 1).0
             },
-            |x| reference::lets_be_rational::black(x[0], x[1], x[2], x[3], reference::OptionType::Call),
-            |x| published::lets_be_rational::black(x[0], x[1], x[2], x[3], published::OptionType::Call),
+            |x| rust_over_rules::lets_be_rational::black(x[0], x[1], x[2], x[3], rust_over_rules::OptionType::Call),
+            |x| rust_over_std::lets_be_rational::black(x[0], x[1], x[2], x[3], rust_over_std::OptionType::Call),
         );
         self.row(
             &format!("normalised_black_call, {region}"),
             &inputs::region(region, COUNT),
             |x| bits::normalised_black_call(x[0].to_bits(), x[1].to_bits()).0,
-            |x| reference::lets_be_rational::black::normalised_black_call(x[0], x[1]),
-            |x| published::lets_be_rational::black::normalised_black_call(x[0], x[1]),
+            |x| rust_over_rules::lets_be_rational::black::normalised_black_call(x[0], x[1]),
+            |x| rust_over_std::lets_be_rational::black::normalised_black_call(x[0], x[1]),
         );
         if region == REGIONS[2] {
-            use {published::lets_be_rational::black as std_side, reference::lets_be_rational::black as rules_side};
+            use {
+                rust_over_rules::lets_be_rational::black as rules_side,
+                rust_over_std::lets_be_rational::black as std_side,
+            };
             // The same work with a float for an answer: the difference is what the answer that may refuse costs.
             self.row(
                 "normalised_black_call, the rest, as a plain float",
@@ -143,11 +143,11 @@ impl Bench {
     }
 
     fn elementary(&self) {
-        use published::lets_be_rational as std_side;
-        use reference::{elementary as rules, lets_be_rational as rules_side};
-        let one = |name: &str, ours: fn(u64) -> u64, rules: fn(f64) -> f64, published: fn(f64) -> f64| {
+        use rust_over_rules::{elementary as rules, lets_be_rational as rules_side};
+        use rust_over_std::lets_be_rational as std_side;
+        let one = |name: &str, ours: fn(u64) -> u64, over_rules: fn(f64) -> f64, over_std: fn(f64) -> f64| {
             let inputs = inputs::arguments(name, COUNT);
-            self.row(name, &inputs, |x| ours(x[0].to_bits()), |x| rules(x[0]), |x| published(x[0]));
+            self.row(name, &inputs, |x| ours(x[0].to_bits()), |x| over_rules(x[0]), |x| over_std(x[0]));
         };
         one("erfc", bits::erfc, rules_side::cody::optimized::erfc, std_side::cody::optimized::erfc);
         one("exp", bits::exp, rules::exp, f64::exp);
@@ -164,8 +164,8 @@ impl Bench {
         }
         for name in ["inverse_normal_cdf, p to 1", "inverse_normal_cdf, p to 0.1"] {
             use rules_side::normal_distribution::inverse_normal_cdf;
-            let published = std_side::normal_distribution::inverse_normal_cdf;
-            one(name, bits::inverse_normal_cdf, inverse_normal_cdf, published);
+            let over_std = std_side::normal_distribution::inverse_normal_cdf;
+            one(name, bits::inverse_normal_cdf, inverse_normal_cdf, over_std);
         }
         // One operation: what is left is the call border.
         one("abs", bits::abs, rules::abs, f64::abs);
@@ -187,10 +187,10 @@ impl Bench {
         ] {
             match listing::seconds(&program, &markets, self.turns) {
                 Ok(seconds) => {
-                    let [ours, rules, published] = seconds.map(|s| markets.len() as f64 / s);
-                    let ratio = [ours / rules, ours / published];
+                    let [ours, over_rules, over_std] = seconds.map(|s| markets.len() as f64 / s);
+                    let ratio = [ours / over_rules, ours / over_std];
                     println!(
-                        "| {name} | {ours:.0} | {rules:.0} | {:.2} | {published:.0} | {:.2} |",
+                        "| {name} | {ours:.0} | {over_rules:.0} | {:.2} | {over_std:.0} | {:.2} |",
                         ratio[0], ratio[1]
                     );
                 }
@@ -206,7 +206,7 @@ fn usage(problem: &str) -> ! {
     exit(2)
 }
 
-fn wanted() -> Bench {
+fn options() -> Bench {
     let mut bench = Bench { effort: clock::FULL, records: RECORDS, turns: 20, only: None };
     let mut words = env::args().skip(1);
     while let Some(word) = words.next() {
@@ -218,7 +218,7 @@ fn wanted() -> Bench {
                 let side = words.next();
                 let solve = match listing::RUST_SIDES.iter().position(|known| Some(*known) == side.as_deref()) {
                     Some(0) => rules_solve,
-                    Some(_) => published_solve,
+                    Some(_) => std_solve,
                     None => usage("no such side"),
                 };
                 if let Err(e) = listing::list(solve) {
@@ -234,8 +234,8 @@ fn wanted() -> Bench {
 }
 
 fn main() {
-    let bench = wanted();
-    let Some(source) = reference::SOURCE else {
+    let bench = options();
+    let Some(source) = rust_over_rules::SOURCE else {
         println!("no Rust source: there is nothing to compare with");
         exit(3);
     };
@@ -243,7 +243,7 @@ fn main() {
     if !cfg!(target_feature = "fma") {
         println!("built without the machine's fused multiply-add: the Rust calls the C library's");
     }
-    if reference::LAID_OPEN {
+    if rust_over_rules::WITH_STEPS {
         println!("the Rust has the calls in it that lay its steps open: build this program alone");
     }
     println!("\n| ns per call | ours | Rust over 01 | ratio | Rust over std | ratio |");

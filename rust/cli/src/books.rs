@@ -1,6 +1,6 @@
 //! `file`, `recheck` and `list`, on a file of 64-byte records.
 
-use crate::{arguments::Arguments, failure::Failure, progress::Progress, shown};
+use crate::{arguments::Arguments, failure::Failure, output, progress::Progress};
 use gintubalos::{Record, Refusal, RECORD_BYTES};
 use std::{
     collections::BTreeMap,
@@ -9,8 +9,8 @@ use std::{
     path::Path,
 };
 
-/// As many differing records are named.
-const NAMED: usize = 10;
+/// So many differing records are named.
+const MOST_NAMES: usize = 10;
 
 /// Appends a record. One program at a time should file to a book.
 pub fn file(mut arguments: Arguments, out: &mut impl Write) -> Result<(), Failure> {
@@ -31,29 +31,29 @@ pub fn file(mut arguments: Arguments, out: &mut impl Write) -> Result<(), Failur
     gintubalos::file(market.price, market.forward, market.strike, market.expiry, market.kind, limit, book, used)
         .map_err(|refusal| match refusal.number {
             23 => Failure::Part { refusal, path: path.clone(), bytes: part },
-            _ => Failure::Refused(refusal),
+            _ => Failure::Refusal(refusal),
         })?;
     append(&path, bytes, &slot).map_err(Failure::file(&path))?;
     let record = Record::from(&slot);
     writeln!(out, "record      {}", bytes / RECORD_BYTES as u64)?;
-    shown::float(out, "volatility", record.volatility())?;
+    output::float(out, "volatility", record.volatility())?;
     if let (Some(branch), Some(ending)) = (record.branch(), record.ending()) {
-        shown::ways(out, branch, ending, record.steps())?;
+        output::ways(out, branch, ending, record.steps())?;
     }
     Ok(())
 }
 
 fn append(path: &Path, bytes: u64, slot: &[u8]) -> io::Result<()> {
     let mut file = OpenOptions::new().append(true).create(true).open(path)?;
-    let written = file.write_all(slot).and_then(|()| file.sync_all());
-    if written.is_err() {
-        // No part of a record may stay; where this fails too, the first error tells it.
+    let result = file.write_all(slot).and_then(|()| file.sync_all());
+    if result.is_err() {
+        // No part of a record may stay; where this fails too, the first error is the one to report.
         let _ = file.set_len(bytes);
     }
-    written
+    result
 }
 
-/// Hands over each record with its number, and a last part under 64 bytes as it is.
+/// Visits each record with its number, and a last part under 64 bytes as it is.
 fn each(path: &Path, mut visit: impl FnMut(u64, &[u8]) -> Result<(), Failure>) -> Result<(), Failure> {
     let mut file = BufReader::with_capacity(1 << 16, File::open(path).map_err(Failure::file(path))?);
     let mut record = Vec::with_capacity(RECORD_BYTES);
@@ -74,10 +74,10 @@ struct Summary {
     records: u64,
     agree: u64,
     differ: u64,
-    /// The first of those that differ.
-    named: Vec<String>,
+    /// The first records that differ.
+    names: Vec<String>,
     /// By number: how many records, and the first of them.
-    refused: BTreeMap<u8, (u64, u64)>,
+    refusals: BTreeMap<u8, (u64, u64)>,
     first_refusal: Option<u8>,
 }
 
@@ -88,13 +88,13 @@ impl Summary {
             Ok(true) => self.agree += 1,
             Ok(false) => {
                 self.differ += 1;
-                if self.named.len() < NAMED {
-                    self.named.push(k.to_string());
+                if self.names.len() < MOST_NAMES {
+                    self.names.push(k.to_string());
                 }
             }
             Err(Refusal { number, .. }) => {
                 self.first_refusal.get_or_insert(number);
-                self.refused.entry(number).or_insert((0, k)).0 += 1;
+                self.refusals.entry(number).or_insert((0, k)).0 += 1;
             }
         }
     }
@@ -104,11 +104,11 @@ impl Summary {
         writeln!(out, "agree       {}", self.agree)?;
         write!(out, "differ      {}", self.differ)?;
         if self.differ > 0 {
-            let more = if self.differ > NAMED as u64 { ", .." } else { "" };
-            write!(out, "  (records {}{more})", self.named.join(", "))?;
+            let more = if self.differ > MOST_NAMES as u64 { ", .." } else { "" };
+            write!(out, "  (records {}{more})", self.names.join(", "))?;
         }
-        writeln!(out, "\nrefused     {}", self.refused.values().map(|(count, _)| count).sum::<u64>())?;
-        for (&number, (count, first)) in &self.refused {
+        writeln!(out, "\nrefused     {}", self.refusals.values().map(|(count, _)| count).sum::<u64>())?;
+        for (&number, (count, first)) in &self.refusals {
             let meaning = match number {
                 // Of its two causes a file can have only this one.
                 23 => "the file ends in a part under 64 bytes",

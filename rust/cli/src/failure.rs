@@ -7,14 +7,14 @@ use std::{fmt, io, path::PathBuf};
 pub const USAGE: u8 = 64;
 
 /// The status where a file or standard output could not be read or written.
-pub const NOT_READ_OR_WRITTEN: u8 = 74;
+pub const IO_ERROR: u8 = 74;
 
 #[derive(Debug)]
 pub enum Failure {
     Usage {
         message: String,
     },
-    Refused(Refusal),
+    Refusal(Refusal),
     /// 23, since the file ends in so many bytes that are no whole record.
     Part {
         refusal: Refusal,
@@ -25,7 +25,7 @@ pub enum Failure {
         path: PathBuf,
         error: io::Error,
     },
-    Unwritten {
+    Output {
         error: io::Error,
     },
 }
@@ -43,8 +43,8 @@ impl Failure {
     pub fn status(&self) -> u8 {
         match self {
             Failure::Usage { .. } => USAGE,
-            Failure::Refused(refusal) | Failure::Part { refusal, .. } => refusal.number,
-            Failure::File { .. } | Failure::Unwritten { .. } => NOT_READ_OR_WRITTEN,
+            Failure::Refusal(refusal) | Failure::Part { refusal, .. } => refusal.number,
+            Failure::File { .. } | Failure::Output { .. } => IO_ERROR,
         }
     }
 }
@@ -53,25 +53,25 @@ impl fmt::Display for Failure {
     fn fmt(&self, f: &mut fmt::Formatter) -> fmt::Result {
         match self {
             Failure::Usage { message } => write!(f, "{message}; see gintubalos --help"),
-            Failure::Refused(refusal) => write!(f, "{refusal}"),
+            Failure::Refusal(refusal) => write!(f, "{refusal}"),
             Failure::Part { refusal, path, bytes } => {
                 write!(f, "{refusal}: {} ends in a part of {bytes} bytes", path.display())
             }
             Failure::File { path, error } => write!(f, "{}: {error}", path.display()),
-            Failure::Unwritten { error } => write!(f, "standard output: {error}"),
+            Failure::Output { error } => write!(f, "standard output: {error}"),
         }
     }
 }
 
 impl From<Refusal> for Failure {
     fn from(refusal: Refusal) -> Failure {
-        Failure::Refused(refusal)
+        Failure::Refusal(refusal)
     }
 }
 
 /// An error that no file is named with is one of standard output.
 impl From<io::Error> for Failure {
     fn from(error: io::Error) -> Failure {
-        Failure::Unwritten { error }
+        Failure::Output { error }
     }
 }

@@ -1,6 +1,6 @@
 //! What `--help` says.
 
-use crate::failure::{NOT_READ_OR_WRITTEN, USAGE};
+use crate::failure::{IO_ERROR, USAGE};
 use gintubalos::Refusal;
 use std::io::{self, Write};
 
@@ -36,5 +36,5 @@ pub fn write(out: &mut impl Write) -> io::Result<()> {
         out,
         "recheck has 0 if all records agree, 1 if some differ, else the first refusal's number; list has 0, since its"
     )?;
-    writeln!(out, "lines have the refusals. {USAGE} is for a wrong command line, {NOT_READ_OR_WRITTEN} for a file that can't be read or written.")
+    writeln!(out, "lines have the refusals. {USAGE} is for a wrong command line, {IO_ERROR} for a file that can't be read or written.")
 }

@@ -7,8 +7,8 @@ mod arguments;
 mod books;
 mod failure;
 mod help;
+mod output;
 mod progress;
-mod shown;
 mod solving;
 
 use arguments::Arguments;
@@ -21,14 +21,14 @@ use std::{
 
 fn main() -> ExitCode {
     let mut out = BufWriter::new(io::stdout().lock());
-    let done = run(&mut out);
-    // What was written before a refusal is shown before its words.
-    let done = out.flush().map_err(|error| Failure::Unwritten { error }).and(done);
-    match done {
+    let result = run(&mut out);
+    // What is written before a refusal comes before its words.
+    let result = out.flush().map_err(|error| Failure::Output { error }).and(result);
+    match result {
         Ok(status) => ExitCode::from(status),
         Err(failure) => {
-            // A reader that has left has seen what it wanted, and is told nothing.
-            if !matches!(&failure, Failure::Unwritten { error } if error.kind() == ErrorKind::BrokenPipe) {
+            // A reader that has left has seen what it wanted: there is no message.
+            if !matches!(&failure, Failure::Output { error } if error.kind() == ErrorKind::BrokenPipe) {
                 // With standard error gone as well, the status has to do.
                 let _ = writeln!(io::stderr(), "gintubalos: {failure}");
             }

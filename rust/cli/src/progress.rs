@@ -10,22 +10,22 @@ const PAUSE: Duration = Duration::from_millis(100);
 
 pub struct Progress {
     total: u64,
-    /// When it was last drawn; none where nobody would see it.
-    drawn: Option<Instant>,
+    /// When the bar was last drawn; none where nobody would see it.
+    last: Option<Instant>,
 }
 
 impl Progress {
     /// For so many records; 0 where their number isn't known.
     pub fn new(total: u64) -> Progress {
-        Progress { total, drawn: io::stderr().is_terminal().then(Instant::now) }
+        Progress { total, last: io::stderr().is_terminal().then(Instant::now) }
     }
 
     pub fn at(&mut self, done: u64) {
         // The clock is read for one record in 256, so that it takes no time from the others.
-        if !done.is_multiple_of(256) || self.drawn.is_none_or(|drawn| drawn.elapsed() < PAUSE) {
+        if !done.is_multiple_of(256) || self.last.is_none_or(|last| last.elapsed() < PAUSE) {
             return;
         }
-        self.drawn = Some(Instant::now());
+        self.last = Some(Instant::now());
         // A bar that can't be drawn stops nothing.
         let _ = write!(io::stderr(), "\r{}", bar(done, self.total));
     }
@@ -34,7 +34,7 @@ impl Progress {
 /// Clears the line for what is written next.
 impl Drop for Progress {
     fn drop(&mut self) {
-        if self.drawn.is_some() {
+        if self.last.is_some() {
             let _ = write!(io::stderr(), "\r\x1b[K");
         }
     }

@@ -3,7 +3,7 @@
 use crate::{
     arguments::{Arguments, Market},
     failure::Failure,
-    shown,
+    output,
 };
 use gintubalos::{
     implied_volatility_from_a_transformed_rational_guess_step_by_step as step_by_step,
@@ -18,30 +18,30 @@ pub fn solve(mut arguments: Arguments, out: &mut impl Write) -> Result<(), Failu
     let Market { price, forward, strike, expiry, kind } = market;
     let answer = if steps {
         let run = step_by_step(price, forward, strike, expiry, kind, limit);
-        asked(out, &market, limit)?;
-        trail(out, &run.trail)?;
+        write_question(out, &market, limit)?;
+        write_steps(out, &run.trail)?;
         run.answer
     } else {
         limited(price, forward, strike, expiry, kind, limit)
     };
     let solution = answer?;
-    shown::float(out, "volatility", solution.volatility)?;
-    shown::ways(out, solution.branch, solution.ending, solution.steps)?;
+    output::float(out, "volatility", solution.volatility)?;
+    output::ways(out, solution.branch, solution.ending, solution.steps)?;
     Ok(())
 }
 
-fn asked(out: &mut impl Write, market: &Market, limit: i32) -> io::Result<()> {
+fn write_question(out: &mut impl Write, market: &Market, limit: i32) -> io::Result<()> {
     writeln!(out, "Asked for: the volatility of a {} at this price, with a limit of {limit}", market.kind)?;
     writeln!(out)?;
-    shown::float(out, "price", market.price)?;
-    shown::float(out, "forward", market.forward)?;
-    shown::float(out, "strike", market.strike)?;
-    shown::float(out, "expiry", market.expiry)?;
+    output::float(out, "price", market.price)?;
+    output::float(out, "forward", market.forward)?;
+    output::float(out, "strike", market.strike)?;
+    output::float(out, "expiry", market.expiry)?;
     writeln!(out)
 }
 
 /// Each step on two lines, decimal above bits.
-fn trail(out: &mut impl Write, steps: &[Step]) -> io::Result<()> {
+fn write_steps(out: &mut impl Write, steps: &[Step]) -> io::Result<()> {
     if steps.is_empty() {
         return writeln!(out, "No step was completed.\n");
     }
@@ -57,11 +57,12 @@ fn trail(out: &mut impl Write, steps: &[Step]) -> io::Result<()> {
     let mut rows = Vec::new();
     for (i, step) in steps.iter().enumerate() {
         let [s, b, vega, left, right, after] = [step.s, step.price, step.vega, step.left, step.right, step.s_after];
-        for (name, form) in [((i + 1).to_string(), shown::decimal as fn(f64) -> String), (String::new(), shown::bits)] {
+        for (name, form) in [((i + 1).to_string(), output::decimal as fn(f64) -> String), (String::new(), output::bits)]
+        {
             rows.push([name, form(s), form(b), form(vega), form(left), form(right), form(after)]);
         }
     }
-    shown::table(out, ["step", "s", "price b", "vega", "left", "right", "s after"], &rows)?;
+    output::table(out, ["step", "s", "price b", "vega", "left", "right", "s after"], &rows)?;
     writeln!(out)
 }
 
@@ -73,6 +74,6 @@ pub fn black(mut arguments: Arguments, out: &mut impl Write) -> Result<(), Failu
     let kind = arguments.kind()?;
     arguments.end()?;
     let price = gintubalos::black(forward, strike, sigma, expiry, kind)?;
-    shown::float(out, "price", price)?;
+    output::float(out, "price", price)?;
     Ok(())
 }

@@ -9,13 +9,10 @@ use std::{
 /// Refused with 7 after three completed steps.
 const SEVEN: [&str; 5] = ["0x3D35CFCCA2C33114", "0x41DBEC1184BBDFD4", "62DF5AB27B0C876F", "3f6f40223f5894a0", "call"];
 
-fn run(words: &[&str]) -> Output {
-    Command::new(env!("CARGO_BIN_EXE_gintubalos")).args(words).output().expect("the program starts")
-}
-
 /// Status, standard output and standard error.
-fn said(words: &[&str]) -> (i32, String, String) {
-    let Output { status, stdout, stderr } = run(words);
+fn output(words: &[&str]) -> (i32, String, String) {
+    let program = Command::new(env!("CARGO_BIN_EXE_gintubalos")).args(words).output();
+    let Output { status, stdout, stderr } = program.expect("the program starts");
     let text = |bytes| String::from_utf8(bytes).expect("text");
     (status.code().expect("a status"), text(stdout), text(stderr))
 }
@@ -40,7 +37,7 @@ fn record(floats: [f64; 4], limit: u8, kind: u8) -> [u8; 64] {
     record
 }
 
-const SOLVED: &str = "\
+const SOLUTION: &str = "\
 volatility  0.18609337131054046       3FC7D1E857E3FCEB
 branch      2, lower middle
 ending      2, limit
@@ -49,18 +46,18 @@ steps       2
 
 #[test]
 fn solve() {
-    assert_eq!(said(&words("solve 10 100 95 1 call")), (0, SOLVED.to_owned(), String::new()));
+    assert_eq!(output(&words("solve 10 100 95 1 call")), (0, SOLUTION.to_owned(), String::new()));
     // In bits, with the limit first.
     let bits = "solve --limit=2 0x4024000000000000 4059000000000000 0x4057C00000000000 3ff0000000000000 CALL";
-    assert_eq!(said(&words(bits)).1, SOLVED);
-    let (status, out, _) = said(&words("solve 10 100 95 1 call --limit 100"));
+    assert_eq!(output(&words(bits)).1, SOLUTION);
+    let (status, out, _) = output(&words("solve 10 100 95 1 call --limit 100"));
     assert_eq!(status, 0);
     assert!(out.contains("3FC7D1E857E3FCEC") && out.contains("1, step test") && out.contains("steps       3"));
     // P2, and a price below 0: a number and no option.
-    assert!(said(&words("solve 99 200 100 1 call"))
+    assert!(output(&words("solve 99 200 100 1 call"))
         .1
         .contains("FFEFFFFFFFFFFFFF\nbranch      0, answered before a guess"));
-    assert!(said(&words("solve -1 200 100 1 put --limit -5")).1.contains("FFEFFFFFFFFFFFFF"));
+    assert!(output(&words("solve -1 200 100 1 put --limit -5")).1.contains("FFEFFFFFFFFFFFFF"));
 }
 
 const TABLE: &str = "\
@@ -74,14 +71,14 @@ step  s                   price b              vega                 left        
 
 #[test]
 fn steps() {
-    let (status, out, err) = said(&words("solve 10 100 95 1 call --steps"));
+    let (status, out, err) = output(&words("solve 10 100 95 1 call --steps"));
     assert_eq!((status, &*err), (0, ""));
     assert!(out.starts_with("Asked for: the volatility of a Call at this price, with a limit of 2\n"));
     assert!(out.contains("price       10.0                      4024000000000000\n"));
-    assert!(out.ends_with(&format!("{TABLE}\n{SOLVED}")), "{out}");
+    assert!(out.ends_with(&format!("{TABLE}\n{SOLUTION}")), "{out}");
     // Without a loop, and refused inside one: the completed steps are shown.
-    assert!(said(&words("solve 0 100 95 1 put --steps")).1.contains("No step was completed."));
-    let (status, out, err) = said(&[&["solve", "--steps", "--limit", "20"], &SEVEN[..]].concat());
+    assert!(output(&words("solve 0 100 95 1 put --steps")).1.contains("No step was completed."));
+    let (status, out, err) = output(&[&["solve", "--steps", "--limit", "20"], &SEVEN[..]].concat());
     assert_eq!(status, 7);
     assert!(out.contains("\n3     ") && !out.contains("\n4     ") && !out.contains("volatility  "));
     assert!(err.contains("refused with 7") && err.contains("after 3 completed steps"), "{err}");
@@ -90,7 +87,7 @@ fn steps() {
 #[test]
 fn black() {
     let price = "price       10.519541063676972        40250A01494AD7E2\n";
-    assert_eq!(said(&words("black 100 95 0.2 1 call")), (0, price.to_owned(), String::new()));
+    assert_eq!(output(&words("black 100 95 0.2 1 call")), (0, price.to_owned(), String::new()));
     for (line, number) in [
         ("black 0 0 nan 0 put", 2),
         ("black 1 -1 nan 0 put", 3),
@@ -98,7 +95,7 @@ fn black() {
         ("black 1 1 1 1e-310 put", 4),
         ("black 3F8C3B6B6A8EA2AE 40503C70C53DDB57 3FEA86987B35B0A6 1 call", 7),
     ] {
-        let (status, out, err) = said(&words(line));
+        let (status, out, err) = output(&words(line));
         assert_eq!((status, &*out), (number, ""));
         assert!(err.starts_with(&format!("gintubalos: refused with {number}: ")), "{err}");
     }
@@ -109,8 +106,8 @@ fn refusals_of_solve() {
     for (line, number) in
         [("solve inf 0 0 0 put", 1), ("solve 1 0 0 0 put", 2), ("solve 1 1 -1 0 put", 3), ("solve 1 1 1 0 put", 4)]
     {
-        assert_eq!(said(&words(line)).0, number);
-        assert_eq!(said(&[&words(line)[..], &["--steps"]].concat()).0, number);
+        assert_eq!(output(&words(line)).0, number);
+        assert_eq!(output(&[&words(line)[..], &["--steps"]].concat()).0, number);
     }
 }
 
@@ -119,41 +116,41 @@ fn file_recheck_list() {
     let path = place("book");
     let name = path.to_str().expect("text");
     // What is refused makes no file.
-    assert_eq!(said(&["file", name, "1", "0", "95", "1", "put"]).0, 2);
-    assert_eq!(said(&[&["file", name, "--limit", "20"], &SEVEN[..]].concat()).0, 7);
+    assert_eq!(output(&["file", name, "1", "0", "95", "1", "put"]).0, 2);
+    assert_eq!(output(&[&["file", name, "--limit", "20"], &SEVEN[..]].concat()).0, 7);
     assert!(!path.exists());
-    assert_eq!(said(&["file", name, "10", "100", "95", "1", "call"]).1, format!("record      0\n{SOLVED}"));
-    let (status, out, _) = said(&["file", name, "1", "100", "95", "1", "put", "--limit", "9"]);
+    assert_eq!(output(&["file", name, "10", "100", "95", "1", "call"]).1, format!("record      0\n{SOLUTION}"));
+    let (status, out, _) = output(&["file", name, "1", "100", "95", "1", "put", "--limit", "9"]);
     assert!(status == 0 && out.starts_with("record      1\n"));
     let mut book = fs::read(&path).expect("a book");
     assert_eq!((book.len(), book[40], book[64 + 40]), (128, 2, 9));
     assert_eq!(
-        said(&["recheck", name]),
+        output(&["recheck", name]),
         (0, "records     2\nagree       2\ndiffer      0\nrefused     0\n".to_owned(), String::new())
     );
-    let lines = said(&["list", name]).1;
+    let lines = output(&["list", name]).1;
     assert!(lines.starts_with("0 3FC7D1E857E3FCEB 2 2 2\n1 ") && lines.lines().count() == 2);
 
     // A refusal, then a difference beside it, then a part at the end, which no record can follow.
     book.extend(record([1.0, 1.0, 1.0, 0.0], 2, 1));
     book.extend(record([1.0, 1.0, 1.0, 0.0], 2, 3));
     fs::write(&path, &book).expect("written");
-    let (status, out, _) = said(&["recheck", name]);
+    let (status, out, _) = output(&["recheck", name]);
     assert_eq!(status, 4);
     assert!(out.contains("\nrefused     2\n  with 4    1  (the first is record 2): the expiry is not"), "{out}");
     assert!(out.contains("\n  with 24   1  (the first is record 3): the record's kind"), "{out}");
     book[64 + 32] ^= 1;
     book.extend([0; 63]);
     fs::write(&path, &book).expect("written");
-    let (status, out, _) = said(&["recheck", name]);
+    let (status, out, _) = output(&["recheck", name]);
     assert_eq!(status, 1);
     assert!(out.starts_with("records     5\nagree       1\ndiffer      1  (records 1)\nrefused     3\n"), "{out}");
     assert!(out.contains("with 23   1  (the first is record 4): the file ends in a part under 64 bytes"), "{out}");
-    let (status, out, _) = said(&["list", name]);
+    let (status, out, _) = output(&["list", name]);
     assert!(status == 0 && out.ends_with("\n2 REF 4\n3 REF 24\n4 REF 23\n"), "{out}");
-    let (status, _, err) = said(&["file", name, "10", "100", "95", "1", "call"]);
+    let (status, _, err) = output(&["file", name, "10", "100", "95", "1", "call"]);
     assert!(status == 23 && err.contains("ends in a part of 63 bytes"), "{err}");
-    assert_eq!(said(&["file", name, "10", "100", "95", "0", "call"]).0, 4);
+    assert_eq!(output(&["file", name, "10", "100", "95", "0", "call"]).0, 4);
     assert_eq!(fs::read(&path).expect("a book"), book);
 }
 
@@ -165,14 +162,14 @@ fn listing_of_document_01() {
     fs::write(&path, rows.map(|row| record(row, 2, 1)).concat()).expect("written");
     let name = path.to_str().expect("text");
     let lines = "0 7FDFFFFFFFFFFFFF 0 0 0\n1 FFEFFFFFFFFFFFFF 0 0 0\n2 0000000000000000 0 0 0\n";
-    assert_eq!(said(&["list", name]), (0, lines.to_owned(), String::new()));
+    assert_eq!(output(&["list", name]), (0, lines.to_owned(), String::new()));
     // Their volatilities are not filed but 0: the third is right.
-    let (status, out, _) = said(&["recheck", name]);
+    let (status, out, _) = output(&["recheck", name]);
     assert_eq!(status, 1);
     assert!(out.contains("agree       1\ndiffer      2  (records 0, 1)\n"), "{out}");
     fs::write(&path, []).expect("written");
-    assert_eq!(said(&["list", name]), (0, String::new(), String::new()));
-    assert_eq!(said(&["recheck", name]).0, 0);
+    assert_eq!(output(&["list", name]), (0, String::new(), String::new()));
+    assert_eq!(output(&["recheck", name]).0, 0);
 }
 
 /// Ten differing records are named, and no more.
@@ -181,7 +178,7 @@ fn many_differ() {
     let path = place("many");
     let one = record([10.0, 100.0, 95.0, 1.0], 2, 1);
     fs::write(&path, one.repeat(1000)).expect("written");
-    let (status, out, err) = said(&["recheck", path.to_str().expect("text")]);
+    let (status, out, err) = output(&["recheck", path.to_str().expect("text")]);
     // Standard error is no terminal here, so there is no bar.
     assert_eq!((status, &*err), (1, ""));
     assert!(out.contains("differ      1000  (records 0, 1, 2, 3, 4, 5, 6, 7, 8, 9, ..)\n"), "{out}");
@@ -207,12 +204,12 @@ fn usage() {
         "recheck",
         "list one two",
     ] {
-        let (status, out, err) = said(&words(line));
+        let (status, out, err) = output(&words(line));
         assert_eq!((status, &*out), (64, ""), "{line}");
         assert!(err.starts_with("gintubalos: ") && err.ends_with("see gintubalos --help\n"), "{err}");
     }
     for line in ["--help", "-h", "help", "solve --help"] {
-        let (status, out, err) = said(&words(line));
+        let (status, out, err) = output(&words(line));
         assert_eq!((status, &*err), (0, ""));
         assert!(out.contains("0x3FF0000000000000") && out.contains("  24  the record's kind"), "{out}");
     }
@@ -222,12 +219,12 @@ fn usage() {
 fn no_file() {
     let path = place("missing");
     for command in ["recheck", "list"] {
-        let (status, out, err) = said(&[command, path.to_str().expect("text")]);
+        let (status, out, err) = output(&[command, path.to_str().expect("text")]);
         assert_eq!((status, &*out), (74, ""));
         assert!(err.contains("missing"), "{err}");
     }
     let folder = env!("CARGO_TARGET_TMPDIR");
     for line in [&["list", folder][..], &["recheck", folder], &["file", folder, "10", "100", "95", "1", "call"]] {
-        assert_eq!(said(line).0, 74);
+        assert_eq!(output(line).0, 74);
     }
 }

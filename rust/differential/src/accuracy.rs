@@ -1,12 +1,12 @@
 //! How far document 01's rules are from the truth, over the table that rust/accuracy/table.py writes. The rules are those
-//! of the reference, which the comparison holds equal to the proved functions.
+//! of `rust_over_rules`, which the comparison holds equal to the proved functions.
 
-use reference::elementary::{exp, ln};
-use reference::lets_be_rational::cody::optimized::erfc;
+use rust_over_rules::elementary::{exp, ln};
+use rust_over_rules::lets_be_rational::cody::optimized::erfc;
 use std::io::{stdin, BufRead};
 
-/// What was measured of one function, in units in the last place.
-struct Measured {
+/// What is measured of one function, in units in the last place.
+struct Measurement {
     name: String,
     points: u64,
     sum: f64,
@@ -39,21 +39,21 @@ fn rule(name: &str) -> Option<fn(f64) -> f64> {
     }
 }
 
-fn measure(line: &str, all: &mut Vec<Measured>) -> Option<()> {
+fn measure(line: &str, all: &mut Vec<Measurement>) -> Option<()> {
     let words: Vec<&str> = line.split_whitespace().collect();
     let [name, x, near, left] = words[..] else { return None };
     let x = u64::from_str_radix(x, 16).ok()?;
     let value = rule(name)?(f64::from_bits(x)).to_bits();
     let off = distance(value, u64::from_str_radix(near, 16).ok()?, left.parse().ok()?);
     let at = all.iter().position(|m| m.name == name).unwrap_or_else(|| {
-        all.push(Measured { name: name.to_string(), points: 0, sum: 0.0, most: -1.0, at: 0 });
+        all.push(Measurement { name: name.to_string(), points: 0, sum: 0.0, most: -1.0, at: 0 });
         all.len() - 1
     });
-    let measured = &mut all[at];
-    measured.points += 1;
-    measured.sum += off;
-    if off > measured.most {
-        (measured.most, measured.at) = (off, x);
+    let measurement = &mut all[at];
+    measurement.points += 1;
+    measurement.sum += off;
+    if off > measurement.most {
+        (measurement.most, measurement.at) = (off, x);
     }
     Some(())
 }

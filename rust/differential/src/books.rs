@@ -1,83 +1,89 @@
 //! file, recheck, read and relist's line beside document 01's model: the answer, and every byte of the book or the line.
 
 use crate::{
-    markets::{limit, market, Asked},
-    solves::{first_difference, fixed, pattern, word, Tally, LIMITS},
-    words::Words,
+    markets::{limit, random_question, Question},
+    solves::{first_difference, fixed_questions, pattern, word, LIMITS},
+    tally::Tally,
 };
 use gintubalos::bits as ours;
-use reference::book::{self, asked, record, Refused, RECORD};
-use reference::solver::solve;
+use random_words::Words;
+use rust_over_rules::book::{self, market_and_limit, record, Refusal, RECORD};
+use rust_over_rules::solver::solve;
 use std::hint::black_box;
 
 /// Whether a run of this limit is one to compare: a limit of many millions is only where the step test or a refusal cuts
 /// it short.
-fn is_bounded(of: Asked, limit: i32) -> bool {
+fn is_bounded(question: Question, limit: i32) -> bool {
     limit <= 200
-        || of.market().map_or(true, |market| solve(market, 200, None).answer.map_or(true, |found| found.ending != 2))
+        || question
+            .market()
+            .map_or(true, |market| solve(market, 200, None).answer.map_or(true, |found| found.ending != 2))
 }
 
 fn is_bounded_record(bytes: &[u8]) -> bool {
     let Some(bytes) = bytes.first_chunk::<RECORD>() else { return true };
-    let of = Asked {
+    let question = Question {
         floats: [0, 8, 16, 24].map(|at| u64::from_le_bytes(std::array::from_fn(|i| bytes[at + i]))),
         kind: bytes[48],
     };
-    asked(bytes).map_or(true, |(_, limit)| is_bounded(of, limit))
+    market_and_limit(bytes).map_or(true, |(_, limit)| is_bounded(question, limit))
 }
 
-fn shown(bytes: &[u8]) -> String {
+fn hex(bytes: &[u8]) -> String {
     bytes.iter().map(|byte| format!("{byte:02X}")).collect()
 }
 
-fn outcome(refused: Refused) -> u64 {
-    word(refused.number, 0, 0, refused.steps)
+fn outcome(refusal: Refusal) -> u64 {
+    word(refusal.number, 0, 0, refusal.steps)
 }
 
 // ---- comparisons
 
-fn file(tally: &mut Tally, of: Asked, limit: i32, old: &[u8], used: u64) {
-    let [price, forward, strike, expiry] = of.floats;
+fn file(tally: &mut Tally, question: Question, limit: i32, old: &[u8], used: u64) {
+    let [price, forward, strike, expiry] = question.floats;
     let mut book = old.to_vec();
-    let found = ours::file(price, forward, strike, expiry, of.kind, limit, &mut book, used);
+    let found = ours::file(price, forward, strike, expiry, question.kind, limit, &mut book, used);
     let mut expected_book = old.to_vec();
-    let expected = match of.market() {
+    let expected = match question.market() {
         Ok(market) => match book::file(market, limit, &mut expected_book, used) {
             // The word has no steps where it is filed: they stand in the book.
             Ok(count) => (count, 0),
-            Err(refused) => (0, outcome(refused)),
+            Err(refusal) => (0, outcome(refusal)),
         },
         Err(number) => (0, word(number, 0, 0, 0)),
     };
-    tally.take(found == expected && book == expected_book, || {
+    tally.count(found == expected && book == expected_book, || {
         let bytes = first_difference(&book, &expected_book);
         let len = old.len();
-        format!("file({}, {limit}, {len} bytes, {used}): {found:X?}, document 01 has {expected:X?}{bytes}", of.shown())
+        format!(
+            "file({}, {limit}, {len} bytes, {used}): {found:X?}, document 01 has {expected:X?}{bytes}",
+            question.text()
+        )
     });
 }
 
 fn recheck(tally: &mut Tally, old: &[u8], used: u64, k: u64) {
-    let lent = old.to_vec();
-    let found = ours::recheck(black_box(&lent), used, k);
+    let copy = old.to_vec();
+    let found = ours::recheck(black_box(&copy), used, k);
     let expected = match book::recheck(old, used, k) {
         Ok(agrees) => (u8::from(agrees), 0),
-        Err(refused) => (0, outcome(refused)),
+        Err(refusal) => (0, outcome(refusal)),
     };
-    tally.take(found == expected && black_box(&lent) == old, || {
-        let part = book::read(old, used, k).map_or(String::new(), shown);
+    tally.count(found == expected && black_box(&copy) == old, || {
+        let part = book::read(old, used, k).map_or(String::new(), hex);
         let len = old.len();
         format!("recheck({len} bytes, {used}, {k}) of {part}: {found:X?}, document 01 has {expected:X?}")
     });
 }
 
 fn read(tally: &mut Tally, old: &[u8], used: u64, k: u64) {
-    let lent = old.to_vec();
-    let found = ours::read(black_box(&lent), used, k);
+    let copy = old.to_vec();
+    let found = ours::read(black_box(&copy), used, k);
     let expected = match book::read(old, used, k) {
         Ok(part) => ((part.as_ptr() as usize - old.as_ptr() as usize) as u64, 0),
         Err(number) => (0, number),
     };
-    tally.take(found == expected && black_box(&lent) == old, || {
+    tally.count(found == expected && black_box(&copy) == old, || {
         let len = old.len();
         format!("read({len} bytes, {used}, {k}): {found:?}, document 01 has {expected:?}")
     });
@@ -94,12 +100,9 @@ fn line(tally: &mut Tally, index: u64, bytes: &[u8], len: usize) {
         expected = line.len();
         expected_out[..expected].copy_from_slice(line.as_bytes());
     }
-    tally.take(found == expected && out == expected_out, || {
-        let [ours, reference] = [&out, &expected_out].map(|out| out[..len.min(128)].escape_ascii().to_string());
-        format!(
-            "line({index}, {}, {len} bytes): {found} `{ours}`, document 01 has {expected} `{reference}`",
-            shown(bytes)
-        )
+    tally.count(found == expected && out == expected_out, || {
+        let [ours, rust] = [&out, &expected_out].map(|out| out[..len.min(128)].escape_ascii().to_string());
+        format!("line({index}, {}, {len} bytes): {found} `{ours}`, document 01 has {expected} `{rust}`", hex(bytes))
     });
 }
 
@@ -116,15 +119,15 @@ fn counts(slots: u64) -> Vec<u64> {
 const LENGTHS: [usize; 12] = [0, 1, 63, 64, 65, 127, 128, 129, 191, 192, 640, 703];
 
 /// The record that document 01 has for a market, or zeros where it is refused.
-fn filed(of: Asked, limit: i32) -> [u8; RECORD] {
-    let market = of.market().unwrap_or_else(|_| fixed()[0].market().expect("a kind"));
+fn record_of(question: Question, limit: i32) -> [u8; RECORD] {
+    let market = question.market().unwrap_or_else(|_| fixed_questions()[0].market().expect("a kind"));
     record(market, limit, &solve(market, limit, None)).unwrap_or([0; RECORD])
 }
 
 /// A limit for a solve without a trail.
-fn bounded_limit(words: &mut Words, of: Asked) -> i32 {
+fn bounded_limit(words: &mut Words, question: Question) -> i32 {
     let limit = limit(words);
-    if is_bounded(of, limit) {
+    if is_bounded(question, limit) {
         limit
     } else {
         2
@@ -133,12 +136,12 @@ fn bounded_limit(words: &mut Words, of: Asked) -> i32 {
 
 /// A record as it was filed, with one byte or more changed, or of other bytes altogether.
 fn any_record(words: &mut Words) -> [u8; RECORD] {
-    let of = market(words);
-    let limit = bounded_limit(words, of);
-    let mut bytes = filed(of, limit);
+    let question = random_question(words);
+    let limit = bounded_limit(words, question);
+    let mut bytes = record_of(question, limit);
     match words.below(8) {
         0..=2 => {}
-        3..=5 => bytes[words.below(64) as usize] = words.next() as u8,
+        3..=5 => bytes[words.below(64) as usize] = words.any() as u8,
         6 => {
             // What the layout leaves out, or just not.
             bytes[48] = words.below(4) as u8;
@@ -148,7 +151,7 @@ fn any_record(words: &mut Words) -> [u8; RECORD] {
         }
         _ => {
             for byte in &mut bytes[..48] {
-                *byte = words.next() as u8;
+                *byte = words.any() as u8;
             }
             bytes[48..].fill(0);
             bytes[48] = 1;
@@ -157,7 +160,7 @@ fn any_record(words: &mut Words) -> [u8; RECORD] {
     if is_bounded_record(&bytes) {
         bytes
     } else {
-        filed(of, 2)
+        record_of(question, 2)
     }
 }
 
@@ -178,7 +181,7 @@ fn used_and_k(words: &mut Words, book: &[u8]) -> (u64, u64) {
     let slots = slots(book);
     match words.below(8) {
         0 => (words.choice(&counts(slots)), words.choice(&counts(slots))),
-        1 => (words.next(), words.next()),
+        1 => (words.any(), words.any()),
         _ => {
             let used = words.below(slots + 1);
             (used, words.below(used + 1))
@@ -187,11 +190,11 @@ fn used_and_k(words: &mut Words, book: &[u8]) -> (u64, u64) {
 }
 
 pub fn file_random(words: &mut Words, tally: &mut Tally) {
-    let of = market(words);
-    let limit = bounded_limit(words, of);
-    let book = any_book(words, |words| std::array::from_fn(|_| words.next() as u8));
+    let question = random_question(words);
+    let limit = bounded_limit(words, question);
+    let book = any_book(words, |words| std::array::from_fn(|_| words.any() as u8));
     let used = if words.below(8) == 0 { words.choice(&counts(slots(&book))) } else { words.below(slots(&book) + 1) };
-    file(tally, of, limit, &book, used);
+    file(tally, question, limit, &book, used);
 }
 
 pub fn recheck_random(words: &mut Words, tally: &mut Tally) {
@@ -213,31 +216,31 @@ pub fn line_random(words: &mut Words, tally: &mut Tally) {
         1 => bytes.extend(pattern(words.below(70) as usize)),
         _ => {}
     }
-    let index = words.next() >> words.below(64);
+    let index = words.any() >> words.below(64);
     let len = words.choice(&[128, 128, 129, 200, 127, 0]);
     line(tally, index, &bytes, len);
 }
 
-/// The fixed markets and what is refused for an input.
-fn markets() -> Vec<Asked> {
-    let mut all = fixed();
+/// The fixed questions and what is refused for an input.
+fn questions() -> Vec<Question> {
+    let mut all = fixed_questions();
     let nan = f64::NAN;
     let refused = [[nan, nan, nan, nan], [1.0, 0.0, nan, 0.0], [1.0, 1.0, -1.0, nan], [1.0, 1.0, 1.0, f64::INFINITY]];
-    all.extend(refused.map(|floats| Asked::new(floats, 1)));
-    all.extend([0, 3, 255].map(|kind| Asked::new([1.0, 2.0, 3.0, 1.0], kind)));
+    all.extend(refused.map(|floats| Question::new(floats, 1)));
+    all.extend([0, 3, 255].map(|kind| Question::new([1.0, 2.0, 3.0, 1.0], kind)));
     all
 }
 
 pub fn file_edges(tally: &mut Tally) {
-    for of in markets() {
+    for question in questions() {
         for limit in LIMITS {
-            if is_bounded(of, limit) {
-                (0..2).for_each(|used| file(tally, of, limit, &pattern(2 * RECORD + 7), used));
+            if is_bounded(question, limit) {
+                (0..2).for_each(|used| file(tally, question, limit, &pattern(2 * RECORD + 7), used));
             }
         }
         for len in LENGTHS {
             for used in counts(len as u64 / 64) {
-                file(tally, of, 2, &pattern(len), used);
+                file(tally, question, 2, &pattern(len), used);
             }
         }
     }
@@ -247,8 +250,8 @@ pub fn file_edges(tally: &mut Tally) {
 /// of an answer are changed, and 24 comes for what the layout leaves out.
 pub fn recheck_edges(tally: &mut Tally) {
     // The limits in turn, since the changed bytes are many.
-    for (of, limit) in markets().into_iter().zip(LIMITS.into_iter().cycle()) {
-        let bytes = filed(of, if is_bounded(of, limit) { limit } else { 2 });
+    for (question, limit) in questions().into_iter().zip(LIMITS.into_iter().cycle()) {
+        let bytes = record_of(question, if is_bounded(question, limit) { limit } else { 2 });
         recheck(tally, &bytes, 1, 0);
         for i in 0..RECORD {
             let mut other = bytes;
@@ -260,7 +263,8 @@ pub fn recheck_edges(tally: &mut Tally) {
             }
         }
     }
-    let book: Vec<u8> = fixed().into_iter().take(10).flat_map(|of| filed(of, 2)).chain(pattern(63)).collect();
+    let book: Vec<u8> =
+        fixed_questions().into_iter().take(10).flat_map(|question| record_of(question, 2)).chain(pattern(63)).collect();
     for len in LENGTHS {
         for used in counts(len as u64 / 64) {
             for k in counts(len as u64 / 64) {
@@ -283,8 +287,8 @@ pub fn read_edges(tally: &mut Tally) {
 pub fn line_edges(tally: &mut Tally) {
     let powers = (0..20).map(|n| 10_u64.pow(n));
     let indices: Vec<u64> = powers.flat_map(|p| [p - 1, p]).chain([u64::MAX]).collect();
-    for of in markets() {
-        let mut bytes = filed(of, 200);
+    for question in questions() {
+        let mut bytes = record_of(question, 200);
         for &index in &indices {
             line(tally, index, &bytes, 128);
         }

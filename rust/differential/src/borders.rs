@@ -1,11 +1,11 @@
 //! The borders of the prices' regions: where they lie, and fixed inputs on them and beside them by single units.
 
 use crate::{
-    edges::{edges, moved, POINTS, PRICE_POINTS},
+    edges::{edges, neighbour, INFINITY, POINTS, PRICE_POINTS, SIGN},
     inputs::{power, wide, Arguments},
     sevens,
 };
-use reference::elementary::ln;
+use rust_over_rules::elementary::ln;
 use std::f64::consts::SQRT_2;
 
 /// Twice the sixteenth root of f64::EPSILON: the Taylor sum's region ends at this t.
@@ -49,14 +49,14 @@ pub const KINDS: [u64; 3] = [1, 2, 0];
 /// Each argument's values, which are compared in all combinations; inputs on borders; and those that stand in the list of
 /// samples, too.
 pub struct Edges {
-    pub combined: Vec<Vec<u64>>,
-    pub further: Vec<Arguments>,
-    pub kept: Vec<Arguments>,
+    pub values: Vec<Vec<u64>>,
+    pub borders: Vec<Arguments>,
+    pub samples: Vec<Arguments>,
 }
 
 impl Edges {
-    pub fn combined(combined: Vec<Vec<u64>>) -> Edges {
-        Edges { combined, further: Vec::new(), kept: Vec::new() }
+    pub fn of(values: Vec<Vec<u64>>) -> Edges {
+        Edges { values, borders: Vec::new(), samples: Vec::new() }
     }
 }
 
@@ -71,7 +71,7 @@ fn sizes() -> Vec<f64> {
 /// The two numbers and their neighbours by up to four units.
 fn beside(a: f64, b: f64, all: &mut Vec<[u64; 2]>) {
     for i in -4..=4 {
-        all.extend((-4..=4).map(|j| [moved(a.to_bits(), i), moved(b.to_bits(), j)]));
+        all.extend((-4..=4).map(|j| [neighbour(a.to_bits(), i), neighbour(b.to_bits(), j)]));
     }
 }
 
@@ -87,17 +87,18 @@ fn on_borders_of_money() -> Vec<[u64; 2]> {
 }
 
 pub fn money() -> Edges {
-    let values = edges(&PRICE_POINTS, 1);
-    let further = on_borders_of_money().into_iter().map(wide).collect();
-    Edges { combined: vec![values; 2], further, kept: sevens::MONEY.map(wide).to_vec() }
+    let borders = on_borders_of_money().into_iter().map(wide).collect();
+    Edges { values: vec![edges(&PRICE_POINTS, 1); 2], borders, samples: sevens::MONEY.map(wide).to_vec() }
 }
 
 pub fn money_and_kind() -> Edges {
-    let values = edges(&PRICE_POINTS, 1);
-    let further = on_borders_of_money().into_iter().flat_map(|[x, s]| [wide([x, s, 1]), wide([x, s, 2])]);
-    let kept = sevens::MONEY.into_iter().flat_map(|[x, s]| [wide([x, s, 1]), wide([x, s, 2])]);
-    let combined = vec![values.clone(), values, KINDS.to_vec()];
-    Edges { combined, further: further.collect(), kept: kept.collect() }
+    let floats = edges(&PRICE_POINTS, 1);
+    let with_kinds = |[x, s]: [u64; 2]| [wide([x, s, 1]), wide([x, s, 2])];
+    Edges {
+        values: vec![floats.clone(), floats, KINDS.to_vec()],
+        borders: on_borders_of_money().into_iter().flat_map(with_kinds).collect(),
+        samples: sevens::MONEY.into_iter().flat_map(with_kinds).collect(),
+    }
 }
 
 pub fn expansion() -> Edges {
@@ -109,14 +110,14 @@ pub fn expansion() -> Edges {
         }
         beside(-10.0, size, &mut all);
     }
-    let further = all.into_iter().map(wide).collect();
-    Edges { combined: vec![edges(&PRICE_POINTS, 1); 2], further, kept: Vec::new() }
+    let borders = all.into_iter().map(wide).collect();
+    Edges { values: vec![edges(&PRICE_POINTS, 1); 2], borders, samples: Vec::new() }
 }
 
 pub fn intrinsic() -> Edges {
     let mut values = edges(&PRICE_POINTS, 4);
     values.extend(edges(&POINTS, 2));
-    Edges::combined(vec![values, KINDS.to_vec()])
+    Edges::of(vec![values, KINDS.to_vec()])
 }
 
 /// Prices that are refused or just not, and usual ones.
@@ -152,29 +153,26 @@ pub fn market() -> Edges {
     let largest = f64::MAX.to_bits();
     let mut sigmas: Vec<u64> = [0.0, 1e-300, 0.01, 0.3, 5.0, f64::MAX].map(f64::to_bits).to_vec();
     sigmas.extend([1 << 63, 1, 0xBFE0 << 48, largest | 1 << 63, largest + 1, 0xFFF0 << 48, 0x7FF8 << 48]);
-    let mut further = Vec::new();
+    let mut borders = Vec::new();
     for (forward, strike) in [(100.0, 100.5), (100.0, 80.0), (1.0, 4000.0), (7.0, 1e9), (3e-5, 2e-9), (1e300, 1e-3)] {
         for expiry in [1.0, 0.25, 0.1, 17.0] {
             for border in VOLATILITY {
                 let sigma = border(ln(forward / strike).abs()) / f64::sqrt(expiry);
                 let at = |steps, kind| {
-                    let sigma = moved(sigma.to_bits(), steps);
+                    let sigma = neighbour(sigma.to_bits(), steps);
                     wide([forward.to_bits(), strike.to_bits(), sigma, expiry.to_bits(), kind])
                 };
-                further.extend((-20..=20).flat_map(|steps| [at(steps, 1), at(steps, 2)]));
+                borders.extend((-20..=20).flat_map(|steps| [at(steps, 1), at(steps, 2)]));
             }
         }
     }
-    let combined = vec![prices(), prices(), sigmas, prices(), KINDS.to_vec()];
     Edges {
-        combined,
-        further,
-        kept: in_order().into_iter().chain(sevens::MARKETS).chain(sevens::PRICED).map(wide).collect(),
+        values: vec![prices(), prices(), sigmas, prices(), KINDS.to_vec()],
+        borders,
+        samples: in_order().into_iter().chain(sevens::MARKETS).chain(sevens::PRICES).map(wide).collect(),
     }
 }
 
-const SIGN: u64 = 1 << 63;
-const INFINITY: u64 = 0x7FF0 << 48;
 const NAN: u64 = 0xFFF0_0000_0000_0001;
 
 pub fn cubic() -> Edges {
@@ -182,20 +180,11 @@ pub fn cubic() -> Edges {
     let largest = 4.056481920730334e31_f64.to_bits();
     let [half, one, two] = [0.5, 1.0, 2.0].map(f64::to_bits);
     let far = [0, half, one, INFINITY, INFINITY | SIGN, NAN, f64::MAX.to_bits()];
-    let rs: Vec<u64> = (-2..=2).map(|k| moved(largest, k)).chain([0, one, INFINITY, NAN, two | SIGN]).collect();
-    let widths = [0, one, INFINITY, NAN].into_iter().chain((-1..=1).map(|k| moved(epsilon, k)));
+    let rs: Vec<u64> = (-2..=2).map(|k| neighbour(largest, k)).chain([0, one, INFINITY, NAN, two | SIGN]).collect();
+    let widths = [0, one, INFINITY, NAN].into_iter().chain((-1..=1).map(|k| neighbour(epsilon, k)));
     let widths: Vec<u64> = widths.flat_map(|w| [w, w | SIGN]).collect();
     let few = vec![0, one, two | SIGN, NAN];
-    Edges::combined(vec![
-        far.to_vec(),
-        vec![0, one, INFINITY, NAN],
-        widths,
-        few.clone(),
-        few.clone(),
-        few.clone(),
-        few,
-        rs,
-    ])
+    Edges::of(vec![far.to_vec(), vec![0, one, INFINITY, NAN], widths, few.clone(), few.clone(), few.clone(), few, rs])
 }
 
 fn slopes() -> Vec<u64> {
@@ -205,7 +194,7 @@ fn slopes() -> Vec<u64> {
 }
 
 pub fn minimum() -> Edges {
-    Edges::combined(vec![slopes(), slopes(), slopes(), vec![0, 1, 2]])
+    Edges::of(vec![slopes(), slopes(), slopes(), vec![0, 1, 2]])
 }
 
 fn control_floats() -> Vec<Vec<u64>> {
@@ -220,11 +209,11 @@ fn control_floats() -> Vec<Vec<u64>> {
 pub fn control() -> Edges {
     let mut all = control_floats();
     all.push(vec![0, 1, 2]);
-    Edges::combined(all)
+    Edges::of(all)
 }
 
 pub fn convex() -> Edges {
     let mut all = control_floats();
     all.extend([vec![0, 1, 255], vec![0, 1, 2]]);
-    Edges::combined(all)
+    Edges::of(all)
 }

@@ -113,18 +113,18 @@ const NANS: [u64; 8] = [
     0xFFFF_FFFF_FFFF_FFFF,
 ];
 
-const SIGN: u64 = 1 << 63;
-const INFINITY: u64 = 0x7FF0_0000_0000_0000;
+pub const SIGN: u64 = 1 << 63;
+pub const INFINITY: u64 = 0x7FF0_0000_0000_0000;
 
 /// The bits that are `steps` units away, among those of one sign; no farther than zero and infinity.
-pub fn moved(bits: u64, steps: i64) -> u64 {
+pub fn neighbour(bits: u64, steps: i64) -> u64 {
     let size = (bits & !SIGN) as i64;
     bits & SIGN | (size + steps).clamp(0, INFINITY as i64) as u64
 }
 
 /// The points with their neighbours by up to `steps` units, of both signs, with the infinities and NaNs.
 pub fn edges(points: &[f64], steps: i64) -> Vec<u64> {
-    let mut sizes: Vec<u64> = points.iter().flat_map(|x| (-steps..=steps).map(|k| moved(x.to_bits(), k))).collect();
+    let mut sizes: Vec<u64> = points.iter().flat_map(|x| (-steps..=steps).map(|k| neighbour(x.to_bits(), k))).collect();
     sizes.push(INFINITY);
     with_signs(sizes)
 }
@@ -132,7 +132,7 @@ pub fn edges(points: &[f64], steps: i64) -> Vec<u64> {
 /// The multiples of 1/16 to 64 and their neighbours: where the smoothened exponentials and floor take their next value.
 pub fn sixteenths() -> Vec<u64> {
     let multiples = (0..1024).map(|k| f64::from(k) / 16.0);
-    let sizes = multiples.flat_map(|x| (-1..=1).map(move |k| moved(x.to_bits(), k))).collect();
+    let sizes = multiples.flat_map(|x| (-1..=1).map(move |k| neighbour(x.to_bits(), k))).collect();
     with_signs(sizes)
 }
 

@@ -3,12 +3,13 @@
 use crate::borders::{self, Edges};
 use crate::edges::{edges, sixteenths, POINTS};
 use crate::inputs::{exponent, fused, line, pair, positive, probability, square, whole, wide, Arguments};
-use crate::{prices as markets, words::Words};
+use crate::prices as markets;
 use gintubalos::bits as ours;
-use reference::elementary::{self, bits_of, NAN_BITS};
-use reference::lets_be_rational::{cody::optimized as cody, normal_distribution as normal};
-use reference::prices::{self, Side};
-use reference::OptionType;
+use random_words::Words;
+use rust_over_rules::elementary::{self, bits_of, NAN_BITS};
+use rust_over_rules::lets_be_rational::{cody::optimized as cody, normal_distribution as normal};
+use rust_over_rules::prices::{self, Side};
+use rust_over_rules::OptionType;
 
 /// Bits, and document 01's number of a refusal, 0 where there is none.
 pub type Answer = (u64, u8);
@@ -16,10 +17,10 @@ pub type Answer = (u64, u8);
 pub struct Function {
     pub name: &'static str,
     pub arguments: usize,
-    /// The proved function. It hands a NaN back with document 01's bits, or the comparison fails.
+    /// The proved function. A NaN has document 01's bits, or the comparison fails.
     pub ours: fn(Arguments) -> Answer,
     /// The Rust. Its NaNs are compared as document 01's.
-    pub reference: fn(Arguments) -> Answer,
+    pub rust: fn(Arguments) -> Answer,
     pub edges: fn() -> Edges,
     pub inputs: fn(&mut Words) -> Arguments,
     /// How many times a plain function's time this one takes.
@@ -27,35 +28,35 @@ pub struct Function {
 }
 
 /// What a function of either side returns, as an answer.
-trait Returned {
+trait ToAnswer {
     fn answer(self) -> Answer;
 }
 
-impl Returned for u64 {
+impl ToAnswer for u64 {
     fn answer(self) -> Answer {
         (self, 0)
     }
 }
 
-impl Returned for Answer {
+impl ToAnswer for Answer {
     fn answer(self) -> Answer {
         self
     }
 }
 
-impl Returned for f64 {
+impl ToAnswer for f64 {
     fn answer(self) -> Answer {
         (bits_of(self), 0)
     }
 }
 
-impl Returned for bool {
+impl ToAnswer for bool {
     fn answer(self) -> Answer {
         (self.into(), 0)
     }
 }
 
-impl Returned for Result<f64, u8> {
+impl ToAnswer for Result<f64, u8> {
     fn answer(self) -> Answer {
         self.map_or_else(|number| (NAN_BITS, number), f64::answer)
     }
@@ -85,13 +86,13 @@ fn choice(byte: u64) -> Result<bool, u8> {
 }
 
 macro_rules! function {
-    ($name:ident($($x:ident: $is:ident),*), $reference:path, $edges:expr, $inputs:expr, $cost:expr) => {
+    ($name:ident($($x:ident: $is:ident),*), $rust:path, $edges:expr, $inputs:expr, $cost:expr) => {
         Function {
             name: stringify!($name),
             arguments: [$(stringify!($x)),*].len(),
             ours: |[$($x,)* ..]| ours::$name($($x as _),*).answer(),
-            reference: |[$($x,)* ..]| {
-                let answer = || Ok($reference($($is($x)?),*).answer());
+            rust: |[$($x,)* ..]| {
+                let answer = || Ok($rust($($is($x)?),*).answer());
                 answer().unwrap_or_else(|number| Err(number).answer())
             },
             edges: $edges,
@@ -103,31 +104,31 @@ macro_rules! function {
 
 /// A function of one float.
 macro_rules! line {
-    ($name:ident, $reference:path, $inputs:expr, $cost:expr) => {
-        function!($name(x: float), $reference, ones, |w: &mut Words| [$inputs(w)], $cost)
+    ($name:ident, $rust:path, $inputs:expr, $cost:expr) => {
+        function!($name(x: float), $rust, ones, |w: &mut Words| [$inputs(w)], $cost)
     };
-    ($name:ident, $reference:path, $low:expr, $high:expr, $cost:expr) => {
-        line!($name, $reference, |w: &mut Words| line(w, $low, $high), $cost)
+    ($name:ident, $rust:path, $low:expr, $high:expr, $cost:expr) => {
+        line!($name, $rust, |w: &mut Words| line(w, $low, $high), $cost)
     };
 }
 
 fn ones() -> Edges {
-    Edges::combined(vec![[edges(&POINTS, 3), sixteenths()].concat()])
+    Edges::of(vec![[edges(&POINTS, 3), sixteenths()].concat()])
 }
 
 /// With the first floats at which erfc and the cdf are NaN, since y × 16 overflows, and the last ones before them.
 fn far() -> Edges {
     let first = [0x7FB0 << 48, 0x7FB6_A09E_667F_3BCC];
-    let kept = first.into_iter().flat_map(|x: u64| [x - 1, x]).flat_map(|x| [x, x | 1 << 63]);
-    Edges { kept: kept.map(|x| wide([x])).collect(), ..ones() }
+    let samples = first.into_iter().flat_map(|x: u64| [x - 1, x]).flat_map(|x| [x, x | 1 << 63]);
+    Edges { samples: samples.map(|x| wide([x])).collect(), ..ones() }
 }
 
 fn twos() -> Edges {
-    Edges::combined(vec![edges(&POINTS, 3); 2])
+    Edges::of(vec![edges(&POINTS, 3); 2])
 }
 
 fn threes() -> Edges {
-    Edges::combined(vec![edges(&POINTS, 1); 3])
+    Edges::of(vec![edges(&POINTS, 1); 3])
 }
 
 fn either_sign(words: &mut Words) -> [u64; 1] {
@@ -188,8 +189,8 @@ mod tests {
                 assert!(arguments[function.arguments..].iter().all(|x| *x == 0), "{}", function.name);
             }
             let edges = (function.edges)();
-            assert_eq!(edges.combined.len(), function.arguments, "{}", function.name);
-            for arguments in edges.further.into_iter().chain(edges.kept) {
+            assert_eq!(edges.values.len(), function.arguments, "{}", function.name);
+            for arguments in edges.borders.into_iter().chain(edges.samples) {
                 assert!(arguments[function.arguments..].iter().all(|x| *x == 0), "{}", function.name);
             }
         }

@@ -18,12 +18,13 @@ mod samples;
 mod search;
 mod sevens;
 mod solves;
-mod words;
+mod tally;
 
-use compare::{Found, Run};
-use functions::{Answer, Function, FUNCTIONS};
+use compare::Run;
+use functions::{Function, FUNCTIONS};
 use solves::{Part, PARTS, SOLVE};
 use std::{env, process::exit, thread};
+use tally::Tally;
 
 const USAGE: &str = "usage: differential [--quick] [--function NAME] [--inputs N] [--seed N] [--threads N]
        differential --search [--inputs N] [--seed N]
@@ -42,7 +43,7 @@ const INPUTS: u64 = 10_000_000;
 const QUICK: u64 = 2_000_000;
 
 /// What the command line asks for.
-struct Wanted {
+struct Options {
     quick: bool,
     samples: bool,
     search: bool,
@@ -62,9 +63,9 @@ fn number(word: Option<String>) -> u64 {
     word.and_then(|w| w.parse().ok()).unwrap_or_else(|| usage("a number is missing"))
 }
 
-fn wanted() -> Wanted {
+fn options() -> Options {
     let threads = thread::available_parallelism().map_or(1, |n| n.get() as u64);
-    let mut wanted = Wanted {
+    let mut options = Options {
         quick: false,
         samples: false,
         search: false,
@@ -77,32 +78,32 @@ fn wanted() -> Wanted {
     let mut words = env::args().skip(1);
     while let Some(word) = words.next() {
         match word.as_str() {
-            "--quick" => wanted.quick = true,
-            "--samples" => wanted.samples = true,
-            "--search" => wanted.search = true,
-            "--accuracy" => wanted.accuracy = true,
-            "--function" => wanted.function = words.next(),
-            "--inputs" => wanted.inputs = Some(number(words.next())),
-            "--seed" => wanted.seed = number(words.next()),
-            "--threads" => wanted.threads = number(words.next()).max(1),
+            "--quick" => options.quick = true,
+            "--samples" => options.samples = true,
+            "--search" => options.search = true,
+            "--accuracy" => options.accuracy = true,
+            "--function" => options.function = words.next(),
+            "--inputs" => options.inputs = Some(number(words.next())),
+            "--seed" => options.seed = number(words.next()),
+            "--threads" => options.threads = number(words.next()).max(1),
             _ => usage(&format!("`{word}` isn't known")),
         }
     }
-    wanted
+    options
 }
 
-impl Wanted {
-    fn names(&self, name: &str) -> bool {
-        self.function.as_ref().is_none_or(|wanted| wanted == name)
+impl Options {
+    fn wants(&self, name: &str) -> bool {
+        self.function.as_ref().is_none_or(|function| function == name)
     }
 
     fn functions(&self) -> Vec<&'static Function> {
-        FUNCTIONS.iter().filter(|f| self.names(f.name)).collect()
+        FUNCTIONS.iter().filter(|f| self.wants(f.name)).collect()
     }
 
     /// Those of layer 3.
     fn parts(&self) -> Vec<&'static Part> {
-        PARTS.iter().filter(|p| self.names(p.name)).collect()
+        PARTS.iter().filter(|p| self.wants(p.name)).collect()
     }
 
     fn run(&self, usual: u64) -> Run {
@@ -110,63 +111,47 @@ impl Wanted {
     }
 }
 
-fn shown((bits, number): Answer) -> String {
-    if number == 0 {
-        format!("{bits:016X}")
-    } else {
-        format!("{bits:016X} refused with {number}")
-    }
-}
-
-fn show(function: &Function, found: &Found) {
-    for d in &found.first {
-        let arguments: Vec<String> = d.arguments[..function.arguments].iter().map(|x| format!("{x:016X}")).collect();
-        let (ours, reference) = (shown(d.ours), shown(d.reference));
-        println!("{}({}): {ours}, the Rust has {reference}", function.name, arguments.join(", "));
-    }
-}
-
 fn main() {
-    let wanted = wanted();
-    let Some(source) = reference::SOURCE else {
+    let options = options();
+    let Some(source) = rust_over_rules::SOURCE else {
         println!("no Rust source: comparison not run");
         exit(3);
     };
-    if wanted.accuracy {
+    if options.accuracy {
         exit(if accuracy::report() { 0 } else { 2 });
     }
-    if wanted.samples {
+    if options.samples {
         samples::write();
         exit(0);
     }
-    println!("Rust source {source}, seed {}", wanted.seed);
-    if wanted.search {
-        exit(i32::from(!search::search(wanted.seed, wanted.inputs.unwrap_or(INPUTS))));
+    println!("Rust source {source}, seed {}", options.seed);
+    if options.search {
+        exit(i32::from(!search::search(options.seed, options.inputs.unwrap_or(INPUTS))));
     }
-    let (functions, parts) = (wanted.functions(), wanted.parts());
+    let (functions, parts) = (options.functions(), options.parts());
     if functions.is_empty() && parts.is_empty() {
         usage("there is no such function");
     }
-    let (mut compared, mut different) = (0, 0);
+    let (mut comparisons, mut differences) = (0, 0);
+    let mut add = |tally: &Tally| {
+        tally.lines.iter().for_each(|line| println!("{line}"));
+        comparisons += tally.comparisons;
+        differences += tally.differences;
+    };
     for function in functions {
         // In a quick run a slow function has fewer inputs.
-        let found = wanted.run(if wanted.quick { QUICK / function.cost } else { INPUTS }).function(function);
-        show(function, &found);
-        compared += found.compared;
-        different += found.different;
+        add(&options.run(if options.quick { QUICK / function.cost } else { INPUTS }).function(function));
     }
     let mut missing = Vec::new();
     for part in parts {
-        let found = part.run(&wanted.run(if wanted.quick { part.quick } else { part.inputs }));
-        found.first.iter().for_each(|line| println!("{line}"));
-        compared += found.compared;
-        different += found.different;
+        let tally = part.run(&options.run(if options.quick { part.quick } else { part.inputs }));
+        add(&tally);
         if part.name == SOLVE {
-            found.table();
-            missing = found.missing();
+            tally.print_solves();
+            missing = tally.missing();
         }
     }
     missing.iter().for_each(|what| println!("no solve met this: {what}"));
-    println!("{compared} compared, {different} differences");
-    exit(i32::from(different != 0 || !missing.is_empty()));
+    println!("{comparisons} compared, {differences} differences");
+    exit(i32::from(differences != 0 || !missing.is_empty()));
 }

@@ -3,48 +3,48 @@
 
 use crate::{
     borders::{Border, EXPANSION, MONEYNESS, VOLATILITY},
-    edges::{moved, PRICE_POINTS},
-    inputs::{float, near, uniform, SIGN},
-    words::Words,
+    edges::{neighbour, PRICE_POINTS, SIGN},
+    inputs::{float, near},
 };
-use reference::elementary::{exp, ln};
+use random_words::Words;
+use rust_over_rules::elementary::{exp, ln};
 
 /// A few units up or down.
 pub fn beside(words: &mut Words, x: f64) -> u64 {
-    moved(x.to_bits(), words.between(-4, 4))
+    neighbour(x.to_bits(), words.between(-4, 4))
 }
 
 fn near_a_price_point(words: &mut Words) -> u64 {
     let x = words.choice(&PRICE_POINTS);
-    near(words, x) | (words.next() & SIGN)
+    near(words, x) | (words.any() & SIGN)
 }
 
 /// Above 0, every power of two from 2^low to 2^high with the same part.
 pub fn log_uniform(words: &mut Words, low: i64, high: i64) -> f64 {
     let exponent = (words.between(low, high) + 1023) as u64;
-    f64::from_bits(float(0, exponent, words.next()))
+    f64::from_bits(float(0, exponent, words.any()))
 }
 
 /// Zeros, subnormals, infinities, NaNs, negative numbers, and the ends of the normal numbers.
 pub fn special(words: &mut Words) -> u64 {
-    let fraction = words.next();
+    let fraction = words.any();
     let least = f64::MIN_POSITIVE.to_bits();
     let size = match words.below(7) {
         0 => 0,
         1 => (fraction >> 12) >> words.below(52),
         2 => f64::INFINITY.to_bits(),
         3 => float(0, 2047, fraction),
-        4 => moved(least, words.between(-2, 2)),
-        5 => moved(f64::MAX.to_bits(), words.between(-2, 1)),
-        _ => words.next(),
+        4 => neighbour(least, words.between(-2, 2)),
+        5 => neighbour(f64::MAX.to_bits(), words.between(-2, 1)),
+        _ => words.any(),
     };
-    size | (words.next() & SIGN)
+    size | (words.any() & SIGN)
 }
 
 /// x and s: out of the money mostly, as the functions map all else there.
 pub fn money(words: &mut Words) -> [u64; 2] {
     let [x, s] = match words.below(16) {
-        0 => [words.next(), words.next()],
+        0 => [words.any(), words.any()],
         1 => [near_a_price_point(words), near_a_price_point(words)],
         2 => [special(words), log_uniform(words, -30, 4).to_bits()],
         3 => [(-log_uniform(words, -30, 4)).to_bits(), special(words)],
@@ -60,17 +60,17 @@ pub fn money(words: &mut Words) -> [u64; 2] {
         10 => {
             // 0.5 s at the end of the Taylor sum's region.
             let s = beside(words, 0.42264973081037427);
-            [(-uniform(words, 0.0, 8.0)).to_bits(), s]
+            [(-words.uniform(0.0, 8.0)).to_bits(), s]
         }
         11 => {
             // Where the exponential of −h²/2 leaves the normal numbers and then all.
             let s = log_uniform(words, -20, 2);
-            [(-s * uniform(words, 37.0, 39.0)).to_bits(), s.to_bits()]
+            [(-s * words.uniform(37.0, 39.0)).to_bits(), s.to_bits()]
         }
         12 => [(-log_uniform(words, -1022, 0)).to_bits(), log_uniform(words, -10, 4).to_bits()],
         _ => {
             let s = log_uniform(words, -10, 3);
-            [(-s * uniform(words, 0.0, 16.0)).to_bits(), s.to_bits()]
+            [(-s * words.uniform(0.0, 16.0)).to_bits(), s.to_bits()]
         }
     };
     [if words.below(4) == 0 { x ^ SIGN } else { x }, s]
@@ -79,19 +79,19 @@ pub fn money(words: &mut Words) -> [u64; 2] {
 /// h and t of the expansions.
 pub fn expansion(words: &mut Words) -> [u64; 2] {
     match words.below(16) {
-        0 => [words.next(), words.next()],
+        0 => [words.any(), words.any()],
         1 => [near_a_price_point(words), near_a_price_point(words)],
         2 => [special(words), log_uniform(words, -30, 2).to_bits()],
         3 => [(-log_uniform(words, -30, 6)).to_bits(), special(words)],
         4..=8 => {
-            let h = -10.0 - if words.below(4) == 0 { log_uniform(words, -50, 9) } else { uniform(words, 0.0, 12.0) };
+            let h = -10.0 - if words.below(4) == 0 { log_uniform(words, -50, 9) } else { words.uniform(0.0, 12.0) };
             let border = words.choice(&EXPANSION);
             [beside(words, h), beside(words, border(h))]
         }
         9 => [near(words, -10.0), log_uniform(words, -12, 0).to_bits()],
-        10 => [(-uniform(words, 0.0, 40.0)).to_bits(), near(words, 0.21132486540518713)],
-        11..=13 => [(-uniform(words, 10.0, 40.0)).to_bits(), log_uniform(words, -20, 1).to_bits()],
-        _ => [uniform(words, -40.0, 12.0).to_bits(), log_uniform(words, -12, 3).to_bits()],
+        10 => [(-words.uniform(0.0, 40.0)).to_bits(), near(words, 0.21132486540518713)],
+        11..=13 => [(-words.uniform(10.0, 40.0)).to_bits(), log_uniform(words, -20, 1).to_bits()],
+        _ => [words.uniform(-40.0, 12.0).to_bits(), log_uniform(words, -12, 3).to_bits()],
     }
 }
 
@@ -112,12 +112,12 @@ pub fn money_and_kind(words: &mut Words) -> [u64; 3] {
 /// x beside the threshold of the Taylor sum, where the price has no other.
 pub fn intrinsic(words: &mut Words) -> [u64; 2] {
     let x = match words.below(8) {
-        0 | 1 => words.next(),
+        0 | 1 => words.any(),
         2 => near_a_price_point(words),
-        3 => near(words, 0.109375) | (words.next() & SIGN),
-        4 => log_uniform(words, -1022, 11).to_bits() | (words.next() & SIGN),
-        5 => log_uniform(words, -30, 0).to_bits() | (words.next() & SIGN),
-        _ => uniform(words, -20.0, 20.0).to_bits(),
+        3 => near(words, 0.109375) | (words.any() & SIGN),
+        4 => log_uniform(words, -1022, 11).to_bits() | (words.any() & SIGN),
+        5 => log_uniform(words, -30, 0).to_bits() | (words.any() & SIGN),
+        _ => words.uniform(-20.0, 20.0).to_bits(),
     };
     [x, kind(words)]
 }
@@ -131,14 +131,14 @@ pub fn forward_and_strike(words: &mut Words) -> (f64, f64) {
             let distance = log_uniform(words, -50, -3) * if words.below(2) == 0 { 1.0 } else { -1.0 };
             (forward, forward * (1.0 + distance))
         }
-        2 => (forward, forward * exp(uniform(words, -30.0, 30.0))),
+        2 => (forward, forward * exp(words.uniform(-30.0, 30.0))),
         3 => (log_uniform(words, -1022, 1023), log_uniform(words, -1022, 1023)),
-        _ => (forward, forward * exp(uniform(words, -10.0, 10.0))),
+        _ => (forward, forward * exp(words.uniform(-10.0, 10.0))),
     }
 }
 
 /// A market whose volatility lies at a border, which is given by the size of x out of the money.
-pub fn on(words: &mut Words, border: Border) -> [u64; 5] {
+pub fn market_on(words: &mut Words, border: Border) -> [u64; 5] {
     let (forward, strike) = forward_and_strike(words);
     let expiry = if words.below(4) == 0 { 1.0 } else { log_uniform(words, -9, 5) };
     let sigma = border(ln(forward / strike).abs()) / expiry.sqrt();
@@ -148,8 +148,8 @@ pub fn on(words: &mut Words, border: Border) -> [u64; 5] {
 
 pub fn market(words: &mut Words) -> [u64; 5] {
     match words.below(16) {
-        0 => [words.next(), words.next(), words.next(), words.next(), kind(words)],
-        1 => [words.next() & !SIGN, words.next() & !SIGN, words.next(), words.next() & !SIGN, kind(words)],
+        0 => [words.any(), words.any(), words.any(), words.any(), kind(words)],
+        1 => [words.any() & !SIGN, words.any() & !SIGN, words.any(), words.any() & !SIGN, kind(words)],
         2 => {
             // Some of the four have no price.
             let (forward, strike) = forward_and_strike(words);
@@ -161,19 +161,19 @@ pub fn market(words: &mut Words) -> [u64; 5] {
         }
         3..=6 => {
             let border = words.choice(&VOLATILITY);
-            on(words, border)
+            market_on(words, border)
         }
         7 | 8 => {
             // The asymptotic expansion's, where 7 comes.
             let border = words.choice(&VOLATILITY[..2]);
-            on(words, border)
+            market_on(words, border)
         }
         _ => {
             let (forward, strike) = forward_and_strike(words);
             let sigma = match words.below(8) {
-                0 => -uniform(words, 0.0, 1.0),
+                0 => -words.uniform(0.0, 1.0),
                 1 => log_uniform(words, -40, 6),
-                _ => uniform(words, 0.0, 2.0),
+                _ => words.uniform(0.0, 2.0),
             };
             let expiry = if words.below(8) == 0 { log_uniform(words, -40, 20) } else { log_uniform(words, -9, 5) };
             [forward.to_bits(), strike.to_bits(), sigma.to_bits(), expiry.to_bits(), kind(words)]
@@ -186,11 +186,11 @@ pub fn market(words: &mut Words) -> [u64; 5] {
 /// A number of the size that slopes and ordinates have, a zero, or any other.
 fn plain(words: &mut Words) -> u64 {
     match words.below(16) {
-        0 => words.next(),
+        0 => words.any(),
         1 => special(words),
         2 => (words.between(-3, 3) as f64).to_bits(),
-        3..=5 => log_uniform(words, -20, 20).to_bits() | (words.next() & SIGN),
-        _ => uniform(words, -4.0, 4.0).to_bits(),
+        3..=5 => log_uniform(words, -20, 20).to_bits() | (words.any() & SIGN),
+        _ => words.uniform(-4.0, 4.0).to_bits(),
     }
 }
 
@@ -199,13 +199,13 @@ fn ends(words: &mut Words) -> [u64; 2] {
     let left = match words.below(4) {
         0 => 0.0,
         1 => 1.0,
-        _ => uniform(words, -4.0, 4.0),
+        _ => words.uniform(-4.0, 4.0),
     };
     match words.below(8) {
         0 => [plain(words), plain(words)],
         1 => [left.to_bits(), beside(words, left)],
         2 => {
-            let width = beside(words, f64::EPSILON) | (words.next() & SIGN);
+            let width = beside(words, f64::EPSILON) | (words.any() & SIGN);
             if words.below(2) == 0 {
                 [0, width]
             } else {
@@ -218,7 +218,7 @@ fn ends(words: &mut Words) -> [u64; 2] {
 
 pub fn cubic(words: &mut Words) -> [u64; 8] {
     if words.below(16) == 0 {
-        return std::array::from_fn(|_| words.next());
+        return std::array::from_fn(|_| words.any());
     }
     let [x_l, x_r] = ends(words);
     let (low, high) = (f64::from_bits(x_l), f64::from_bits(x_r));
@@ -226,19 +226,19 @@ pub fn cubic(words: &mut Words) -> [u64; 8] {
         0 => plain(words),
         1 => beside(words, low),
         2 => beside(words, high),
-        _ => (low + (high - low) * uniform(words, -0.1, 1.1)).to_bits(),
+        _ => (low + (high - low) * words.uniform(-0.1, 1.1)).to_bits(),
     };
     let r = match words.below(8) {
         0 => plain(words),
         1 => beside(words, 4.056481920730334e31),
         2 => beside(words, -(1.0 - 1.4901161193847656e-8)),
         3 => log_uniform(words, 0, 110).to_bits(),
-        _ => uniform(words, -1.0, 20.0).to_bits(),
+        _ => words.uniform(-1.0, 20.0).to_bits(),
     };
     let mut all = [x, x_l, x_r, plain(words), plain(words), plain(words), plain(words), r];
     if words.below(32) == 0 {
         // Refused in the first three places, and only there.
-        all[words.below(8) as usize] = f64::INFINITY.to_bits() | (words.next() & SIGN);
+        all[words.below(8) as usize] = f64::INFINITY.to_bits() | (words.any() & SIGN);
     }
     all
 }
@@ -259,9 +259,9 @@ fn slopes(words: &mut Words, s: f64) -> [u64; 2] {
         2 => s.to_bits(),
         3 => (-s).to_bits(),
         4 => 0,
-        5 => (s + uniform(words, -2.0, 2.0)).to_bits(),
-        6 => (s * uniform(words, 0.0, 2.0)).to_bits(),
-        _ => uniform(words, -4.0, 4.0).to_bits(),
+        5 => (s + words.uniform(-2.0, 2.0)).to_bits(),
+        6 => (s * words.uniform(0.0, 2.0)).to_bits(),
+        _ => words.uniform(-4.0, 4.0).to_bits(),
     };
     [other(words), other(words)]
 }
@@ -275,7 +275,7 @@ pub fn minimum(words: &mut Words) -> [u64; 4] {
 /// The seven floats of the control parameters, with numerators and denominators that vanish.
 fn control_floats(words: &mut Words) -> [u64; 7] {
     if words.below(16) == 0 {
-        return std::array::from_fn(|_| words.next());
+        return std::array::from_fn(|_| words.any());
     }
     let [x_l, x_r] = ends(words);
     let (y_l, y_r) = (plain(words), plain(words));
@@ -285,7 +285,7 @@ fn control_floats(words: &mut Words) -> [u64; 7] {
         0 => plain(words),
         1 => (-(f64::from_bits(d_r) - f64::from_bits(d_l)) / h).to_bits(),
         2 => beside(words, -(f64::from_bits(d_r) - f64::from_bits(d_l)) / h),
-        _ => uniform(words, -4.0, 4.0).to_bits(),
+        _ => words.uniform(-4.0, 4.0).to_bits(),
     };
     [x_l, x_r, y_l, y_r, d_l, d_r, second]
 }

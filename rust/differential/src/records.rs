@@ -2,14 +2,14 @@
 //! the call leaves, so that a call has as many lines as it has words to look at.
 
 use crate::{
-    markets::{market, Asked},
+    markets::{random_question, Question},
     samples::line,
     sevens,
-    solves::fixed,
-    words::Words,
+    solves::fixed_questions,
 };
-use reference::{
-    book::{self, write_trail, Refused, RECORD},
+use random_words::Words;
+use rust_over_rules::{
+    book::{self, write_trail, Refusal, RECORD},
     elementary::bits_of,
     solver::{self, Market},
 };
@@ -36,55 +36,59 @@ fn limit_word(limit: i32) -> u64 {
 }
 
 /// The table's rows, solves that meet 7, and random markets; only the two kinds, since the program has no byte for one.
-fn markets(words: &mut Words) -> Vec<(Asked, Market)> {
-    let sevens = sevens::SOLVES.map(|[a, b, c, d, kind]| Asked { floats: [a, b, c, d], kind: kind as u8 });
-    let mut all: Vec<Asked> = fixed();
+fn markets(words: &mut Words) -> Vec<(Question, Market)> {
+    let sevens = sevens::SOLVES.map(|[a, b, c, d, kind]| Question { floats: [a, b, c, d], kind: kind as u8 });
+    let mut all: Vec<Question> = fixed_questions();
     all.truncate(16);
     all.extend(sevens);
-    all.extend(std::iter::repeat_with(|| market(words)).filter(|asked| asked.market().is_ok()).take(RANDOM));
-    all.into_iter().filter_map(|asked| Some((asked, asked.market().ok()?))).collect()
+    all.extend(
+        std::iter::repeat_with(|| random_question(words)).filter(|question| question.market().is_ok()).take(RANDOM),
+    );
+    all.into_iter().filter_map(|question| Some((question, question.market().ok()?))).collect()
 }
 
-fn solve(asked: Asked, market: Market, limit: i32, bytes: usize) {
+fn solve(question: Question, market: Market, limit: i32, bytes: usize) {
     let run = solver::solve(market, limit, Some(bytes));
     let mut trail = TRAIL;
     write_trail(&run.steps, &mut trail);
     let steps = u64::from(run.count());
     let (volatility, outcome, number) = match run.answer {
-        Ok(solved) => (bits_of(solved.volatility), u64::from(solved.branch) + 256 * u64::from(solved.ending), 0),
+        Ok(solution) => {
+            (bits_of(solution.volatility), u64::from(solution.branch) + 256 * u64::from(solution.ending), 0)
+        }
         Err(number) => (0, 0, number),
     };
-    let [a, b, c, d] = asked.floats;
-    let shown = |which: usize, bits: u64| {
-        let arguments = [a, b, c, d, asked.kind.into(), limit_word(limit), bytes as u64, which as u64, 0];
+    let [a, b, c, d] = question.floats;
+    let write = |which: usize, bits: u64| {
+        let arguments = [a, b, c, d, question.kind.into(), limit_word(limit), bytes as u64, which as u64, 0];
         line(SOLVE, arguments, (bits, number));
     };
-    shown(0, volatility);
-    shown(1, outcome + 65536 * steps);
+    write(0, volatility);
+    write(1, outcome + 65536 * steps);
     // every word of the records, and the one after them
-    (0..=6 * run.steps.len()).filter(|i| 8 * i + 8 <= TRAIL.len()).for_each(|i| shown(2 + i, word(&trail, i)));
+    (0..=6 * run.steps.len()).filter(|i| 8 * i + 8 <= TRAIL.len()).for_each(|i| write(2 + i, word(&trail, i)));
 }
 
-fn file(asked: Asked, market: Market, limit: i32, used: u64) {
+fn file(question: Question, market: Market, limit: i32, used: u64) {
     let mut after = BOOK;
     let (count, number) = match book::file(market, limit, &mut after, used) {
         Ok(count) => (count, 0),
-        Err(Refused { number, .. }) => (0, number),
+        Err(Refusal { number, .. }) => (0, number),
     };
-    let [a, b, c, d] = asked.floats;
-    let shown = |which: usize, bits: u64| {
-        line(FILE, [a, b, c, d, asked.kind.into(), limit_word(limit), used, which as u64, 0], (bits, number));
+    let [a, b, c, d] = question.floats;
+    let write = |which: usize, bits: u64| {
+        line(FILE, [a, b, c, d, question.kind.into(), limit_word(limit), used, which as u64, 0], (bits, number));
     };
-    shown(0, count);
+    write(0, count);
     // the slot's words, one before and one after them
     let slot = 8 * used.min(2) as usize;
-    (slot.saturating_sub(1)..slot + 9).for_each(|i| shown(1 + i, word(&after, i)));
+    (slot.saturating_sub(1)..slot + 9).for_each(|i| write(1 + i, word(&after, i)));
 }
 
 fn recheck(record: [u8; RECORD], k: u64) {
     let (bits, number) = match book::recheck(&record, 1, k) {
         Ok(agrees) => (agrees.into(), 0),
-        Err(Refused { number, .. }) => (0, number),
+        Err(Refusal { number, .. }) => (0, number),
     };
     let mut arguments = [0; 9];
     (0..8).for_each(|i| arguments[i] = word(&record, i));
@@ -119,17 +123,17 @@ fn read(used: u64, k: u64, which: u64) {
 pub fn write(seed: u64) {
     let mut words = Words::new(seed, "records", 0);
     let all = markets(&mut words);
-    for (i, &(asked, market)) in all.iter().enumerate() {
+    for (i, &(question, market)) in all.iter().enumerate() {
         let limit = LIMITS[i % LIMITS.len()];
         let enough = 48 * limit.max(0) as usize;
-        solve(asked, market, limit, enough);
+        solve(question, market, limit, enough);
         if i % 8 == 2 {
-            solve(asked, market, limit, enough - 1);
-            solve(asked, market, limit, enough + 9);
+            solve(question, market, limit, enough - 1);
+            solve(question, market, limit, enough + 9);
         }
     }
-    for (i, &(asked, market)) in all.iter().enumerate().step_by(6) {
-        file(asked, market, LIMITS[i % LIMITS.len()], [0, 1, 2, 1, 3, 4, 2, u64::MAX][i / 6 % 8]);
+    for (i, &(question, market)) in all.iter().enumerate().step_by(6) {
+        file(question, market, LIMITS[i % LIMITS.len()], [0, 1, 2, 1, 3, 4, 2, u64::MAX][i / 6 % 8]);
     }
     for (i, &(_, market)) in all.iter().enumerate().step_by(4) {
         rechecks(market, LIMITS[i % LIMITS.len()], i);

@@ -1,4 +1,4 @@
-//! The fixed list that crates/samples replays: answers of the reference, a line for each. The function's number in two
+//! The fixed list that crates/samples replays: answers of the Rust, a line for each. The function's number in two
 //! decimal digits, nine arguments and the answer's bits in sixteen hexadecimal digits each, and document 01's number of a
 //! refusal in two decimal digits, 00 where there is none.
 //!
@@ -9,9 +9,9 @@ use crate::{
     functions::{Answer, Function, FUNCTIONS},
     inputs::{wide, Arguments},
     records,
-    words::Words,
 };
-use reference::lets_be_rational::cody::optimized::erfc;
+use random_words::Words;
+use rust_over_rules::lets_be_rational::cody::optimized::erfc;
 
 /// Abramowitz and Stegun's table 7.1 and points of the far tail, as rust/accuracy/table.py writes them: x, erf x as
 /// printed (or a hyphen), the bits of x and of the float nearest to erfc x.
@@ -46,24 +46,24 @@ fn inputs(function: &Function) -> Vec<Arguments> {
     let mut all: Vec<Arguments> = Vec::new();
     for i in 0..EDGES {
         let mut arguments = [0; 9];
-        for (place, values) in edges.combined.iter().enumerate() {
+        for (place, values) in edges.values.iter().enumerate() {
             arguments[place] = words.choice(values);
         }
         arguments[0] = specials.get(i).copied().unwrap_or(arguments[0]);
         all.push(arguments);
     }
-    if !edges.further.is_empty() {
-        all.extend((0..BORDERS).map(|_| words.choice(&edges.further)));
+    if !edges.borders.is_empty() {
+        all.extend((0..BORDERS).map(|_| words.choice(&edges.borders)));
     }
     all.extend((0..RANDOM).map(|_| (function.inputs)(&mut words)));
-    all.extend(edges.kept);
+    all.extend(edges.samples);
     all
 }
 
 pub fn write() {
     published();
     for (i, function) in FUNCTIONS.iter().enumerate() {
-        inputs(function).into_iter().for_each(|a| line(i + 1, a, (function.reference)(a)));
+        inputs(function).into_iter().for_each(|a| line(i + 1, a, (function.rust)(a)));
     }
     records::write(SEED);
 }

@@ -4,30 +4,31 @@
 
 use crate::{
     borders::{Border, MONEYNESS, VOLATILITY},
-    edges::moved,
+    edges::neighbour,
     functions::{Answer, Function, FUNCTIONS},
     inputs::{wide, Arguments},
     markets::Terms,
-    prices::on,
-    solves::{solve, Tally},
-    words::Words,
+    prices::market_on,
+    solves::solve,
+    tally::Tally,
 };
-use reference::{book::STEP, elementary::ln, prices::normalised_black_call, solver};
+use random_words::Words;
+use rust_over_rules::{book::STEP, elementary::ln, prices::normalised_black_call, solver};
 
 /// So many units are stepped to either side.
 const STEPS: i64 = 12;
 /// So many refusals of a sort are shown.
-const SHOWN: u64 = 12;
+const MOST_LINES: u64 = 12;
 
-/// What a search of one function found.
+/// What a search of one function counts.
 #[derive(Default)]
-struct Found {
-    tried: u64,
-    refused: u64,
+struct Counts {
+    tries: u64,
+    refusals: u64,
     faults: u64,
 }
 
-fn named(name: &str) -> &'static Function {
+fn function(name: &str) -> &'static Function {
     FUNCTIONS.iter().find(|f| f.name == name).expect("it is in the table")
 }
 
@@ -36,58 +37,58 @@ fn line(function: &Function, arguments: Arguments, answer: Answer) {
     println!("{} {} {}", function.name, words.join(" "), answer.1);
 }
 
-impl Found {
-    /// Shows a refusal, up to SHOWN, and every fault.
-    fn take(&mut self, function: &Function, arguments: Arguments) {
+impl Counts {
+    /// Shows a refusal, up to MOST_LINES, and every fault.
+    fn count(&mut self, function: &Function, arguments: Arguments) {
         let answer = (function.ours)(arguments);
-        self.tried += 1;
-        let fault = answer != (function.reference)(arguments) || answer.1 != 0 && answer.1 != 7;
-        self.refused += u64::from(answer.1 == 7);
+        self.tries += 1;
+        let fault = answer != (function.rust)(arguments) || answer.1 != 0 && answer.1 != 7;
+        self.refusals += u64::from(answer.1 == 7);
         self.faults += u64::from(fault);
-        if fault || answer.1 == 7 && self.refused <= SHOWN {
+        if fault || answer.1 == 7 && self.refusals <= MOST_LINES {
             line(function, arguments, answer);
         }
     }
 
     fn report(&self, what: &str) {
-        println!("{what}: {} tried, {} refused with 7, {} faults", self.tried, self.refused, self.faults);
+        println!("{what}: {} tried, {} refused with 7, {} faults", self.tries, self.refusals, self.faults);
     }
 }
 
 /// Steps the volatility of markets over a border.
-fn markets(border: Border, kind: u64, words: &mut Words, tries: u64) -> Found {
-    let black = named("black");
-    let mut found = Found::default();
-    while found.tried < tries {
-        let [forward, strike, sigma, expiry, _] = on(words, border);
+fn markets(border: Border, kind: u64, words: &mut Words, tries: u64) -> Counts {
+    let black = function("black");
+    let mut counts = Counts::default();
+    while counts.tries < tries {
+        let [forward, strike, sigma, expiry, _] = market_on(words, border);
         // A quotient of forward and strike that is infinite or 0 has no border.
         if !(1e-300..1e300).contains(&f64::from_bits(sigma)) {
             continue;
         }
-        (-STEPS..=STEPS).for_each(|k| found.take(black, wide([forward, strike, moved(sigma, k), expiry, kind])));
+        (-STEPS..=STEPS).for_each(|k| counts.count(black, wide([forward, strike, neighbour(sigma, k), expiry, kind])));
     }
-    found
+    counts
 }
 
 /// Steps x over a border, or s where it is the border itself.
-fn money(border: Option<Border>, words: &mut Words, tries: u64) -> Found {
-    let call = named("normalised_black_call");
-    let mut found = Found::default();
-    while found.tried < tries {
-        let random = f64::from_bits((1020 + words.below(5)) << 52 | words.next() >> 12);
+fn money(border: Option<Border>, words: &mut Words, tries: u64) -> Counts {
+    let call = function("normalised_black_call");
+    let mut counts = Counts::default();
+    while counts.tries < tries {
+        let random = f64::from_bits((1020 + words.below(5)) << 52 | words.any() >> 12);
         let (x, s) = border.map_or((-random, VOLATILITY[2](random)), |x_of| (x_of(random), random));
         for k in -STEPS..=STEPS {
             let (x, s) = (x.to_bits(), s.to_bits());
-            found.take(call, wide(if border.is_some() { [moved(x, k), s] } else { [x, moved(s, k)] }));
+            counts.count(call, wide(if border.is_some() { [neighbour(x, k), s] } else { [x, neighbour(s, k)] }));
         }
     }
-    found
+    counts
 }
 
 /// A price at which solve's guess is this s, or the first after it: the guess grows with the price.
 fn price_of_guess(terms: &Terms, s: f64) -> u64 {
     let guess = |price| solver::solve(terms.at(price).market().ok()?, 1, None).steps.first().map(|step| step.s);
-    let price = terms.priced(s);
+    let price = terms.price(s);
     let (mut low, mut high) = ((0.5 * price).to_bits(), (2.0 * price).to_bits());
     while low + 1 < high {
         let middle = low + (high - low) / 2;
@@ -102,39 +103,39 @@ fn price_of_guess(terms: &Terms, s: f64) -> u64 {
 
 /// Looks for an s of this market at the second border at which the price is refused, then for prices at which solve comes
 /// to that s: those of its neighbours and what lies between, or, in the first step, those whose guess is there.
-fn solves(at_the_guess: bool, words: &mut Words, tries: u64) -> Found {
-    let mut found = Found::default();
-    while found.tried < tries {
+fn solves(at_the_guess: bool, words: &mut Words, tries: u64) -> Counts {
+    let mut counts = Counts::default();
+    while counts.tries < tries {
         let terms = Terms::any(words);
         let x = -ln(terms.forward / terms.strike).abs();
         let border = VOLATILITY[1](-x).to_bits();
-        let refused = (-STEPS..=STEPS).map(|k| moved(border, k));
-        let Some(s) = refused.into_iter().find(|s| normalised_black_call(x, f64::from_bits(*s)) == Err(7)) else {
+        let mut near = (-STEPS..=STEPS).map(|k| neighbour(border, k));
+        let Some(s) = near.find(|s| normalised_black_call(x, f64::from_bits(*s)) == Err(7)) else {
             continue;
         };
         let prices: Vec<u64> = if at_the_guess {
             let price = price_of_guess(&terms, f64::from_bits(s));
-            (-STEPS..=STEPS).map(|k| moved(price, k)).collect()
+            (-STEPS..=STEPS).map(|k| neighbour(price, k)).collect()
         } else {
-            let [low, high] = [-2, 2].map(|k| terms.priced(f64::from_bits(moved(s, k))));
+            let [low, high] = [-2, 2].map(|k| terms.price(f64::from_bits(neighbour(s, k))));
             (0..=2 * STEPS).map(|k| (low + (high - low) * (k as f64 / (2 * STEPS) as f64)).to_bits()).collect()
         };
-        let before = found.refused;
+        let before = counts.refusals;
         for price in prices {
-            let asked = terms.at(price);
+            let question = terms.at(price);
             let mut tally = Tally::default();
-            let came = solve(&mut tally, asked, 20, 20 * STEP);
-            found.tried += 1;
-            found.refused += u64::from(came.number == 7);
-            let fault = tally.different != 0 || came.number != 0 && came.number != 7;
-            found.faults += u64::from(fault);
+            let outcome = solve(&mut tally, question, 20, 20 * STEP);
+            counts.tries += 1;
+            counts.refusals += u64::from(outcome.number == 7);
+            let fault = tally.differences != 0 || outcome.number != 0 && outcome.number != 7;
+            counts.faults += u64::from(fault);
             // One of a market is enough.
-            if fault || came.number == 7 && found.refused == before + 1 && found.refused <= SHOWN {
-                println!("solve {} {came:?}", asked.shown());
+            if fault || outcome.number == 7 && counts.refusals == before + 1 && counts.refusals <= MOST_LINES {
+                println!("solve {} {outcome:?}", question.text());
             }
         }
     }
-    found
+    counts
 }
 
 /// Searches with this many inputs of each sort, and answers whether there was no fault.
@@ -148,16 +149,16 @@ pub fn search(seed: u64, tries: u64) -> bool {
             ("black, Put", markets(VOLATILITY[i], 2, &mut words, tries)),
             ("normalised_black_call", money(MONEYNESS[..2].get(i).copied(), &mut words, tries)),
         ];
-        for (what, found) in all {
-            found.report(&format!("{what}, {border}"));
-            faults += found.faults;
+        for (what, counts) in all {
+            counts.report(&format!("{what}, {border}"));
+            faults += counts.faults;
         }
     }
     // A solve takes longer than a price.
     for (what, at_the_guess) in [("solve", false), ("solve, the first step", true)] {
-        let found = solves(at_the_guess, &mut words, tries / 10);
-        found.report(what);
-        faults += found.faults;
+        let counts = solves(at_the_guess, &mut words, tries / 10);
+        counts.report(what);
+        faults += counts.faults;
     }
     faults == 0
 }

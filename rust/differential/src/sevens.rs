@@ -24,7 +24,7 @@ pub const MARKETS: [[u64; 5]; 15] = [
 
 /// Beside these there is a price: at a sigma of +0, and from the sigma on at which the region's test overflows.
 #[rustfmt::skip]
-pub const PRICED: [[u64; 5]; 2] = [
+pub const PRICES: [[u64; 5]; 2] = [
     [0x7E37_E43C_8800_759C, 0x01A5_6E1F_C2F8_F359, 0x0000_0000_0000_0000, 0x3FF0_0000_0000_0000, 1],
     [0x0010_0000_0000_0000, 0x7FEF_FFFF_FFFF_FFFF, 0xDFF6_A09E_667F_3BCD, 0x3FF0_0000_0000_0000, 1],
 ];
@@ -66,7 +66,7 @@ mod tests {
         for [forward, strike, sigma, expiry, kind] in MARKETS {
             assert_eq!(bits::black(forward, strike, sigma, expiry, kind as u8), (0x7FF8 << 48, 7));
         }
-        for [forward, strike, sigma, expiry, kind] in PRICED {
+        for [forward, strike, sigma, expiry, kind] in PRICES {
             assert_eq!(bits::black(forward, strike, sigma, expiry, kind as u8).1, 0);
         }
         for [x, s] in MONEY {

@@ -3,19 +3,19 @@
 use crate::{
     books,
     borders::{prices, KINDS},
-    compare::{combine, Run, SHOWN},
+    compare::{combine, Run},
     inputs::wide,
-    markets::{limit, market, Asked},
+    markets::{limit, random_question, Question},
     sevens,
-    words::Words,
+    tally::Tally,
 };
 use gintubalos::bits as ours;
-use reference::{
+use random_words::Words;
+use rust_over_rules::{
     book::{write_trail, STEP},
     elementary::{bits_of, NAN_BITS},
     solver,
 };
-use std::collections::BTreeMap;
 
 /// A function of layer 3: its name, its random inputs in a whole and in a quick run, and what compares it.
 pub struct Part {
@@ -35,14 +35,14 @@ pub const PARTS: [Part; 7] = [
         inputs: 200_000,
         quick: 20_000,
         edges: wrapper_edges,
-        random: |words, tally| wrapper(tally, market(words)),
+        random: |words, tally| wrapper(tally, random_question(words)),
     },
     Part {
         name: "solve_without_trail",
         inputs: 200_000,
         quick: 20_000,
-        edges: untrailed_edges,
-        random: |words, tally| untrailed(tally, market(words), limit(words).min(200)),
+        edges: without_trail_edges,
+        random: |words, tally| without_trail(tally, random_question(words), limit(words).min(200)),
     },
     Part { name: "file", inputs: 200_000, quick: 20_000, edges: books::file_edges, random: books::file_random },
     Part {
@@ -56,73 +56,6 @@ pub const PARTS: [Part; 7] = [
     Part { name: "line", inputs: 200_000, quick: 20_000, edges: books::line_edges, random: books::line_random },
 ];
 
-/// What came of a solve: number, branch, ending, and whether there was a step.
-type Came = (u8, u8, u8, bool);
-
-/// What a part of a run found. `came` counts the solves with a trail by what came of them.
-#[derive(Default)]
-pub struct Tally {
-    pub compared: u64,
-    pub different: u64,
-    pub first: Vec<String>,
-    came: BTreeMap<Came, u64>,
-}
-
-impl Tally {
-    /// Counts a comparison; `shown` is asked for where it fails.
-    pub fn take(&mut self, same: bool, shown: impl FnOnce() -> String) {
-        self.compared += 1;
-        if !same {
-            self.different += 1;
-            if self.first.len() < SHOWN {
-                self.first.push(shown());
-            }
-        }
-    }
-
-    pub fn add(&mut self, other: Tally) {
-        self.compared += other.compared;
-        self.different += other.different;
-        let room = SHOWN - self.first.len();
-        self.first.extend(other.first.into_iter().take(room));
-        for (came, count) in other.came {
-            *self.came.entry(came).or_default() += count;
-        }
-    }
-
-    fn count(&self, of: impl Fn(&Came) -> bool) -> u64 {
-        self.came.iter().filter(|(came, _)| of(came)).map(|(_, count)| count).sum()
-    }
-
-    /// The table of what was met.
-    pub fn table(&self) {
-        println!("solves by branch and ending (0 no loop, 1 step test, 2 limit), and by the number of a refusal:");
-        for (&(number, branch, ending, stepped), count) in &self.came {
-            let what = match number {
-                0 => format!("branch {branch}, ending {ending}"),
-                _ => format!("refused with {number}"),
-            };
-            println!("  {what}, {}: {count}", if stepped { "after steps" } else { "no step" });
-        }
-    }
-
-    /// What the inputs are to reach and did not. Branch 5 isn't among it: it needs a b_h below half of b_max, and the
-    /// reference's tests find none in a scan over x. Nor is 6: no input is known that gives the guess's cubic an infinite
-    /// abscissa. Both are compared where they come.
-    pub fn missing(&self) -> Vec<String> {
-        let endings = (1..5).flat_map(|branch| [(branch, 1), (branch, 2)]);
-        let endings = [(0, 0)].into_iter().chain(endings).filter_map(|(branch, ending)| {
-            let met = self.count(|came| (came.0, came.1, came.2) == (0, branch, ending));
-            (met == 0).then(|| format!("branch {branch} with ending {ending}"))
-        });
-        let numbers = [1, 2, 3, 4, 7, 21, 24].into_iter().filter_map(|number| {
-            let met = self.count(|came| came.0 == number);
-            (met == 0).then(|| format!("refusal {number}"))
-        });
-        endings.chain(numbers).collect()
-    }
-}
-
 /// Bytes that differ from place to place, so that one that is moved or left out shows.
 pub fn pattern(len: usize) -> Vec<u8> {
     (0..len).map(|i| (i as u8).wrapping_mul(167) ^ (i >> 8) as u8 ^ 0x5A).collect()
@@ -135,32 +68,38 @@ pub fn word(number: u8, branch: u8, ending: u8, steps: u32) -> u64 {
 
 fn answer(run: &solver::Run) -> (u64, u64) {
     match run.answer {
-        Ok(solved) => (bits_of(solved.volatility), word(0, solved.branch, solved.ending, run.count())),
+        Ok(solution) => (bits_of(solution.volatility), word(0, solution.branch, solution.ending, run.count())),
         Err(number) => (NAN_BITS, word(number, 0, 0, run.count())),
     }
 }
 
-fn shown((bits, outcome): (u64, u64)) -> String {
+fn text((bits, outcome): (u64, u64)) -> String {
     format!("{bits:016X} {:?}", ours::Outcome::from(outcome))
 }
 
 /// Where two strings of bytes first differ.
-pub fn first_difference(ours: &[u8], reference: &[u8]) -> String {
-    match ours.iter().zip(reference).position(|(a, b)| a != b) {
-        Some(i) => format!(", byte {i}: {:02X} and {:02X}", ours[i], reference[i]),
+pub fn first_difference(ours: &[u8], rust: &[u8]) -> String {
+    match ours.iter().zip(rust).position(|(a, b)| a != b) {
+        Some(i) => format!(", byte {i}: {:02X} and {:02X}", ours[i], rust[i]),
         None => String::new(),
     }
 }
 
 /// Compares one solve with a trail of so many bytes, and gives what the Rust has.
-pub fn solve(tally: &mut Tally, asked: Asked, limit: i32, len: usize) -> ours::Outcome {
-    let [price, forward, strike, expiry] = asked.floats;
+pub fn solve(tally: &mut Tally, question: Question, limit: i32, len: usize) -> ours::Outcome {
+    let [price, forward, strike, expiry] = question.floats;
     let mut trail = pattern(len);
     let found = ours::implied_volatility_from_a_transformed_rational_guess_with_limited_iterations(
-        price, forward, strike, expiry, asked.kind, limit, &mut trail,
+        price,
+        forward,
+        strike,
+        expiry,
+        question.kind,
+        limit,
+        &mut trail,
     );
     let mut expected_trail = pattern(len);
-    let expected = match asked.market() {
+    let expected = match question.market() {
         Ok(market) => {
             let run = solver::solve(market, limit, Some(len));
             write_trail(&run.steps, &mut expected_trail);
@@ -168,41 +107,43 @@ pub fn solve(tally: &mut Tally, asked: Asked, limit: i32, len: usize) -> ours::O
         }
         Err(number) => (NAN_BITS, word(number, 0, 0, 0)),
     };
-    let came = ours::Outcome::from(expected.1);
-    *tally.came.entry((came.number, came.branch, came.ending, came.steps > 0)).or_default() += 1;
-    tally.take(found == expected && trail == expected_trail, || {
-        let (found, expected) = (shown(found), shown(expected));
+    let outcome = ours::Outcome::from(expected.1);
+    let case = (outcome.number, outcome.branch, outcome.ending, outcome.steps > 0);
+    *tally.cases.entry(case).or_default() += 1;
+    tally.count(found == expected && trail == expected_trail, || {
+        let (found, expected) = (text(found), text(expected));
         let bytes = first_difference(&trail, &expected_trail);
-        format!("{SOLVE}({}, {limit}, {len} bytes): {found}, the Rust has {expected}{bytes}", asked.shown())
+        format!("{SOLVE}({}, {limit}, {len} bytes): {found}, the Rust has {expected}{bytes}", question.text())
     });
-    came
+    outcome
 }
 
-fn wrapper(tally: &mut Tally, asked: Asked) {
-    let [price, forward, strike, expiry] = asked.floats;
-    let found = ours::implied_volatility_from_a_transformed_rational_guess(price, forward, strike, expiry, asked.kind);
-    let expected = match asked.market() {
+fn wrapper(tally: &mut Tally, question: Question) {
+    let [price, forward, strike, expiry] = question.floats;
+    let found =
+        ours::implied_volatility_from_a_transformed_rational_guess(price, forward, strike, expiry, question.kind);
+    let expected = match question.market() {
         Ok(market) => answer(&solver::implied_volatility_from_a_transformed_rational_guess(market)),
         Err(number) => (NAN_BITS, word(number, 0, 0, 0)),
     };
-    tally.take(found == expected, || {
-        let (found, expected) = (shown(found), shown(expected));
+    tally.count(found == expected, || {
+        let (found, expected) = (text(found), text(expected));
         let name = PARTS[1].name;
-        format!("{name}({}): {found}, the Rust has {expected}", asked.shown())
+        format!("{name}({}): {found}, the Rust has {expected}", question.text())
     });
 }
 
-fn untrailed(tally: &mut Tally, asked: Asked, limit: i32) {
-    let [price, forward, strike, expiry] = asked.floats;
-    let found = ours::solve_without_trail(price, forward, strike, expiry, asked.kind, limit);
-    let expected = match asked.market() {
+fn without_trail(tally: &mut Tally, question: Question, limit: i32) {
+    let [price, forward, strike, expiry] = question.floats;
+    let found = ours::solve_without_trail(price, forward, strike, expiry, question.kind, limit);
+    let expected = match question.market() {
         Ok(market) => answer(&solver::solve(market, limit, None)),
         Err(number) => (NAN_BITS, word(number, 0, 0, 0)),
     };
-    tally.take(found == expected, || {
-        let (found, expected) = (shown(found), shown(expected));
+    tally.count(found == expected, || {
+        let (found, expected) = (text(found), text(expected));
         let name = PARTS[2].name;
-        format!("{name}({}, {limit}): {found}, the Rust has {expected}", asked.shown())
+        format!("{name}({}, {limit}): {found}, the Rust has {expected}", question.text())
     });
 }
 
@@ -216,7 +157,7 @@ fn room(limit: i32) -> usize {
 }
 
 fn solve_random(words: &mut Words, tally: &mut Tally) {
-    let (asked, limit) = (market(words), limit(words));
+    let (question, limit) = (random_question(words), limit(words));
     let room = room(limit);
     let len = match words.below(64) {
         0 => room.saturating_sub(1),
@@ -225,11 +166,11 @@ fn solve_random(words: &mut Words, tally: &mut Tally) {
         3..=20 => room + words.below(2 * STEP as u64) as usize,
         _ => room,
     };
-    solve(tally, asked, limit, len);
+    solve(tally, question, limit, len);
 }
 
 /// P1 to P6, and a market of each branch whose run ends for the step test and one whose run doesn't.
-pub fn fixed() -> Vec<Asked> {
+pub fn fixed_questions() -> Vec<Question> {
     let rows = [
         ([150.0, 100.0, 200.0, 4.0], 1),
         ([99.0, 200.0, 100.0, 1.0], 1),
@@ -238,18 +179,18 @@ pub fn fixed() -> Vec<Asked> {
         ([100.0, 200.0, 100.0, 4.0], 1),
         ([-0.0, 100.0, 100.0, 1.0], 2),
     ];
-    let mut all: Vec<Asked> = rows.into_iter().map(|(floats, kind)| Asked::new(floats, kind)).collect();
+    let mut all: Vec<Question> = rows.into_iter().map(|(floats, kind)| Question::new(floats, kind)).collect();
     // Some parts of the cap, in the money and out of it.
     for (forward, strike) in [(100.0, 100.0), (100.0, 103.0), (100.0, 150.0), (7.0, 2.0), (1.0, 4000.0), (3e-5, 2e-9)] {
         for part in [1e-300, 1e-30, 1e-9, 0.001, 0.01, 0.05, 0.1, 0.2, 0.3, 0.4, 0.5, 0.6, 0.7, 0.8, 0.9, 0.99, 0.999] {
             for kind in [1, 2] {
                 let less: f64 = if kind == 1 { forward - strike } else { strike - forward };
                 let price = less.max(0.0) + forward.min(strike) * part;
-                all.push(Asked::new([price, forward, strike, 0.5], kind));
+                all.push(Question::new([price, forward, strike, 0.5], kind));
             }
         }
     }
-    all.extend(sevens::SOLVES.map(|[price, forward, strike, expiry, kind]| Asked {
+    all.extend(sevens::SOLVES.map(|[price, forward, strike, expiry, kind]| Question {
         floats: [price, forward, strike, expiry],
         kind: kind as u8,
     }));
@@ -257,7 +198,7 @@ pub fn fixed() -> Vec<Asked> {
 }
 
 /// Every combination of what is refused, or just not, and of usual and extreme values.
-fn combinations(mut each: impl FnMut(Asked)) {
+fn combinations(mut each: impl FnMut(Question)) {
     let further = [1e-10, 1e-3, 5.0, 50.0, 99.0, 150.0, 1e8].map(f64::to_bits);
     let market_prices: Vec<u64> =
         prices().into_iter().chain(further).chain([f64::MAX.to_bits() | 1 << 63, 0x8000_0000_0000_0001]).collect();
@@ -266,36 +207,36 @@ fn combinations(mut each: impl FnMut(Asked)) {
     let expiries = expiries.into_iter().chain(refused).collect();
     let values = [market_prices, prices(), prices(), expiries, KINDS.to_vec()];
     combine(&values, 0, &mut wide([]), &mut |[price, forward, strike, expiry, kind, ..]| {
-        each(Asked { floats: [price, forward, strike, expiry], kind: kind as u8 });
+        each(Question { floats: [price, forward, strike, expiry], kind: kind as u8 });
     });
 }
 
 fn solve_edges(tally: &mut Tally) {
-    combinations(|asked| {
+    combinations(|question| {
         for limit in LIMITS {
-            solve(tally, asked, limit, room(limit));
+            solve(tally, question, limit, room(limit));
         }
     });
-    for asked in fixed() {
+    for question in fixed_questions() {
         for limit in LIMITS {
             let room = room(limit);
             for len in [0, 1, room.saturating_sub(1), room, room + 1, room + STEP, room + 1000] {
-                solve(tally, asked, limit, len);
+                solve(tally, question, limit, len);
             }
         }
     }
 }
 
 fn wrapper_edges(tally: &mut Tally) {
-    combinations(|asked| wrapper(tally, asked));
-    fixed().into_iter().for_each(|asked| wrapper(tally, asked));
+    combinations(|question| wrapper(tally, question));
+    fixed_questions().into_iter().for_each(|question| wrapper(tally, question));
 }
 
 /// Limits up to 200: some runs never meet the step test.
-fn untrailed_edges(tally: &mut Tally) {
-    combinations(|asked| untrailed(tally, asked, 2));
-    for asked in fixed() {
-        LIMITS.into_iter().filter(|limit| *limit <= 200).for_each(|limit| untrailed(tally, asked, limit));
+fn without_trail_edges(tally: &mut Tally) {
+    combinations(|question| without_trail(tally, question, 2));
+    for question in fixed_questions() {
+        LIMITS.into_iter().filter(|limit| *limit <= 200).for_each(|limit| without_trail(tally, question, limit));
     }
 }
 
@@ -308,29 +249,20 @@ impl Part {
     pub fn run(&self, run: &Run) -> Tally {
         let mut tally = Tally::default();
         (self.edges)(&mut tally);
-        self.progress(&tally, "edge values");
-        let blocks = run.in_parts(run.inputs.div_ceil(BLOCK), |i| {
+        tally.print_progress(self.name, "edge values");
+        tally.add(run.in_parts(run.inputs.div_ceil(BLOCK), |i, tally| {
             let mut words = Words::new(run.seed, self.name, i);
-            let mut tally = Tally::default();
-            for _ in i * BLOCK..run.inputs.min((i + 1) * BLOCK) {
-                (self.random)(&mut words, &mut tally);
-            }
-            tally
-        });
-        blocks.into_iter().for_each(|block| tally.add(block));
-        self.progress(&tally, "random inputs");
+            (i * BLOCK..run.inputs.min((i + 1) * BLOCK)).for_each(|_| (self.random)(&mut words, tally));
+        }));
+        tally.print_progress(self.name, "random inputs");
         tally
-    }
-
-    fn progress(&self, tally: &Tally, what: &str) {
-        println!("{} {} {} different ({what})", self.name, tally.compared, tally.different);
     }
 }
 
 #[cfg(test)]
 mod tests {
     use super::*;
-    use reference::solver::is_long_enough;
+    use rust_over_rules::solver::is_long_enough;
 
     /// A trail of `room` bytes is long enough exactly where the limit isn't above 200.
     #[test]
@@ -349,10 +281,13 @@ mod tests {
     /// The fixed markets reach every branch, ending and refusal of a market that isn't refused for an input.
     #[test]
     fn fixed_inputs_reach_everything() {
+        if rust_over_rules::SOURCE.is_none() {
+            return;
+        }
         let mut tally = Tally::default();
-        for asked in fixed() {
+        for question in fixed_questions() {
             for limit in LIMITS {
-                solve(&mut tally, asked, limit, room(limit));
+                solve(&mut tally, question, limit, room(limit));
             }
         }
         // But for what the combinations have.

@@ -113,7 +113,7 @@ pub fn file(
     let [price, forward, strike, expiry] =
         [market_price, forward_price, strike_price, time_to_maturity].map(f64::to_bits);
     let (count, outcome) = bits::file(price, forward, strike, expiry, option_type as u8, max_iteration, book, used);
-    refused(outcome).map_or(Ok(count), Err)
+    refusal(outcome).map_or(Ok(count), Err)
 }
 
 /// Solves record `k` again, and says whether its volatility, steps, branch and ending are the same to the last bit. Refused
@@ -131,10 +131,10 @@ pub fn file(
 /// ```
 pub fn recheck(book: &[u8], used: u64, k: u64) -> Result<bool, Refusal> {
     let (agrees, outcome) = bits::recheck(book, used, k);
-    refused(outcome).map_or(Ok(agrees == 1), Err)
+    refusal(outcome).map_or(Ok(agrees == 1), Err)
 }
 
-fn refused(outcome: u64) -> Option<Refusal> {
+fn refusal(outcome: u64) -> Option<Refusal> {
     let bits::Outcome { number, steps, .. } = outcome.into();
     (number != 0).then_some(Refusal { number, steps })
 }

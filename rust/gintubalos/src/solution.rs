@@ -1,4 +1,4 @@
-//! solve: the wrapper with limit 2, with any limit, and with its steps laid open.
+//! solve: the wrapper with limit 2, with any limit, and with its steps.
 
 use crate::{bits, Branch, Ending, OptionType, Refusal};
 
@@ -52,7 +52,7 @@ impl Step {
 }
 
 /// What the archive answers in two words.
-pub(crate) fn answered((volatility, outcome): (u64, u64)) -> Result<Solution, Refusal> {
+fn to_solution((volatility, outcome): (u64, u64)) -> Result<Solution, Refusal> {
     let bits::Outcome { number, branch, ending, steps } = outcome.into();
     match number {
         0 => Ok(Solution {
@@ -85,7 +85,7 @@ pub fn implied_volatility_from_a_transformed_rational_guess(
 ) -> Result<f64, Refusal> {
     let [price, forward, strike, expiry] =
         [market_price, forward_price, strike_price, time_to_maturity].map(f64::to_bits);
-    answered(bits::implied_volatility_from_a_transformed_rational_guess(
+    to_solution(bits::implied_volatility_from_a_transformed_rational_guess(
         price,
         forward,
         strike,
@@ -119,7 +119,7 @@ pub fn implied_volatility_from_a_transformed_rational_guess_with_limited_iterati
 ) -> Result<Solution, Refusal> {
     let [price, forward, strike, expiry] =
         [market_price, forward_price, strike_price, time_to_maturity].map(f64::to_bits);
-    answered(bits::solve_without_trail(price, forward, strike, expiry, option_type as u8, max_iteration))
+    to_solution(bits::solve_without_trail(price, forward, strike, expiry, option_type as u8, max_iteration))
 }
 
 /// The same, with its steps written to the lent trail: step i's record is at byte 48 × i, and bytes after the last record
@@ -149,7 +149,7 @@ pub fn implied_volatility_from_a_transformed_rational_guess_with_trail(
 ) -> Result<Solution, Refusal> {
     let [price, forward, strike, expiry] =
         [market_price, forward_price, strike_price, time_to_maturity].map(f64::to_bits);
-    answered(bits::implied_volatility_from_a_transformed_rational_guess_with_limited_iterations(
+    to_solution(bits::implied_volatility_from_a_transformed_rational_guess_with_limited_iterations(
         price,
         forward,
         strike,
@@ -201,8 +201,8 @@ pub fn implied_volatility_from_a_transformed_rational_guess_step_by_step(
     option_type: OptionType,
     max_iteration: i32,
 ) -> Run {
-    // The run without a trail tells its steps. A limit of one more, within the caller's, has by demand 3 the same records
-    // and the same answer.
+    // The run without a trail gives the number of steps. A limit of one more, within the caller's, has by demand 3 the same
+    // records and the same answer.
     let first = implied_volatility_from_a_transformed_rational_guess_with_limited_iterations(
         market_price,
         forward_price,

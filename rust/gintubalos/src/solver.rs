@@ -197,7 +197,7 @@ pub fn read(book: &[u8], used: u64, k: u64) -> (u64, u8) {
     (at, number)
 }
 
-/// The length of relist's line, which is laid at the start of `out`; an `out` under 128 bytes stays, and the answer is 0.
+/// The length of relist's line, written at the start of `out`; an `out` under 128 bytes stays, and the answer is 0.
 pub fn line(index: u64, bytes: &[u8], out: &mut [u8]) -> usize {
     unsafe { archive::gintubalos_line(index, bytes.as_ptr(), bytes.len(), out.as_mut_ptr(), out.len()) }
 }

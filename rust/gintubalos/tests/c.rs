@@ -13,7 +13,7 @@ use std::{
 type Functions = BTreeMap<String, Vec<String>>;
 
 /// The exported functions of the crate `abi`, with the types that they have in C.
-fn exported() -> Functions {
+fn exports() -> Functions {
     let folder = Path::new(env!("CARGO_MANIFEST_DIR")).join("../../crates/abi/src");
     let mut functions = Functions::new();
     for entry in fs::read_dir(folder).expect("the sources of abi") {
@@ -21,9 +21,9 @@ fn exported() -> Functions {
         for part in text.split("pub extern \"C\" fn ").skip(1) {
             let (name, rest) = part.split_once('(').expect("arguments");
             let (arguments, rest) = rest.split_once(')').expect("their end");
-            let returned = rest.trim_start_matches(" ->").split_whitespace().next().expect("a type");
+            let result = rest.trim_start_matches(" ->").split_whitespace().next().expect("a type");
             let arguments = arguments.split(',').filter_map(|argument| argument.split_once(':'));
-            let types = [returned].into_iter().chain(arguments.map(|(_, t)| t.trim())).flat_map(in_c);
+            let types = [result].into_iter().chain(arguments.map(|(_, t)| t.trim())).flat_map(in_c);
             functions.insert(name.to_owned(), types.map(|t| t.to_string()).collect());
         }
     }
@@ -45,7 +45,7 @@ fn in_c(rattle: &str) -> &'static [&'static str] {
 }
 
 /// The functions that the header declares.
-fn declared() -> Functions {
+fn declarations() -> Functions {
     let text =
         fs::read_to_string(Path::new(env!("CARGO_MANIFEST_DIR")).join("include/gintubalos.h")).expect("a header");
     let mut code = String::new();
@@ -60,27 +60,27 @@ fn declared() -> Functions {
     let prototypes = code.split(';').filter_map(|prototype| prototype.split_once('('));
     prototypes
         .map(|(head, arguments)| {
-            let (returned, name) = typed(head.trim().trim_start_matches("extern \"C\" {"));
+            let (result, name) = typed(head.trim().trim_start_matches("extern \"C\" {"));
             let arguments = arguments.trim_end_matches(')').split(',').map(|argument| typed(argument.trim()).0);
-            (name, [returned].into_iter().chain(arguments).collect())
+            (name, [result].into_iter().chain(arguments).collect())
         })
         .collect()
 }
 
 #[test]
 fn header_and_archive_have_the_same_functions() {
-    let (exported, declared) = (exported(), declared());
-    assert!(exported.len() > 40 && exported.keys().all(|name| name.starts_with("gintubalos_")));
-    assert_eq!(declared, exported);
+    let (exports, declarations) = (exports(), declarations());
+    assert!(exports.len() > 40 && exports.keys().all(|name| name.starts_with("gintubalos_")));
+    assert_eq!(declarations, exports);
 }
 
 /// What the C program should print.
 fn expected() -> Vec<String> {
     let x = 0.75f64.to_bits();
     let [half, eighth] = [-0.5f64, 0.125].map(f64::to_bits);
-    let said = |name: &str, value: u64, number: u8| format!("{name} {value:016X} {number}");
+    let line = |name: &str, value: u64, number: u8| format!("{name} {value:016X} {number}");
     macro_rules! same {
-        ($($name:ident($($argument:expr),*))*) => { [$(said(stringify!($name), bits::$name($($argument),*), 0)),*] };
+        ($($name:ident($($argument:expr),*))*) => { [$(line(stringify!($name), bits::$name($($argument),*), 0)),*] };
     }
     let mut lines = Vec::new();
     lines.extend(same! {
@@ -95,19 +95,19 @@ fn expected() -> Vec<String> {
     let intrinsic = bits::normalised_intrinsic(1f64.to_bits(), 1).0;
     let refused = 0x7FF8 << 48;
     lines.extend([
-        said("mul_add", 10f64.to_bits(), 0),
-        said("normalised_intrinsic", intrinsic, 0),
-        said("normalised_black", call, 0),
-        said("normalised_black_call", call, 0),
-        said("small_t_expansion_of_normalised_black_call", refused, 8),
-        said("asymptotic_expansion_of_normalised_black_call", refused, 7),
-        said("rational_cubic_interpolation", 0.125f64.to_bits(), 0),
-        said("minimum_rational_cubic_control_parameter", 3f64.to_bits(), 0),
-        said("rational_cubic_control_parameter", 2.25f64.to_bits(), 0),
-        said("convex_rational_cubic_control_parameter", 3f64.to_bits(), 0),
-        said("black", 0x4025_0A01_494A_D7E2, 0),
-        said("black", refused, 4),
-        said("black", refused, 24),
+        line("mul_add", 10f64.to_bits(), 0),
+        line("normalised_intrinsic", intrinsic, 0),
+        line("normalised_black", call, 0),
+        line("normalised_black_call", call, 0),
+        line("small_t_expansion_of_normalised_black_call", refused, 8),
+        line("asymptotic_expansion_of_normalised_black_call", refused, 7),
+        line("rational_cubic_interpolation", 0.125f64.to_bits(), 0),
+        line("minimum_rational_cubic_control_parameter", 3f64.to_bits(), 0),
+        line("rational_cubic_control_parameter", 2.25f64.to_bits(), 0),
+        line("convex_rational_cubic_control_parameter", 3f64.to_bits(), 0),
+        line("black", 0x4025_0A01_494A_D7E2, 0),
+        line("black", refused, 4),
+        line("black", refused, 24),
     ]);
     let more = "wrapper 3FC7D1E857E3FCEB 0 2 2 2
 untrailed 3FC7D1E857E3FCEB 0 2 2 2
@@ -142,7 +142,7 @@ fn c_program() {
         }
         Err(error) => panic!("{error}"),
     }
-    let compiled = Command::new(&compiler)
+    let status = Command::new(&compiler)
         .args(["-std=c99", "-pedantic", "-Wall", "-Wextra", "-Werror", "-I"])
         .arg(here.join("include"))
         .arg(here.join("tests/c/calls.c"))
@@ -151,9 +151,9 @@ fn c_program() {
         .arg(&program)
         .status()
         .expect("the compiler starts");
-    assert!(compiled.success());
+    assert!(status.success());
     let output = Command::new(&program).output().expect("the program starts");
     assert!(output.status.success());
-    let said = String::from_utf8(output.stdout).expect("text");
-    assert_eq!(said.lines().collect::<Vec<_>>(), expected());
+    let text = String::from_utf8(output.stdout).expect("text");
+    assert_eq!(text.lines().collect::<Vec<_>>(), expected());
 }

@@ -139,7 +139,7 @@ fn books() {
     assert_eq!(records(&book, 10).unwrap_err().number, 23);
     assert_eq!(records(&book, u64::MAX).unwrap_err().number, 23);
     assert_eq!(records(&[], 0).map(|none| none.count()), Ok(0));
-    // What stands outside the layout is told as none, and refused.
+    // What stands outside the layout reads as none, and is refused.
     book[48..51].fill(9);
     let record = read(&book, 1, 0).expect("a slot");
     assert_eq!((record.kind(), record.branch(), record.ending()), (None, None, None));

@@ -1,4 +1,4 @@
-// What stands in where the source folder isn't at hand, so that the programs over it can be built and say so.
+// The text that is written where the source folder isn't at hand, so that the programs over it can be built and say so.
 
 pub mod inputs {
     #[derive(Debug, Clone, Eq, PartialEq, Copy)]

@@ -1,9 +1,9 @@
-//! Reads the Rust of the source folder and writes it, over document 01's elementary functions, to OUT_DIR/source.rs. The
-//! crate `published` has the same script, and leaves the source its own functions of std.
+//! For the build scripts of `rust_over_rules` and `rust_over_std`: reads the Rust of the source folder and writes it to
+//! OUT_DIR/source.rs.
 //!
 //! Nothing of the source stands in this repository. GINTUBALOS_RUST_SOURCE is the folder that has `src/lets_be_rational`;
-//! its default is `../shared/docs/src`, seen from the repository's root. Where it isn't there, the crate is built
-//! without `cfg(rust_source)`, and says so.
+//! its default is `../shared/docs/src`, seen from the repository's root. Where it isn't there, absent.rs is written in its
+//! place, `cfg(rust_source)` is not set, and a warning says so.
 //!
 //! Each file has the list of what is replaced in it, with the count. Another count stops the build, so that a changed
 //! source is noticed.
@@ -14,7 +14,17 @@ use std::{
     process::exit,
 };
 
+/// The functions that the source is written over.
+#[derive(Clone, Copy, PartialEq, Eq)]
+pub enum Over {
+    /// Std's, as the source has them.
+    Std,
+    /// Document 01's, with the calls that show the solver's steps or without them.
+    Rules { steps: bool },
+}
+
 const VARIABLE: &str = "GINTUBALOS_RUST_SOURCE";
+/// Seen from the crate that is built.
 const DEFAULT: &str = "../../../shared/docs/src";
 
 /// Methods of f64 that document 01 has rules for, and the trait methods that they go to. An inherent method wins over a
@@ -47,27 +57,27 @@ const NAMES: [(&str, &str); 5] = [
     ("use num_traits::", "use crate::num_traits::"),
 ];
 
-/// What keeps s before a step, and what hands the completed step on.
+/// What keeps s before a step, and what records the completed step.
 const BEFORE: &str = "let before = s; ";
-const AFTER: &str = " crate::steps::took(before, b, bp, s_left, s_right, s);";
+const AFTER: &str = " crate::steps::add_step(before, b, bp, s_left, s_right, s);";
 
-/// Where so_rational.rs is laid open: what is put before and after a piece of it, and how often the piece stands there. It
-/// computes what it did; `steps` sees the branch, the step test and each completed step.
+/// The calls that show the solver's steps: a piece of it, what is put before and after the piece, and how often the piece
+/// stands there. The solver computes what it did; `steps` gets the branch, the step test and each completed step.
 const HOOKS: [(&str, &str, &str, usize); 8] = [
-    ("s_right = s_l;", "", " crate::steps::branch(1);", 1),
-    ("s_left = s_l;", "", " crate::steps::branch(2);", 1),
-    ("s_left = s_c;", "", " crate::steps::branch(3);", 1),
+    ("s_right = s_l;", "", " crate::steps::set_branch(1);", 1),
+    ("s_left = s_l;", "", " crate::steps::set_branch(2);", 1),
+    ("s_left = s_c;", "", " crate::steps::set_branch(3);", 1),
     // The upper tail is branch 5 until the upper loop is chosen.
-    ("s_left = s_h;", "", " crate::steps::branch(5);", 1),
-    ("if beta > 0.5 * b_max {", "", " crate::steps::branch(4);", 1),
-    ("if ds.abs() <= f64::EPSILON * s {", "", " crate::steps::close();", 3),
+    ("s_left = s_h;", "", " crate::steps::set_branch(5);", 1),
+    ("if beta > 0.5 * b_max {", "", " crate::steps::set_branch(4);", 1),
+    ("if ds.abs() <= f64::EPSILON * s {", "", " crate::steps::set_close();", 3),
     ("s += ds.max(-0.5 * s);", BEFORE, AFTER, 2),
     ("s += ds;", BEFORE, AFTER, 1),
 ];
-const HOOKED: &str = "src/lets_be_rational/so_rational.rs";
+const SOLVER: &str = "src/lets_be_rational/so_rational.rs";
 
 /// Method calls that stay as they are: no arithmetic of std's is behind them.
-const KEPT: [&str; 5] = ["cdf", "inverse_cdf", "is_infinite", "pdf", "to_string"];
+const HARMLESS: [&str; 5] = ["cdf", "inverse_cdf", "is_infinite", "pdf", "to_string"];
 
 struct File {
     path: &'static str,
@@ -109,7 +119,7 @@ const FILES: [File; 6] = [
         names: [2, 2, 0, 0, 1],
     },
     File {
-        path: HOOKED,
+        path: SOLVER,
         module: "so_rational",
         methods: [7, 4, 5, 0, 9, 6, 0, 0, 0, 9, 1, 0, 4, 0, 0],
         names: [6, 9, 3, 0, 0],
@@ -126,7 +136,7 @@ const MOD: File = File {
 };
 
 /// The modules that mod.rs declares; they are written out inside it.
-const DECLARED: [&str; 6] = [
+const DECLARATIONS: [&str; 6] = [
     "\nmod black;",
     "\nmod cody;",
     "\nmod intrinsic;",
@@ -146,8 +156,8 @@ fn fail(what: &str) -> ! {
 fn replace(text: &str, path: &str, from: &str, to: &str, expected: usize) -> String {
     let count = text.matches(from).count();
     if count != expected {
-        let shown = from.trim();
-        fail(&format!("{path}: `{shown}` stands {count} times, expected {expected}: the source has changed"));
+        let piece = from.trim();
+        fail(&format!("{path}: `{piece}` stands {count} times, expected {expected}: the source has changed"));
     }
     text.replace(from, to)
 }
@@ -158,8 +168,8 @@ fn check_methods(text: &str, path: &str) {
         let rest = &text[at + 1..];
         let end = rest.find(|c: char| !(c.is_ascii_alphanumeric() || c == '_')).unwrap_or(rest.len());
         let name = &rest[..end];
-        let called = rest[end..].starts_with('(') && name.starts_with(|c: char| c.is_ascii_lowercase());
-        if called && !name.starts_with("rule_") && !KEPT.contains(&name) {
+        let is_call = rest[end..].starts_with('(') && name.starts_with(|c: char| c.is_ascii_lowercase());
+        if is_call && !name.starts_with("rule_") && !HARMLESS.contains(&name) {
             fail(&format!("{path}: the method `{name}` has no rule: the source has changed"));
         }
     }
@@ -174,53 +184,48 @@ fn read(root: &Path, file: &File) -> String {
     }
 }
 
-/// Whether the source is built as it was published, and not over document 01's rules.
-fn is_published() -> bool {
-    env::var("CARGO_PKG_NAME").as_deref() == Ok("published")
-}
-
-fn transformed(root: &Path, file: &File) -> String {
+fn transform(root: &Path, file: &File, over: Over) -> String {
     // A line feed in front, so that a first line is found as any other is.
     let mut text = format!("\n{}", read(root, file));
-    if file.path == HOOKED && env::var_os("CARGO_FEATURE_STEPS").is_some() {
+    if file.path == SOLVER && over == (Over::Rules { steps: true }) {
         for (piece, before, after, count) in HOOKS {
             text = replace(&text, file.path, piece, &format!("{before}{piece}{after}"), count);
         }
     }
     for (&(from, to), &count) in METHODS.iter().zip(&file.methods) {
-        // The counts are held to in either case.
-        text = replace(&text, file.path, from, if is_published() { from } else { to }, count);
+        // The counts are checked in either case.
+        text = replace(&text, file.path, from, if over == Over::Std { from } else { to }, count);
     }
     for (&(from, to), &count) in NAMES.iter().zip(&file.names) {
         text = replace(&text, file.path, from, to, count);
     }
-    if file.path != INPUTS.path && !is_published() {
+    if file.path != INPUTS.path && over != Over::Std {
         check_methods(&text, file.path);
     }
     text
 }
 
-fn module(file: &File, text: &str) -> String {
+fn module(file: &File, text: &str, over: Over) -> String {
     let allow = "#[allow(dead_code, unused_imports, unused_assignments, clippy::all)]";
-    let rules = if is_published() { "" } else { "use crate::{elementary::Rules, refusals::Expected};" };
+    let rules = if over == Over::Std { "" } else { "use crate::{elementary::Rules, refusals::Expect};" };
     format!("{allow}\npub mod {} {{\n    {rules}\n{text}\n}}\n", file.module)
 }
 
-fn source(root: &Path) -> String {
+fn source(root: &Path, over: Over) -> String {
     let mut inner = String::new();
     for file in &FILES {
-        let text = module(file, &transformed(root, file));
+        let text = module(file, &transform(root, file, over), over);
         // The source folder's own cody/mod.rs is not among the files: it only declares `optimized`.
         inner += &if file.module == "optimized" { format!("pub mod cody {{\n{text}}}\n") } else { text };
     }
-    let mut outer = transformed(root, &MOD);
-    for declared in DECLARED {
-        outer = replace(&outer, MOD.path, declared, "", 1);
+    let mut outer = transform(root, &MOD, over);
+    for declaration in DECLARATIONS {
+        outer = replace(&outer, MOD.path, declaration, "", 1);
     }
-    module(&INPUTS, &transformed(root, &INPUTS)) + &module(&MOD, &(outer + "\n" + &inner))
+    module(&INPUTS, &transform(root, &INPUTS, over), over) + &module(&MOD, &(outer + "\n" + &inner), over)
 }
 
-/// FNV-1a of the source as it was read: says in a run's output which text it was compared with.
+/// FNV-1a of the source as it is read: says in a run's output which text ours is compared with.
 fn fingerprint(root: &Path) -> u64 {
     let mut hash = 0xcbf2_9ce4_8422_2325_u64;
     for file in FILES.iter().chain([&INPUTS, &MOD]) {
@@ -231,22 +236,24 @@ fn fingerprint(root: &Path) -> u64 {
     hash
 }
 
-fn main() {
-    // Seen from either crate.
-    println!("cargo:rerun-if-changed=../reference/build.rs");
+/// Writes the source, and tells cargo what it depends on.
+pub fn write(over: Over) {
     println!("cargo:rerun-if-env-changed={VARIABLE}");
-    let here = PathBuf::from(env::var("CARGO_MANIFEST_DIR").expect("cargo sets it"));
-    let root = env::var_os(VARIABLE).map_or_else(|| here.join(DEFAULT), PathBuf::from);
+    println!("cargo:rustc-check-cfg=cfg(rust_source)");
+    let folder = |variable| PathBuf::from(env::var_os(variable).expect("cargo sets it"));
+    let root = env::var_os(VARIABLE).map_or_else(|| folder("CARGO_MANIFEST_DIR").join(DEFAULT), PathBuf::from);
     println!("cargo:rerun-if-changed={}", root.join(MOD.path).display());
-    if !root.join(MOD.path).is_file() {
+    let text = if root.join(MOD.path).is_file() {
+        println!("cargo:rustc-cfg=rust_source");
+        println!("cargo:rustc-env=GINTUBALOS_SOURCE_FINGERPRINT={:016X}", fingerprint(&root));
+        source(&root, over)
+    } else {
         println!(
             "cargo:warning=no Rust source: set {VARIABLE} to the folder that has {}; nothing can be compared",
             MOD.path
         );
-        return;
-    }
-    let out = PathBuf::from(env::var("OUT_DIR").expect("cargo sets it")).join("source.rs");
-    fs::write(&out, source(&root)).unwrap_or_else(|e| fail(&format!("{}: {e}", out.display())));
-    println!("cargo:rustc-cfg=rust_source");
-    println!("cargo:rustc-env=GINTUBALOS_SOURCE_FINGERPRINT={:016X}", fingerprint(&root));
+        include_str!("absent.rs").to_string()
+    };
+    let out = folder("OUT_DIR").join("source.rs");
+    fs::write(&out, text).unwrap_or_else(|e| fail(&format!("{}: {e}", out.display())));
 }

@@ -11,13 +11,13 @@ pub const RECORD: usize = 64;
 
 /// Document 01's number, and the completed steps.
 #[derive(Clone, Copy, Debug, PartialEq, Eq)]
-pub struct Refused {
+pub struct Refusal {
     pub number: u8,
     pub steps: u32,
 }
 
-fn refused(number: u8) -> Refused {
-    Refused { number, steps: 0 }
+fn refusal(number: u8) -> Refusal {
+    Refusal { number, steps: 0 }
 }
 
 /// Writes the records to the trail; the bytes after the last one stay.
@@ -51,10 +51,10 @@ pub fn kind_of(byte: u8) -> Option<OptionType> {
 }
 
 /// The record of a run that was not refused: all of its 64 bytes.
-pub fn record(market: Market, limit: i32, run: &Run) -> Result<[u8; RECORD], Refused> {
-    let solved = run.answer.map_err(|number| Refused { number, steps: run.count() })?;
+pub fn record(market: Market, limit: i32, run: &Run) -> Result<[u8; RECORD], Refusal> {
+    let solution = run.answer.map_err(|number| Refusal { number, steps: run.count() })?;
     let mut bytes = [0; RECORD];
-    let floats = [market.price, market.forward, market.strike, market.expiry, solved.volatility];
+    let floats = [market.price, market.forward, market.strike, market.expiry, solution.volatility];
     for (i, x) in floats.into_iter().enumerate() {
         put(&mut bytes, 8 * i, &bits_of(x).to_le_bytes());
     }
@@ -64,23 +64,23 @@ pub fn record(market: Market, limit: i32, run: &Run) -> Result<[u8; RECORD], Ref
         OptionType::Call => 1,
         OptionType::Put => 2,
     };
-    (bytes[49], bytes[50]) = (solved.branch, solved.ending);
+    (bytes[49], bytes[50]) = (solution.branch, solution.ending);
     Ok(bytes)
 }
 
 /// A record's market and limit, or 24.
-pub fn asked(record: &[u8; RECORD]) -> Result<(Market, i32), Refused> {
-    let kind = kind_of(record[48]).ok_or(refused(24))?;
+pub fn market_and_limit(record: &[u8; RECORD]) -> Result<(Market, i32), Refusal> {
+    let kind = kind_of(record[48]).ok_or(refusal(24))?;
     if record[49] > 5 || record[50] > 2 || record[51..].iter().any(|spare| *spare != 0) {
-        return Err(refused(24));
+        return Err(refusal(24));
     }
     let [price, forward, strike, expiry] = [0, 8, 16, 24].map(|at| float(record, at));
     Ok((Market { price, forward, strike, expiry, kind }, i32::from_le_bytes(get(record, 40))))
 }
 
 /// What the record's input answers now, as a record, and the record's numbers where it is refused.
-fn solved_again(old: &[u8; RECORD]) -> Result<[u8; RECORD], Refused> {
-    let (market, limit) = asked(old)?;
+fn solve_again(old: &[u8; RECORD]) -> Result<[u8; RECORD], Refusal> {
+    let (market, limit) = market_and_limit(old)?;
     record(market, limit, &solve(market, limit, None))
 }
 
@@ -89,15 +89,15 @@ fn slots(book: &[u8]) -> u64 {
 }
 
 /// Writes slot `used` and answers used + 1.
-pub fn file(market: Market, limit: i32, book: &mut [u8], used: u64) -> Result<u64, Refused> {
+pub fn file(market: Market, limit: i32, book: &mut [u8], used: u64) -> Result<u64, Refusal> {
     if let Some(number) = market.input_number() {
-        return Err(refused(number));
+        return Err(refusal(number));
     }
     if used > slots(book) {
-        return Err(refused(23));
+        return Err(refusal(23));
     }
     if used == slots(book) {
-        return Err(refused(22));
+        return Err(refusal(22));
     }
     let new = record(market, limit, &solve(market, limit, None))?;
     put(book, RECORD * used as usize, &new);
@@ -114,22 +114,22 @@ pub fn read(book: &[u8], used: u64, k: u64) -> Result<&[u8], u8> {
 }
 
 /// Whether record k's volatility, steps, branch and ending are what its input answers now.
-pub fn recheck(book: &[u8], used: u64, k: u64) -> Result<bool, Refused> {
-    let old: [u8; RECORD] = get(read(book, used, k).map_err(refused)?, 0);
-    let new = solved_again(&old)?;
+pub fn recheck(book: &[u8], used: u64, k: u64) -> Result<bool, Refusal> {
+    let old: [u8; RECORD] = get(read(book, used, k).map_err(refusal)?, 0);
+    let new = solve_again(&old)?;
     let compared = (32..40).chain(44..48).chain(49..51);
     Ok(compared.into_iter().all(|i| old[i] == new[i]))
 }
 
 /// relist's line of record number `index`, whose bytes these are: a last part may be short.
 pub fn line(index: u64, bytes: &[u8]) -> String {
-    let answer = if bytes.len() < RECORD { Err(refused(23)) } else { solved_again(&get(bytes, 0)) };
+    let answer = if bytes.len() < RECORD { Err(refusal(23)) } else { solve_again(&get(bytes, 0)) };
     match answer {
         Ok(new) => {
             let volatility = u64::from_le_bytes(get(&new, 32));
             let steps = u32::from_le_bytes(get(&new, 44));
             format!("{index} {volatility:016X} {steps} {} {}\n", new[49], new[50])
         }
-        Err(Refused { number, .. }) => format!("{index} REF {number}\n"),
+        Err(Refusal { number, .. }) => format!("{index} REF {number}\n"),
     }
 }

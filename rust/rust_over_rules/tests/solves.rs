@@ -1,12 +1,12 @@
-//! The reference's solve, trail, book and listing against document 01's own values and rules.
+//! The Rust's solve, trail, book and listing against document 01's own values and rules.
 
 #![cfg(rust_source)]
 
-use reference::book::{asked, file, kind_of, line, read, recheck, write_trail, Refused, RECORD, STEP};
-use reference::elementary::{bits_of, exp, sqrt};
-use reference::prices::{black, normalised_black_call, normalised_vega};
-use reference::solver::{implied_volatility_from_a_transformed_rational_guess, solve, Market, Run};
-use reference::OptionType::{self, Call, Put};
+use rust_over_rules::book::{file, kind_of, line, market_and_limit, read, recheck, write_trail, Refusal, RECORD, STEP};
+use rust_over_rules::elementary::{bits_of, exp, sqrt};
+use rust_over_rules::prices::{black, normalised_black_call, normalised_vega};
+use rust_over_rules::solver::{implied_volatility_from_a_transformed_rational_guess, solve, Market, Run};
+use rust_over_rules::OptionType::{self, Call, Put};
 
 fn market(price: f64, forward: f64, strike: f64, expiry: f64, kind: OptionType) -> Market {
     Market { price, forward, strike, expiry, kind }
@@ -19,8 +19,8 @@ fn priced(forward: f64, strike: f64, sigma: f64, expiry: f64, kind: OptionType) 
 
 /// Volatility bits, branch, ending and steps.
 fn answer(run: &Run) -> (u64, u8, u8, u32) {
-    let solved = run.answer.expect("it isn't refused");
-    (bits_of(solved.volatility), solved.branch, solved.ending, run.count())
+    let solution = run.answer.expect("it isn't refused");
+    (bits_of(solution.volatility), solution.branch, solution.ending, run.count())
 }
 
 fn number(run: &Run) -> u8 {
@@ -161,11 +161,11 @@ fn filing() {
     assert_eq!(book[48..51], [1, 1, 2]);
     for (used, k) in [(used, used), (17, 0), (u64::MAX, 0), (u64::MAX, u64::MAX - 1), (0, 0)] {
         assert_eq!(read(&book, used, k), Err(23));
-        assert_eq!(recheck(&book, used, k), Err(Refused { number: 23, steps: 0 }));
+        assert_eq!(recheck(&book, used, k), Err(Refusal { number: 23, steps: 0 }));
     }
     let market = of_branches()[0].1;
     let mut other = book.clone();
-    let of = |market, other: &mut Vec<u8>, used| file(market, 2, other, used).map_err(|refused| refused.number);
+    let of = |market, other: &mut Vec<u8>, used| file(market, 2, other, used).map_err(|refusal| refusal.number);
     assert_eq!(of(market, &mut other, 16), Err(22));
     assert_eq!(of(market, &mut other, 17), Err(23));
     assert_eq!(of(market, &mut other, u64::MAX), Err(23));
@@ -192,10 +192,10 @@ fn changed_bytes() {
                     32..=39 | 44..=47 => assert_eq!(found, Ok(false)),
                     49 if value <= 5 => assert_eq!(found, Ok(false)),
                     50 if value <= 2 => assert_eq!(found, Ok(false)),
-                    49..=63 => assert_eq!(found, Err(Refused { number: 24, steps: 0 })),
-                    48 if kind_of(value).is_none() => assert_eq!(found, Err(Refused { number: 24, steps: 0 })),
+                    49..=63 => assert_eq!(found, Err(Refusal { number: 24, steps: 0 })),
+                    48 if kind_of(value).is_none() => assert_eq!(found, Err(Refusal { number: 24, steps: 0 })),
                     // Another input: where it isn't refused, it has an answer of its own.
-                    _ => assert!(asked(&std::array::from_fn(|j| other[RECORD * k as usize + j])).is_ok()),
+                    _ => assert!(market_and_limit(&std::array::from_fn(|j| other[RECORD * k as usize + j])).is_ok()),
                 }
             }
         }

@@ -2,8 +2,8 @@
 
 use crate::lets_be_rational::{self, so_rational};
 use crate::prices::positive_normal;
-use crate::refusals::caught;
-use crate::steps::{seen, Step};
+use crate::refusals::catch_refusal;
+use crate::steps::{watch, Step};
 use crate::OptionType;
 
 /// What is asked: an option's price, and what it is an option on.
@@ -18,7 +18,7 @@ pub struct Market {
 
 /// What a run that isn't refused ends with. Ending: 0 no loop, 1 step test, 2 limit.
 #[derive(Clone, Copy, Debug)]
-pub struct Solved {
+pub struct Solution {
     pub volatility: f64,
     pub branch: u8,
     pub ending: u8,
@@ -27,12 +27,12 @@ pub struct Solved {
 /// The answer or document 01's number, and the completed steps, which stand in either case.
 #[derive(Debug)]
 pub struct Run {
-    pub answer: Result<Solved, u8>,
+    pub answer: Result<Solution, u8>,
     pub steps: Vec<Step>,
 }
 
 impl Run {
-    fn refused(number: u8) -> Run {
+    fn refusal(number: u8) -> Run {
         Run { answer: Err(number), steps: Vec::new() }
     }
 
@@ -53,13 +53,16 @@ impl Market {
     }
 
     fn run(&self, volatility: impl FnOnce() -> f64) -> Run {
-        let (answer, seen) = seen(|| caught(volatility));
-        let ending = match (seen.branch, seen.close) {
+        let (answer, trace) = watch(|| catch_refusal(volatility));
+        let ending = match (trace.branch, trace.close) {
             (0, _) => 0,
             (_, true) => 1,
             (_, false) => 2,
         };
-        Run { answer: answer.map(|volatility| Solved { volatility, branch: seen.branch, ending }), steps: seen.steps }
+        Run {
+            answer: answer.map(|volatility| Solution { volatility, branch: trace.branch, ending }),
+            steps: trace.steps,
+        }
     }
 }
 
@@ -71,10 +74,10 @@ pub fn is_long_enough(trail: usize, limit: i32) -> bool {
 /// solve with a trail of so many bytes, or without one.
 pub fn solve(market: Market, limit: i32, trail: Option<usize>) -> Run {
     if let Some(number) = market.input_number() {
-        return Run::refused(number);
+        return Run::refusal(number);
     }
     if trail.is_some_and(|bytes| !is_long_enough(bytes, limit)) {
-        return Run::refused(21);
+        return Run::refusal(21);
     }
     let Market { price, forward, strike, expiry, kind } = market;
     market.run(|| {
@@ -87,7 +90,7 @@ pub fn solve(market: Market, limit: i32, trail: Option<usize>) -> Run {
 /// The Rust's public wrapper, which has its own limit.
 pub fn implied_volatility_from_a_transformed_rational_guess(market: Market) -> Run {
     if let Some(number) = market.input_number() {
-        return Run::refused(number);
+        return Run::refusal(number);
     }
     let Market { price, forward, strike, expiry, kind } = market;
     market.run(|| {

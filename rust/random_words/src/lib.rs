@@ -1,4 +1,4 @@
-//! A small generator of pseudo-random words, splitmix64, so that a run gives the same inputs everywhere.
+//! A small generator of pseudo-random words of 64 bits, splitmix64: a run gives the same inputs everywhere.
 
 pub struct Words(u64);
 
@@ -7,14 +7,15 @@ impl Words {
     pub fn new(seed: u64, name: &str, block: u64) -> Self {
         let mut words = Words(seed);
         for byte in name.bytes() {
-            words.0 = words.next() ^ u64::from(byte);
+            words.0 = words.any() ^ u64::from(byte);
         }
-        words.0 = words.next() ^ block;
-        words.next();
+        words.0 = words.any() ^ block;
+        words.any();
         words
     }
 
-    pub fn next(&mut self) -> u64 {
+    /// Any word.
+    pub fn any(&mut self) -> u64 {
         self.0 = self.0.wrapping_add(0x9E37_79B9_7F4A_7C15);
         let z = (self.0 ^ self.0 >> 30).wrapping_mul(0xBF58_476D_1CE4_E5B9);
         let z = (z ^ z >> 27).wrapping_mul(0x94D0_49BB_1331_11EB);
@@ -23,7 +24,7 @@ impl Words {
 
     /// A number below n.
     pub fn below(&mut self, n: u64) -> u64 {
-        ((u128::from(self.next()) * u128::from(n)) >> 64) as u64
+        ((u128::from(self.any()) * u128::from(n)) >> 64) as u64
     }
 
     /// A number from low to high, both included.
@@ -37,6 +38,11 @@ impl Words {
 
     /// A float from 0 up to 1, without 1.
     pub fn unit(&mut self) -> f64 {
-        (self.next() >> 11) as f64 / (1_u64 << 53) as f64
+        (self.any() >> 11) as f64 / (1_u64 << 53) as f64
+    }
+
+    /// A float from low to high, every place as likely.
+    pub fn uniform(&mut self, low: f64, high: f64) -> f64 {
+        low + (high - low) * self.unit()
     }
 }

@@ -2,7 +2,7 @@
 //! 01's refusals above `black`.
 
 use crate::lets_be_rational::{self, black as prices, rational_cubic as cubic};
-use crate::refusals::{caught, Answer};
+use crate::refusals::{catch_refusal, Answer};
 use crate::OptionType;
 
 pub use crate::lets_be_rational::{
@@ -24,11 +24,11 @@ pub fn asymptotic_expansion_of_normalised_black_call(h: f64, t: f64) -> Answer {
 }
 
 pub fn normalised_black_call(x: f64, s: f64) -> Answer {
-    caught(|| prices::normalised_black_call(x, s))
+    catch_refusal(|| prices::normalised_black_call(x, s))
 }
 
 pub fn normalised_black(x: f64, s: f64, kind: OptionType) -> Answer {
-    caught(|| prices::normalised_black(x, s, kind))
+    catch_refusal(|| prices::normalised_black(x, s, kind))
 }
 
 /// Document 01's "positive normal finite number".
@@ -50,7 +50,7 @@ pub fn black(forward: f64, strike: f64, sigma: f64, expiry: f64, kind: OptionTyp
     if !positive_normal(expiry) {
         return Err(4);
     }
-    caught(|| lets_be_rational::black(forward, strike, sigma, expiry, kind))
+    catch_refusal(|| lets_be_rational::black(forward, strike, sigma, expiry, kind))
 }
 
 #[allow(clippy::too_many_arguments)]

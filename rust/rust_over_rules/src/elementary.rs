@@ -60,27 +60,27 @@ pub fn mul_add(a: f64, b: f64, c: f64) -> f64 {
 }
 
 /// p × 2^k for a finite p above 0, rounded once to nearest, ties to even.
-pub fn scaled(p: f64, k: i64) -> f64 {
+pub fn scale(p: f64, k: i64) -> f64 {
     // p = significand × 2^exponent, exactly.
     let field = (p.to_bits() >> 52) as i64;
     // Where the result is normal too, the exponent alone changes. For measuring speed: the comparison rounds every time.
-    if !crate::LAID_OPEN && field > 0 && (1..2047).contains(&(field + k)) {
+    if !cfg!(feature = "round_every_exp") && field > 0 && (1..2047).contains(&(field + k)) {
         return f64::from_bits(p.to_bits().wrapping_add((k as u64) << 52));
     }
     let fraction = p.to_bits() & ((1 << 52) - 1);
     let (significand, exponent) = if field == 0 { (fraction, -1074) } else { (fraction | 1 << 52, field - 1075) };
-    rounded(significand.into(), exponent + k)
+    round(significand.into(), exponent + k)
 }
 
 /// significand × 2^exponent rounded once to nearest, ties to even.
-pub fn rounded(significand: u128, exponent: i64) -> f64 {
+pub fn round(significand: u128, exponent: i64) -> f64 {
     if significand == 0 {
         return 0.0;
     }
     // The result is a whole number of units 2^unit: 53 digits of the significand, or down to the least subnormal.
     let digits = 128 - i64::from(significand.leading_zeros());
     let unit = (exponent + digits - 53).max(-1074);
-    let kept = if unit <= exponent {
+    let units = if unit <= exponent {
         // At most 53 digits stand here, so that nothing is shifted out.
         significand << (exponent - unit)
     } else {
@@ -95,13 +95,13 @@ pub fn rounded(significand: u128, exponent: i64) -> f64 {
     };
     // A carry makes 2^53 units, which is the next power of two's first value: the sum below takes it over by itself.
     let field = unit + 1074;
-    if kept < 1 << 52 {
-        return f64::from_bits(kept as u64);
+    if units < 1 << 52 {
+        return f64::from_bits(units as u64);
     }
-    if field + i64::from(kept == 1 << 53) >= 2046 {
+    if field + i64::from(units == 1 << 53) >= 2046 {
         return f64::INFINITY;
     }
-    f64::from_bits(((field as u64) << 52) + kept as u64)
+    f64::from_bits(((field as u64) << 52) + units as u64)
 }
 
 pub fn exp(y: f64) -> f64 {
@@ -121,7 +121,7 @@ pub fn exp(y: f64) -> f64 {
     for i in (1..14).rev() {
         p = 1.0 + (r * p) / f64::from(i);
     }
-    scaled(p, k as i64)
+    scale(p, k as i64)
 }
 
 pub fn ln(y: f64) -> f64 {
@@ -161,7 +161,7 @@ pub fn powf_1_3(y: f64) -> f64 {
     }
 }
 
-/// The names that build.rs puts in place of f64's own methods.
+/// The names that `rust_source` puts in place of f64's own methods.
 pub trait Rules {
     fn rule_exp(self) -> f64;
     fn rule_ln(self) -> f64;

@@ -1,18 +1,7 @@
-//! The reference against document 01's own values and against exact arithmetic.
+//! Document 01's functions and the Rust over them against document 01's own values and against exact arithmetic.
 
-use reference::elementary::{abs, bits_of, exp, ln, max, mul_add, powf_1_3, rounded, scaled, NAN_BITS};
-
-/// A small generator, so that a failure can be found again.
-struct Words(u64);
-
-impl Words {
-    fn next(&mut self) -> u64 {
-        self.0 = self.0.wrapping_add(0x9E37_79B9_7F4A_7C15);
-        let z = (self.0 ^ self.0 >> 30).wrapping_mul(0xBF58_476D_1CE4_E5B9);
-        let z = (z ^ z >> 27).wrapping_mul(0x94D0_49BB_1331_11EB);
-        z ^ z >> 31
-    }
-}
+use random_words::Words;
+use rust_over_rules::elementary::{abs, bits_of, exp, ln, max, mul_add, powf_1_3, round, scale, NAN_BITS};
 
 #[test]
 fn small_methods() {
@@ -26,34 +15,34 @@ fn small_methods() {
     assert_eq!(bits_of(max(f64::NAN, f64::NAN)), NAN_BITS);
 }
 
-/// `rounded` of an exact integer is what the machine's conversion from that integer gives.
+/// `round` of an exact integer is what the machine's conversion from that integer gives.
 #[test]
 fn rounding_of_whole_numbers() {
-    let mut words = Words(1);
+    let mut words = Words::new(1, "whole numbers", 0);
     for _ in 0..100_000 {
-        let wide = u128::from(words.next()) << 64 | u128::from(words.next());
-        let significand = wide >> (words.next() % 128);
-        assert_eq!(rounded(significand, 0), significand as f64, "{significand}");
+        let wide = u128::from(words.any()) << 64 | u128::from(words.any());
+        let significand = wide >> (words.any() % 128);
+        assert_eq!(round(significand, 0), significand as f64, "{significand}");
     }
 }
 
 /// A product with a power of two, each side rounded once: the machine's multiplication rounds a subnormal result once.
 #[test]
 fn scaling_is_one_rounding() {
-    let mut words = Words(2);
+    let mut words = Words::new(1, "scaling", 0);
     for _ in 0..100_000 {
-        let p = f64::from_bits((words.next() >> 12) | 1022 << 52);
-        let k = (words.next() % 100) as i64 - 1100;
+        let p = f64::from_bits((words.any() >> 12) | 1022 << 52);
+        let k = (words.any() % 100) as i64 - 1100;
         // 2^(k + 600) × 2^-600 × p: the first product is exact.
         let power = f64::from_bits(((k + 600 + 1023) as u64) << 52);
         let low = f64::from_bits((1023 - 600) << 52);
-        assert_eq!(scaled(p, k), p * power * low, "{p} {k}");
+        assert_eq!(scale(p, k), p * power * low, "{p} {k}");
     }
-    assert_eq!(scaled(1.0, -1075), 0.0);
-    assert_eq!(scaled(1.0000000000000002, -1075).to_bits(), 1);
-    assert_eq!(scaled(1.5, -1074).to_bits(), 2);
-    assert_eq!(scaled(1.0, 1024), f64::INFINITY);
-    assert_eq!(scaled(0.9999999999999999, 1024), f64::MAX);
+    assert_eq!(scale(1.0, -1075), 0.0);
+    assert_eq!(scale(1.0000000000000002, -1075).to_bits(), 1);
+    assert_eq!(scale(1.5, -1074).to_bits(), 2);
+    assert_eq!(scale(1.0, 1024), f64::INFINITY);
+    assert_eq!(scale(0.9999999999999999, 1024), f64::MAX);
 }
 
 #[test]
@@ -72,11 +61,11 @@ fn exponential() {
 /// Within a few units in the last place of the machine's own functions.
 #[test]
 fn near_the_machine() {
-    let mut words = Words(3);
+    let mut words = Words::new(1, "near the machine", 0);
     for _ in 0..100_000 {
-        let y = (words.next() >> 11) as f64 / (1_u64 << 53) as f64 * 1400.0 - 700.0;
+        let y = words.uniform(-700.0, 700.0);
         assert!((exp(y) / y.exp() - 1.0).abs() < 1e-14, "exp {y}");
-        let y = f64::from_bits(words.next() >> 1);
+        let y = f64::from_bits(words.any() >> 1);
         if y.is_finite() && y > 0.0 {
             assert!((ln(y) - y.ln()).abs() <= 1e-15 * y.ln().abs().max(1.0), "ln {y}");
         }
@@ -97,25 +86,25 @@ fn logarithm() {
 /// fma's own definition in small whole numbers: exact products and sums, rounded once.
 #[test]
 fn fused_multiply_add() {
-    let mut words = Words(4);
+    let mut words = Words::new(1, "fused", 0);
     for _ in 0..100_000 {
-        let (a, b, c) = (words.next() >> 11, words.next() >> 11, words.next() >> 11);
+        let (a, b, c) = (words.any() >> 11, words.any() >> 11, words.any() >> 11);
         let exact = u128::from(a) * u128::from(b) + u128::from(c);
-        assert_eq!(mul_add(a as f64, b as f64, c as f64), rounded(exact, 0));
+        assert_eq!(mul_add(a as f64, b as f64, c as f64), round(exact, 0));
     }
 }
 
 #[cfg(rust_source)]
 mod source {
-    use reference::elementary::{bits_of, NAN_BITS};
-    use reference::lets_be_rational::{
+    use rust_over_rules::elementary::{bits_of, NAN_BITS};
+    use rust_over_rules::lets_be_rational::{
         black,
         cody::optimized::{erfc, erfcx},
         implied_volatility_from_a_transformed_rational_guess as implied_volatility,
         normal_distribution::{inverse_f_upper_map, inverse_normal_cdf, standard_normal_cdf},
     };
-    use reference::prices;
-    use reference::OptionType::{Call, Put};
+    use rust_over_rules::prices;
+    use rust_over_rules::OptionType::{Call, Put};
 
     /// Document 01's P7 and P8, and what it says of erfc's far end.
     #[test]
