@@ -2,7 +2,7 @@
 use mathlib.Core.Bool.{Bool, cond, _&&_, _||_}
 use Prim.Native.Nat.{ℕ, zero, suc}
 use lib.Ieee.{Float, binary64, neg, lt, le}
-use Rattle.elementary.specs.Ops.{_⊕_, _⊖_, _⊗_, _⊘_, bits, float, +0, half, one, two, SQRT-2PI, mulAdd, MIN-POSITIVE, MAX}
+use Rattle.elementary.specs.Ops.{_⊕_, _⊖_, _⊗_, _⊘_, bits, float, +0, half, one, two, SQRT-2PI, mulAdd, MIN-POSITIVE, MAX, MIN}
 use Rattle.elementary.specs.declared.rule_set.RuleSet.{RuleSet}
 use Rattle.elementary.specs.Methods.{absOf, maxOf}
 use Rattle.elementary.specs.Sqrt.{sqrtOf}
@@ -192,7 +192,7 @@ isPositiveNormal x = le MIN-POSITIVE x && le x MAX
 
 -- neither infinite nor NaN
 abbrev pub isFinite : Float → Bool
-isFinite x = le (neg MAX) x && le x MAX
+isFinite x = le MIN x && le x MAX
 
 -- the greater of an amount and a multiple of a value; a refusal passes up
 abbrev pub scaledUp : Float → Float → Answer → Answer

@@ -5,6 +5,9 @@ use crate::intrinsic::normalised_intrinsic;
 use elementary::cody::erfc_under;
 use elementary::cody::erfcx;
 use elementary::exp::exp;
+use elementary::limits::MAX;
+use elementary::limits::MIN;
+use elementary::limits::MIN_POSITIVE;
 use elementary::ln::ln;
 use elementary::methods::abs;
 use elementary::methods::max;
@@ -248,11 +251,7 @@ pub(crate) fn asymptotic(h: f64, t: f64) -> f64
 pub(crate) fn is_outside(h: f64, t: f64) -> bool
     ensures { λ r. ⌜ r ≡ isOutside h t ⌝ }
 {
-    if h > H_LARGE {
-        true
-    } else {
-        t >= abs(h) - abs(H_LARGE) + SMALL_T
-    }
+    h > H_LARGE || t >= abs(h) - abs(H_LARGE) + SMALL_T
 }
 
 pub fn asymptotic_expansion_of_normalised_black_call(h: f64, t: f64) -> Answer
@@ -277,11 +276,7 @@ pub fn normalised_black_call_using_erfcx(h: f64, t: f64) -> f64
 pub(crate) fn is_asymptotic(x: f64, s: f64) -> bool
     ensures { λ r. ⌜ r ≡ isAsymptotic x s ⌝ }
 {
-    if x < s * H_LARGE {
-        0.5 * s * s + x < s * (SMALL_T + H_LARGE)
-    } else {
-        false
-    }
+    x < s * H_LARGE && 0.5 * s * s + x < s * (SMALL_T + H_LARGE)
 }
 
 fn region(set: RuleSet, x: f64, s: f64) -> Answer
@@ -361,22 +356,14 @@ pub fn normalised_black(x: f64, s: f64, option_type: OptionType) -> Answer
 pub fn is_positive_normal(x: f64) -> bool
     ensures { λ r. ⌜ r ≡ isPositiveNormal x ⌝ }
 {
-    if x >= 2.2250738585072014e-308 {
-        x <= 1.7976931348623157e308
-    } else {
-        false
-    }
+    x >= MIN_POSITIVE && x <= MAX
 }
 
 // Not so for document 01's 1 and 5.
 pub fn is_finite(x: f64) -> bool
     ensures { λ r. ⌜ r ≡ isFinite x ⌝ }
 {
-    if x >= -1.7976931348623157e308 {
-        x <= 1.7976931348623157e308
-    } else {
-        false
-    }
+    x >= MIN && x <= MAX
 }
 
 // The greater of an amount and a multiple of a value; a refusal passes up.

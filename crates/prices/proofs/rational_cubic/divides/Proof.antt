@@ -6,17 +6,17 @@ use Rattle.prices.proofs.rational_cubic.divides.Tie as tie
 is-zero-requires : tie.Need-is-zero-requires
 is-zero-requires c κs = search needs
 
-returns : tie.Need-returns
-returns c = rw (c .before .before .if1 .taken, rw (c .before .is-zero .ensures) at (c .if2 .taken))
-
 is-zero-requires-2 : tie.Need-is-zero-requires-2
 is-zero-requires-2 c κs = search needs
 
+returns : tie.Need-returns
+returns c = rw (c .is-zero2 .ensures, c .before .before .before .if1 .taken, rw (c .before .before .is-zero .ensures) at (c .before .if2 .taken))
+
 returns-2 : tie.Need-returns-2
-returns-2 c = rw (c .is-zero2 .ensures, c .before .before .before .if1 .taken, rw (c .before .before .is-zero .ensures) at (c .before .if2 .left))
+returns-2 c = rw (c .if2 .left, c .before .before .if1 .taken, rw (c .before .is-zero .ensures) at (c .if2 .left))
 
 returns-3 : tie.Need-returns-3
-returns-3 c = search needs
+returns-3 c = rw (c .if1 .left)
 
 pub divides-spec : {M : Type 1} → statement M
-divides-spec = tie.close (tie.spec is-zero-requires returns is-zero-requires-2 returns-2 returns-3)
+divides-spec = tie.close (tie.spec is-zero-requires is-zero-requires-2 returns returns-2 returns-3)
