@@ -2,6 +2,7 @@
 use crate::answer::Answer;
 use crate::inputs::OptionType;
 use crate::intrinsic::normalised_intrinsic;
+use crate::refusals;
 use elementary::cody::erfc_under;
 use elementary::cody::erfcx;
 use elementary::exp::exp;
@@ -205,7 +206,7 @@ pub fn small_t_expansion_of_normalised_black_call(h: f64, t: f64) -> Answer
     ensures { λ r. ⌜ r ≡ smallTOf h t ⌝ }
 {
     if t >= SMALL_T {
-        return Answer::Refused(8);
+        return Answer::Refused(refusals::T_TOO_LARGE);
     }
     Answer::Value(small_t(h, t, bell(h, t)))
 }
@@ -258,7 +259,7 @@ pub fn asymptotic_expansion_of_normalised_black_call(h: f64, t: f64) -> Answer
     ensures { λ r. ⌜ r ≡ asymptoticOf h t ⌝ }
 {
     if is_outside(h, t) {
-        return Answer::Refused(7);
+        return Answer::Refused(refusals::OUTSIDE_ASYMPTOTIC_REGION);
     }
     Answer::Value(asymptotic(h, t))
 }
@@ -389,10 +390,11 @@ fn price(
     let intrinsic = max(option_type.times(forward - strike), 0.0);
     let factor = sqrt(forward) * sqrt(strike);
     let x = ln(forward / strike);
+    let s = sigma * sqrt(expiry);
     at_least(
         intrinsic,
         factor,
-        normalised_black_under(set, x, sigma * sqrt(expiry), option_type),
+        normalised_black_under(set, x, s, option_type),
     )
 }
 
@@ -413,19 +415,9 @@ fn black_at(
     }
     let signed_diff = option_type.times(forward - strike);
     if signed_diff > 0.0 {
-        let intrinsic = max(signed_diff, 0.0);
-        return plus(
-            intrinsic,
-            black_at(
-                set,
-                depth - 1,
-                forward,
-                strike,
-                sigma,
-                expiry,
-                option_type.neg(),
-            ),
-        );
+        let other = option_type.neg();
+        let mapped = black_at(set, depth - 1, forward, strike, sigma, expiry, other);
+        return plus(max(signed_diff, 0.0), mapped);
     }
     price(set, forward, strike, sigma, expiry, option_type)
 }
@@ -434,35 +426,27 @@ fn black_at(
 // asymptotic region's edge disagree.
 pub fn black_under(
     set: RuleSet,
-    forward_price: f64,
-    strike_price: f64,
+    forward: f64,
+    strike: f64,
     sigma: f64,
-    time_to_maturity: f64,
+    expiry: f64,
     option_type: OptionType,
 ) -> Answer
-    ensures { λ r. ⌜ r ≡ blackOf set «forward_price» «strike_price» sigma «time_to_maturity» «option_type» ⌝ }
+    ensures { λ r. ⌜ r ≡ blackOf set forward strike sigma expiry «option_type» ⌝ }
 {
-    if is_positive_normal(forward_price) {
-        if is_positive_normal(strike_price) {
-            if is_finite(sigma) {
-                if is_positive_normal(time_to_maturity) {
-                    return black_at(
-                        set,
-                        1,
-                        forward_price,
-                        strike_price,
-                        sigma,
-                        time_to_maturity,
-                        option_type,
-                    );
-                }
-                return Answer::Refused(4);
-            }
-            return Answer::Refused(5);
-        }
-        return Answer::Refused(3);
+    if !is_positive_normal(forward) {
+        return Answer::Refused(refusals::FORWARD);
     }
-    Answer::Refused(2)
+    if !is_positive_normal(strike) {
+        return Answer::Refused(refusals::STRIKE);
+    }
+    if !is_finite(sigma) {
+        return Answer::Refused(refusals::SIGMA);
+    }
+    if !is_positive_normal(expiry) {
+        return Answer::Refused(refusals::EXPIRY);
+    }
+    black_at(set, 1, forward, strike, sigma, expiry, option_type)
 }
 
 pub fn black(

@@ -12,6 +12,7 @@ use crate::black::normalised_black_call_under;
 use crate::black::small_t;
 use crate::inputs::OptionType;
 use crate::intrinsic::normalised_intrinsic;
+use crate::refusals;
 use crate::vega::normalised_vega;
 use crate::vega::vega_with;
 use elementary::methods::abs;
@@ -62,7 +63,7 @@ fn in_asymptotic_region(h: f64, t: f64, vega: f64) -> PriceAndVega
 {
     if is_outside(h, t) {
         return PriceAndVega {
-            number: 7,
+            number: refusals::OUTSIDE_ASYMPTOTIC_REGION,
             price: 0.0,
             vega,
         };

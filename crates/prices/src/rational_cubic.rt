@@ -1,5 +1,6 @@
 // The rational cubic: rational_cubic.rs, line by line.
 use crate::answer::Answer;
+use crate::refusals;
 use elementary::limits::EPSILON;
 use elementary::limits::MIN;
 use elementary::methods::abs;
@@ -65,7 +66,7 @@ pub fn rational_cubic_interpolation(
     ensures { λ y. ⌜ y ≡ interpolationOf x «x_l» «x_r» «y_l» «y_r» «d_l» «d_r» r ⌝ }
 {
     if any_infinite(x, x_l, x_r) {
-        return Answer::Refused(6);
+        return Answer::Refused(refusals::INFINITE_PLACE);
     }
     let h = x_r - x_l;
     if abs(h) <= EPSILON {
