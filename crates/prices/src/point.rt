@@ -18,11 +18,10 @@ use crate::vega::vega_with;
 use elementary::methods::abs;
 use elementary::rule_set::RuleSet;
 ghost use mathlib.Core.Path.{_≡_};
-ghost use Rattle.elementary.specs.Ops.{_⊗_, _⊘_, half};
 ghost use Rattle.prices.specs.declared.answer.Answer.the-variants.{Value};
 ghost use Rattle.prices.specs.Vega.{vegaOf};
-ghost use Rattle.prices.specs.Black.{bell as bellOf, asymptoticOf};
-ghost use Rattle.prices.specs.Inside.Exponentials.{regionWith, outOfTheMoneyWith, callWith};
+ghost use Rattle.prices.specs.Black.{asymptoticOf};
+ghost use Rattle.prices.specs.Inside.Exponentials.{outOfTheMoneyWith, callWith};
 ghost use Rattle.prices.specs.Inside.Point.{priceAndVega};
 
 // Document 01's number, 0 where there is a price.
@@ -71,21 +70,18 @@ fn in_asymptotic_region(h: f64, t: f64, vega: f64) -> PriceAndVega
     priced(asymptotic(h, t), vega)
 }
 
-// The three regions of normalised_black_call.
-fn in_region(
-    set: RuleSet,
-    x: f64,
-    s: f64,
-    up: f64,
-    down: f64,
-    exp_term: f64,
-    vega: f64,
-) -> PriceAndVega
-    requires { ⌜ «exp_term» ≡ bellOf (x ⊘ s) (half ⊗ s) ⌝ }
-    ensures { λ r. ⌜ r ≡ priceAndVega (regionWith set up down x s) vega ⌝ }
+// The three regions of normalised_black_call, after the test that makes the price intrinsic: s is 0 or
+// below and x is finite. At an infinite x the product is NaN and the test fails.
+fn out_of_the_money(set: RuleSet, x: f64, s: f64, up: f64, down: f64) -> PriceAndVega
+    ensures { λ r. ⌜ r ≡ priceAndVega (outOfTheMoneyWith set up down x s) (vegaOf x s) ⌝ }
 {
     let h = x / s;
     let t = 0.5 * s;
+    let exp_term = bell(h, t);
+    let vega = vega_with(x, s, exp_term);
+    if s <= abs(x) * 0.0 {
+        return priced(normalised_intrinsic(x, OptionType::Call), vega);
+    }
     if is_asymptotic(x, s) {
         return in_asymptotic_region(h, t, vega);
     }
@@ -95,26 +91,6 @@ fn in_region(
     let q1 = MINUS_FRAC_1_SQRT_2 * (h + t);
     let q2 = MINUS_FRAC_1_SQRT_2 * (h - t);
     priced(codys(set, up, down, exp_term, q1, q2), vega)
-}
-
-// Where s is 0 or below and x is finite, the intrinsic value; at an infinite x the product is NaN and
-// the test fails.
-fn out_of_the_money(
-    set: RuleSet,
-    x: f64,
-    s: f64,
-    up: f64,
-    down: f64,
-    exp_term: f64,
-    vega: f64,
-) -> PriceAndVega
-    requires { ⌜ «exp_term» ≡ bellOf (x ⊘ s) (half ⊗ s) ⌝ }
-    ensures { λ r. ⌜ r ≡ priceAndVega (outOfTheMoneyWith set up down x s) vega ⌝ }
-{
-    if s <= abs(x) * 0.0 {
-        return priced(normalised_intrinsic(x, OptionType::Call), vega);
-    }
-    in_region(set, x, s, up, down, exp_term, vega)
 }
 
 // `up` is exp(x / 2) and `down` exp(−x / 2), which the caller has for every s.
@@ -127,7 +103,5 @@ pub fn price_and_vega(set: RuleSet, x: f64, s: f64, up: f64, down: f64) -> Price
             normalised_vega(x, s),
         );
     }
-    let exp_term = bell(x / s, 0.5 * s);
-    let vega = vega_with(x, s, exp_term);
-    out_of_the_money(set, x, s, up, down, exp_term, vega)
+    out_of_the_money(set, x, s, up, down)
 }
