@@ -10,7 +10,7 @@ use elementary::mul_add::mul_add;
 ghost use mathlib.Core.Path.{_≡_};
 ghost use mathlib.Core.Bool.{not, _&&_, _||_};
 ghost use Rattle.elementary.specs.Methods.{isZero};
-ghost use Rattle.prices.specs.RationalCubic.{isInfinite, curveOf, interpolationOf, isMonotonic, isConvex, isConcave, monotonicParameter, shapeParameter, minimumParameterOf, sideOf, controlParameterOf, convexParameterOf};
+ghost use Rattle.prices.specs.RationalCubic.{isInfinite, curveOf, interpolationOf, isMonotonic, isConvex, isConcave, monotonicParameter, shapeParameter, minimumParameterOf, denominatorAt, controlParameterOf, convexParameterOf};
 
 const MINIMUM_RATIONAL_CUBIC_CONTROL_PARAMETER_VALUE: f64 = -(1.0 - 1.4901161193847656e-8);
 
@@ -117,8 +117,8 @@ fn monotonic_parameter(monotonic: bool, d_l: f64, d_r: f64, s: f64, prefer: bool
     MIN
 }
 
-// Whether both quotients of r2 have a divisor.
-fn divides(curved: bool, s_m_d_l: f64, d_r_m_s: f64) -> bool
+// Whether r2 has quotients: the curve is convex or concave, and neither divisor is 0.
+fn has_nonzero_divisors(curved: bool, s_m_d_l: f64, d_r_m_s: f64) -> bool
     ensures { λ r. ⌜ r ≡ (curved && (not (isZero «s_m_d_l») && not (isZero «d_r_m_s»))) ⌝ }
 {
     curved && (!is_zero(s_m_d_l) && !is_zero(d_r_m_s))
@@ -131,7 +131,7 @@ fn shape_parameter(curved: bool, monotonic: bool, d_l: f64, d_r: f64, s: f64, pr
     let d_r_m_d_l = d_r - d_l;
     let d_r_m_s = d_r - s;
     let s_m_d_l = s - d_l;
-    if divides(curved, s_m_d_l, d_r_m_s) {
+    if has_nonzero_divisors(curved, s_m_d_l, d_r_m_s) {
         return max(abs(d_r_m_d_l / d_r_m_s), abs(d_r_m_d_l / s_m_d_l));
     }
     if monotonic && prefer {
@@ -160,7 +160,7 @@ pub fn minimum_rational_cubic_control_parameter(
 }
 
 fn denominator_at(side: Side, slope: f64, d_l: f64, d_r: f64) -> f64
-    ensures { λ r. ⌜ r ≡ sideOf side slope «d_l» «d_r» ⌝ }
+    ensures { λ r. ⌜ r ≡ denominatorAt side slope «d_l» «d_r» ⌝ }
 {
     match side {
         Side::Left => slope - d_l,

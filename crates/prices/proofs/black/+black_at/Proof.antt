@@ -10,7 +10,7 @@ use Rattle.elementary.specs.declared.rule_set.RuleSet.{RuleSet}
 use Rattle.prices.specs.declared.inputs.OptionType.{OptionType}
 use Rattle.prices.specs.declared.answer.Answer.{Answer}
 use Rattle.prices.specs.Inputs.{negated, times}
-use Rattle.prices.specs.Black.{added, priceOf, blackAt}
+use Rattle.prices.specs.Black.{plus, priceOf, blackAt}
 use Rattle.prices.proofs.black.Depth.{falls-below, not-zero}
 use borrow.Fn.Kinds.{In}
 use borrow.Fn.PlainCycle.{Measures, is, falls, and}
@@ -38,7 +38,7 @@ module _ (set : RuleSet) (forward strike sigma expiry : Float) where
   out (suc d) kind r e h = absurd (omega arith)
 
   mapped : (depth : ℕ) (kind other : OptionType) (diff i : Float) (inner r : Answer) → (depth ≡ 0 → ⊥) → diff ≡ times kind (forward ⊖ strike) → lt +0 diff ≡ true
-      → i ≡ maxOf diff +0 → other ≡ negated kind → inner ≡ at (depth - 1) other → r ≡ added i inner → r ≡ at depth kind
+      → i ≡ maxOf diff +0 → other ≡ negated kind → inner ≡ at (depth - 1) other → r ≡ plus i inner → r ≡ at depth kind
   unfolding blackAt
   mapped zero kind other diff i inner r n d t a o b h = absurd (n refl)
   mapped (suc k) kind other diff i inner r n d t a o b h = let e : suc k - 1 ≡ k = omega arith in h ∙ rw (a, b, o, e, d, rw d at t)

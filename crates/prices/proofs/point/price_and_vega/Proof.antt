@@ -9,11 +9,11 @@ normalised-black-call-under-requires c κs = search needs
 normalised-vega-requires : tie.Need-normalised-vega-requires
 normalised-vega-requires c κs = search needs
 
-told-requires : tie.Need-told-requires
-told-requires c κs = search needs
+price-and-vega-from-requires : tie.Need-price-and-vega-from-requires
+price-and-vega-from-requires c κs = search needs
 
 returns : tie.Need-returns
-returns c = rw (c .before .before .before .if1 .taken, ← c .before .before .normalised-black-call-under .ensures, ← c .before .normalised-vega .ensures) (c .told .ensures)
+returns c = rw (c .before .before .before .if1 .taken, ← c .before .before .normalised-black-call-under .ensures, ← c .before .normalised-vega .ensures) (c .price-and-vega-from .ensures)
 
 out-of-the-money-requires : tie.Need-out-of-the-money-requires
 out-of-the-money-requires c κs = search needs
@@ -27,7 +27,7 @@ price-and-vega-spec =
     (tie.spec
     normalised-black-call-under-requires
     normalised-vega-requires
-    told-requires
+    price-and-vega-from-requires
     returns
     out-of-the-money-requires
     returns-2)

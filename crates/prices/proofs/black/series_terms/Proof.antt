@@ -1,4 +1,4 @@
--- `black::series_turns` meets its contract: before turn i, the turns from 3 on are those from i on with the present sum, sign and term. Assumes nothing.
+-- `black::series_terms` meets its contract: before term i, the terms from 3 on are those from i on with the present sum, sign and term. Assumes nothing.
 use mathlib.Core.Path.{_≡_, refl, sym}
 use Prim.Native.Nat.{ℕ, suc, _+_, _-_, _^_, _≤_, _<_}
 use native.Mathlib.Numerals.{add-one}
@@ -8,27 +8,27 @@ use lib.Dec.{T, le→leb}
 use lib.IntN.{pos}
 use lib.Ieee.{Float, binary64, neg, ofBits, ofInt, inFloat}
 use Rattle.elementary.specs.Ops.{_⊕_, _⊗_, _⊘_, float, one, two}
-use Rattle.prices.specs.Black.{seriesTurns}
-use Rattle.prices.proofs.black.series_turns.Statement.{statement}
-use Rattle.prices.proofs.black.series_turns.Tie as tie
+use Rattle.prices.specs.Black.{seriesTerms}
+use Rattle.prices.proofs.black.series_terms.Statement.{statement}
+use Rattle.prices.proofs.black.series_terms.Tie as tie
 
 abbrev factor : ℕ → Float
 factor i = (two ⊗ float i ⊕ two) ⊗ (two ⊗ float i ⊕ ofBits binary64 0x4008_0000_0000_0000)
 
--- what is left before turn i
+-- what is left before term i
 record Left (z2 start first y sign term : Float) (i : ℕ) : Type 0 where
   bound : i ≤ 18
-  rest : seriesTurns 15 3 z2 start (neg one) first ≡ seriesTurns (18 - i) i z2 y sign term
+  rest : seriesTerms 15 3 z2 start (neg one) first ≡ seriesTerms (18 - i) i z2 y sign term
 
-turned : (z2 start first y sign term : Float) (i : ℕ) → i ≤ 17 → Left z2 start first y sign term i
+one-term : (z2 start first y sign term : Float) (i : ℕ) → i ≤ 17 → Left z2 start first y sign term i
     → Left z2 start first (y ⊕ sign ⊗ term) (neg sign) (term ⊗ (z2 ⊘ factor i)) (i + 1)
-unfolding seriesTurns ofBits ofInt
-turned z2 start first y sign term i l h =
+unfolding seriesTerms ofBits ofInt
+one-term z2 start first y sign term i l h =
     let k : 18 - i ≡ suc (18 - (i + 1)) = omega arith in
     record { bound = omega arith; rest = rw (add-one i) (rw (k, add-one i) at (h .rest)) }
 
-done : (z2 start first y sign term : Float) (i : ℕ) → 17 < i → Left z2 start first y sign term i → y ≡ seriesTurns 15 3 z2 start (neg one) first
-unfolding seriesTurns
+done : (z2 start first y sign term : Float) (i : ℕ) → 17 < i → Left z2 start first y sign term i → y ≡ seriesTerms 15 3 z2 start (neg one) first
+unfolding seriesTerms
 done z2 start first y sign term i l h = let k : 18 - i ≡ 0 = omega arith in sym (rw k at (h .rest))
 
 fits : (i : ℕ) → i ≤ 17 → T (inFloat binary64 (pos i))
@@ -54,12 +54,12 @@ loop-less : tie.Need-loop-less Inv-loop μ-loop
 loop-less c = omega arith
 
 loop-again : tie.Need-loop-again Inv-loop μ-loop
-loop-again c = turned _ _ _ _ _ _ _ (c .before .loop-test .taken) (c .before .before .loop .inv)
+loop-again c = one-term _ _ _ _ _ _ _ (c .before .loop-test .taken) (c .before .before .loop .inv)
 
 returns : tie.Need-returns Inv-loop μ-loop
 returns c = done _ _ _ _ _ _ _ (c .loop-test .left) (c .before .loop .inv)
 
-pub series-turns-spec : {M : Type 1} → statement M
-series-turns-spec =
+pub series-terms-spec : {M : Type 1} → statement M
+series-terms-spec =
     tie.close
     (tie.spec Inv-loop μ-loop loop-holds int-to-float-i-f64 add-i loop-less loop-again returns)

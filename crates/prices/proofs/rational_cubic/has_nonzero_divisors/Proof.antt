@@ -1,7 +1,7 @@
--- `rational_cubic::divides` meets its contract: each way out is the arm that the tests before it leave. Assumes nothing.
+-- `rational_cubic::has_nonzero_divisors` meets its contract: each way out is the arm that the tests before it leave. Assumes nothing.
 use borrow.Author.Needs.{needs}
-use Rattle.prices.proofs.rational_cubic.divides.Statement.{statement}
-use Rattle.prices.proofs.rational_cubic.divides.Tie as tie
+use Rattle.prices.proofs.rational_cubic.has_nonzero_divisors.Statement.{statement}
+use Rattle.prices.proofs.rational_cubic.has_nonzero_divisors.Tie as tie
 
 is-zero-requires : tie.Need-is-zero-requires
 is-zero-requires c κs = search needs
@@ -18,5 +18,5 @@ returns-2 c = rw (c .if2 .left, c .before .before .if1 .taken, rw (c .before .is
 returns-3 : tie.Need-returns-3
 returns-3 c = rw (c .if1 .left)
 
-pub divides-spec : {M : Type 1} → statement M
-divides-spec = tie.close (tie.spec is-zero-requires is-zero-requires-2 returns returns-2 returns-3)
+pub has-nonzero-divisors-spec : {M : Type 1} → statement M
+has-nonzero-divisors-spec = tie.close (tie.spec is-zero-requires is-zero-requires-2 returns returns-2 returns-3)
