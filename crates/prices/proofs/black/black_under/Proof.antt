@@ -13,36 +13,21 @@ refused {r} e h = rw e at (not-true r h)
 accepted : {r b : Bool} → r ≡ b → not r ≡ false → b ≡ true
 accepted {r} e h = rw e at (not-false r h)
 
-is-positive-normal-requires : tie.Need-is-positive-normal-requires
-is-positive-normal-requires c κs = search needs
-
 returns : tie.Need-returns
 unfolding blackOf
 returns c = rw (refused (c .before .is-positive-normal .ensures) (c .if1 .taken))
-
-is-positive-normal-requires-2 : tie.Need-is-positive-normal-requires-2
-is-positive-normal-requires-2 c κs = search needs
 
 returns-2 : tie.Need-returns-2
 unfolding blackOf
 returns-2 c = rw (accepted (c .before .before .before .is-positive-normal .ensures) (c .before .before .if1 .left), refused (c .before .is-positive-normal2 .ensures) (c .if2 .taken))
 
-is-finite-requires : tie.Need-is-finite-requires
-is-finite-requires c κs = search needs
-
 returns-3 : tie.Need-returns-3
 unfolding blackOf
 returns-3 c = rw (accepted (c .before .before .before .before .before .is-positive-normal .ensures) (c .before .before .before .before .if1 .left), accepted (c .before .before .before .is-positive-normal2 .ensures) (c .before .before .if2 .left), refused (c .before .is-finite .ensures) (c .if3 .taken))
 
-is-positive-normal-requires-3 : tie.Need-is-positive-normal-requires-3
-is-positive-normal-requires-3 c κs = search needs
-
 returns-4 : tie.Need-returns-4
 unfolding blackOf
 returns-4 c = rw (accepted (c .before .before .before .before .before .before .before .is-positive-normal .ensures) (c .before .before .before .before .before .before .if1 .left), accepted (c .before .before .before .before .before .is-positive-normal2 .ensures) (c .before .before .before .before .if2 .left), accepted (c .before .before .before .is-finite .ensures) (c .before .before .if3 .left), refused (c .before .is-positive-normal3 .ensures) (c .if4 .taken))
-
-black-at-requires : tie.Need-black-at-requires
-black-at-requires c κs = search needs
 
 returns-5 : tie.Need-returns-5
 unfolding blackOf
@@ -52,13 +37,13 @@ pub black-under-spec : {M : Type 1} → statement M
 black-under-spec =
     tie.close
     (tie.spec
-    is-positive-normal-requires
+    (λ c κs. search needs)
     returns
-    is-positive-normal-requires-2
+    (λ c κs. search needs)
     returns-2
-    is-finite-requires
+    (λ c κs. search needs)
     returns-3
-    is-positive-normal-requires-3
+    (λ c κs. search needs)
     returns-4
-    black-at-requires
+    (λ c κs. search needs)
     returns-5)
