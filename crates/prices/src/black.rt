@@ -1,4 +1,5 @@
-// The normalised Black price: black.rs, line by line, and `black` of mod.rs.
+// The normalised Black price: black.rs, line by line, and `black` of mod.rs. A function whose name ends
+// in `_under` takes the rule set; the Rust's own names stand for rule set 0.
 use crate::answer::Answer;
 use crate::inputs::OptionType;
 use crate::intrinsic::normalised_intrinsic;
@@ -282,6 +283,7 @@ pub(crate) fn is_asymptotic(x: f64, s: f64) -> bool
     x < s * H_LARGE && 0.5 * s * s + x < s * (SMALL_T + H_LARGE)
 }
 
+// The price by the formula of the region that x and s lie in.
 fn region(set: RuleSet, x: f64, s: f64) -> Answer
     ensures { λ r. ⌜ r ≡ regionOf set x s ⌝ }
 {

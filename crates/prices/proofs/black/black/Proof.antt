@@ -1,4 +1,4 @@
--- `black::black` meets its contract: it hands in rule set 0. Assumes nothing.
+-- `black::black` meets its contract: it is `black_under` with rule set 0. Assumes nothing.
 use borrow.Author.Needs.{needs}
 use Rattle.prices.proofs.black.black.Statement.{statement}
 use Rattle.prices.proofs.black.black.Tie as tie

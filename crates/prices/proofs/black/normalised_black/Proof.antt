@@ -1,4 +1,4 @@
--- `black::normalised_black` meets its contract: it hands in rule set 0. Assumes nothing.
+-- `black::normalised_black` meets its contract: it is `normalised_black_under` with rule set 0. Assumes nothing.
 use borrow.Author.Needs.{needs}
 use Rattle.prices.proofs.black.normalised_black.Statement.{statement}
 use Rattle.prices.proofs.black.normalised_black.Tie as tie

@@ -1,4 +1,4 @@
--- `black::normalised_black_call` meets its contract: it hands in rule set 0. Assumes nothing.
+-- `black::normalised_black_call` meets its contract: it is `normalised_black_call_under` with rule set 0. Assumes nothing.
 use borrow.Author.Needs.{needs}
 use Rattle.prices.proofs.black.normalised_black_call.Statement.{statement}
 use Rattle.prices.proofs.black.normalised_black_call.Tie as tie

@@ -1,4 +1,4 @@
--- `black::normalised_black_call_with_optimal_use_of_codys_functions` meets its contract: it hands in rule set 0. Assumes nothing.
+-- `black::normalised_black_call_with_optimal_use_of_codys_functions` meets its contract: it is `normalised_black_call_with_optimal_use_of_codys_functions_under` with rule set 0. Assumes nothing.
 use borrow.Author.Needs.{needs}
 use Rattle.prices.proofs.black.normalised_black_call_with_optimal_use_of_codys_functions.Statement.{statement}
 use Rattle.prices.proofs.black.normalised_black_call_with_optimal_use_of_codys_functions.Tie as tie
