@@ -1,9 +1,9 @@
 // Document 01's exp: the argument reduced by multiples of ln 2, a Taylor sum, and one rounding.
 use crate::floor::floor;
-use crate::round::assembled;
-use crate::round::finite;
-use crate::round::rounded_exact;
-use crate::round::taken_apart;
+use crate::round::float_of_fields;
+use crate::round::is_finite;
+use crate::round::parts_of;
+use crate::round::round_exact;
 ghost use mathlib.Core.Path.{_≡_};
 ghost use Prim.Native.Nat.{_≤_};
 ghost use lib.Ieee.{binary64, minus};
@@ -18,9 +18,9 @@ fn far(p: f64, e: u64) -> f64
     requires { ⌜ 960 ≤ e ⌝ ∗ ⌜ e ≤ 3136 ⌝ }
     ensures { λ r. ⌜ r ≡ Exp.scaled binary64 p (minus e 2048) ⌝ }
 {
-    if finite(p) {
-        let t = taken_apart(p);
-        rounded_exact(t.neg, 0, t.m, t.e + e - 782)
+    if is_finite(p) {
+        let t = parts_of(p);
+        round_exact(t.neg, 0, t.m, t.e + e - 782)
     } else {
         p
     }
@@ -37,7 +37,7 @@ pub(crate) fn scaled(p: f64, e: u64) -> f64
     if e > 3071 {
         return far(p, e);
     }
-    p * assembled(false, e - 1025, 0)
+    p * float_of_fields(false, e - 1025, 0)
 }
 
 // p becomes 1 + (r × p) / i, for i from 13 down to 1.

@@ -3,8 +3,8 @@ use crate::exp::H;
 use crate::exp::L;
 use crate::exp::exp;
 use crate::methods::is_zero;
-use crate::round::assembled;
-use crate::round::taken_apart;
+use crate::round::float_of_fields;
+use crate::round::parts_of;
 ghost use mathlib.Core.Path.{_≡_};
 ghost use Prim.Native.Nat.{_≤_, _<_, _^_};
 ghost use lib.Dec.{T};
@@ -50,8 +50,8 @@ fn positive(y: f64) -> f64
     requires { ⌜ T (Positive.positive y) ⌝ }
     ensures { λ r. ⌜ r ≡ lnInner y ⌝ }
 {
-    let t = taken_apart(y);
-    let mut m = assembled(false, 1023, t.m - 0x10_0000_0000_0000);
+    let t = parts_of(y);
+    let mut m = float_of_fields(false, 1023, t.m - 0x10_0000_0000_0000);
     let mut place = t.e - 12;
     if m > SQRT_2 {
         m = 0.5 * m;

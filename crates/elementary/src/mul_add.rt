@@ -6,15 +6,15 @@ use crate::limits::EPSILON;
 use crate::round::Parts;
 use crate::round::Wide;
 use crate::round::any;
-use crate::round::assembled;
-use crate::round::below;
-use crate::round::finite;
-use crate::round::nonzero;
-use crate::round::raised;
-use crate::round::rounded_exact;
-use crate::round::rounded_signed;
-use crate::round::shifted;
-use crate::round::taken_apart;
+use crate::round::float_of_fields;
+use crate::round::is_finite;
+use crate::round::is_nonzero;
+use crate::round::low_bits;
+use crate::round::parts_of;
+use crate::round::round_exact;
+use crate::round::round_signed;
+use crate::round::shift_left;
+use crate::round::shift_right;
 ghost use mathlib.Core.Path.{_≡_};
 ghost use mathlib.Core.Bool.{true, not, cond, _&&_};
 ghost use Prim.Native.Nat.{_+_, _-_, _*_, _/_, _%_, _^_, _<_, _≤_};
@@ -24,7 +24,7 @@ ghost use lib.Ieee.{binary64, neg as negated, round, sum};
 ghost use lib.Ieee.Exact.{HasValue};
 ghost use lib.Ieee.Scale as Scale;
 ghost use Rattle.elementary.specs.Ops.{float};
-ghost use Rattle.elementary.specs.Inside.Round.{wide, Same, Digits};
+ghost use Rattle.elementary.specs.Inside.Round.{wide, SameZero, Digits};
 ghost use Rattle.elementary.specs.MulAdd.{fma};
 ghost use Rattle.elementary.specs.Inside.MulAdd.{Near, Far, Ordered, Both, Marked, Clear, Joined, Opened, Apart, Turned, Splits, Pinned, Usual};
 
@@ -108,9 +108,9 @@ fn left_wide(vh: u64, vl: u64, d: u64) -> Wide
     requires { ⌜ d < 64 ⌝ ∗ ⌜ wide vh vl * 2 ^ d < 2 ^ 128 ⌝ }
     ensures { λ r. ⌜ wide (r .hi) (r .lo) ≡ wide vh vl * 2 ^ d ⌝ }
 {
-    let up = shifted(vl, 64 - d);
+    let up = shift_right(vl, 64 - d);
     Wide {
-        hi: raised(vh, d) + up,
+        hi: shift_left(vh, d) + up,
         lo: vl << d,
     }
 }
@@ -126,19 +126,19 @@ fn right_wide(vh: u64, vl: u64, d: u64) -> Wide
             lo: (vh << (64 - d)) + (vl >> d),
         }
     } else {
-        let lo = shifted(vh, d - 64);
+        let lo = shift_right(vh, d - 64);
         Wide { hi: 0, lo: lo }
     }
 }
 
 // 0 just where `right_wide` drops nothing.
 fn lost(vh: u64, vl: u64, d: u64) -> u64
-    ensures { λ r. ⌜ Same r (wide vh vl % 2 ^ d) ⌝ }
+    ensures { λ r. ⌜ SameZero r (wide vh vl % 2 ^ d) ⌝ }
 {
     if d < 64 {
-        below(vl, d)
+        low_bits(vl, d)
     } else {
-        any(vl, below(vh, d - 64))
+        any(vl, low_bits(vh, d - 64))
     }
 }
 
@@ -156,14 +156,14 @@ fn sum_near(ln: bool, lh: u64, ll: u64, sn: bool, sh: u64, sl: u64, d: u64, e: u
     let x = left_wide(lh, ll, d);
     if ln == sn {
         let v = add_wide(x.hi, x.lo, sh, sl);
-        return rounded_exact(ln, v.hi, v.lo, e);
+        return round_exact(ln, v.hi, v.lo, e);
     }
     if covers(sh, sl, x.hi, x.lo) {
         let v = sub_wide(sh, sl, x.hi, x.lo);
-        rounded_exact(both(sn, nonzero(v.hi, v.lo)), v.hi, v.lo, e)
+        round_exact(both(sn, is_nonzero(v.hi, v.lo)), v.hi, v.lo, e)
     } else {
         let v = sub_wide(x.hi, x.lo, sh, sl);
-        rounded_exact(ln, v.hi, v.lo, e)
+        round_exact(ln, v.hi, v.lo, e)
     }
 }
 
@@ -176,14 +176,14 @@ fn sum_far(ln: bool, lh: u64, ll: u64, sn: bool, sh: u64, sl: u64, d: u64, e: u6
     let x = lost(sh, sl, d);
     if ln == sn {
         let v = add_wide(lh, ll, y.hi, y.lo);
-        return rounded_signed(ln, v.hi, v.lo, x, e);
+        return round_signed(ln, v.hi, v.lo, x, e);
     }
     let v = sub_wide(lh, ll, y.hi, y.lo);
     if x == 0 {
-        rounded_signed(ln, v.hi, v.lo, 0, e)
+        round_signed(ln, v.hi, v.lo, 0, e)
     } else {
         let w = less_one(v.hi, v.lo);
-        rounded_signed(ln, w.hi, w.lo, x, e)
+        round_signed(ln, w.hi, w.lo, x, e)
     }
 }
 
@@ -235,9 +235,9 @@ fn fused_finite(a: f64, b: f64, c: f64) -> f64
     requires { ⌜ T (Scale.finite a) ⌝ ∗ ⌜ T (Scale.finite b) ⌝ ∗ ⌜ T (Scale.finite c) ⌝ }
     ensures { λ r. ⌜ r ≡ fma binary64 a b c ⌝ }
 {
-    let p = taken_apart(a);
-    let q = taken_apart(b);
-    let r = taken_apart(c);
+    let p = parts_of(a);
+    let q = parts_of(b);
+    let r = parts_of(c);
     if p.m == 0 {
         return a * b + c;
     }
@@ -255,8 +255,12 @@ fn fused_finite(a: f64, b: f64, c: f64) -> f64
 fn general(a: f64, b: f64, c: f64) -> f64
     ensures { λ r. ⌜ r ≡ fma binary64 a b c ⌝ }
 {
-    if both(finite(a), finite(b)) {
-        if finite(c) { fused_finite(a, b, c) } else { c }
+    if both(is_finite(a), is_finite(b)) {
+        if is_finite(c) {
+            fused_finite(a, b, c)
+        } else {
+            c
+        }
     } else {
         a * b + c
     }
@@ -264,7 +268,7 @@ fn general(a: f64, b: f64, c: f64) -> f64
 
 // 1 where v is not 0.
 fn mark(v: u64) -> u64
-    ensures { λ r. ⌜ r < 2 ⌝ ∗ ⌜ Same r v ⌝ }
+    ensures { λ r. ⌜ r < 2 ⌝ ∗ ⌜ SameZero r v ⌝ }
 {
     if v == 0 { 0 } else { 1 }
 }
@@ -291,8 +295,8 @@ fn placed(neg: bool, hi: u64, lo: u64, k: u64) -> f64
     ensures { λ r. ⌜ (2 ^ 51 ≤ hi → r ≡ round binary64 neg (wide (hi - 2 ^ 51) lo * 2 ^ (k + 254)) (2 ^ 2404)) ⌝
         ∗ ⌜ (hi < 2 ^ 51 → r ≡ round binary64 (not neg) (((2 ^ 51 - hi) * 2 ^ 64 - lo) * 2 ^ (k + 254)) (2 ^ 2404)) ⌝ ∗ ⌜ lo < 2 ^ 64 ⌝ }
 {
-    let u = assembled(neg, k - 1011, hi) - assembled(neg, k - 1011, 0x8_0000_0000_0001);
-    u + assembled(neg, k - 1063, marked(lo))
+    let u = float_of_fields(neg, k - 1011, hi) - float_of_fields(neg, k - 1011, 0x8_0000_0000_0001);
+    u + float_of_fields(neg, k - 1063, marked(lo))
 }
 
 // A result, where there is one.
@@ -365,7 +369,7 @@ fn beyond(n: bool, ph: u64, pl: u64, c: f64, cn: bool, m: u64, d: u64, k: u64) -
     requires { ⌜ Joined ph pl m d k ⌝ ∗ ⌜ 62 ≤ d ⌝ ∗ ⌜ HasValue c cn (m * 2 ^ (k + 254 + d)) (2 ^ 2404) ⌝ }
     ensures { λ r. ⌜ r ≡ sum binary64 n (wide ph pl * 2 ^ (k + 254)) cn (m * 2 ^ (k + 254 + d)) (2 ^ 2404) ⌝ }
 {
-    let v = assembled(n, k - 1021, marked_wide(ph, pl)) - assembled(n, k - 1021, 0);
+    let v = float_of_fields(n, k - 1021, marked_wide(ph, pl)) - float_of_fields(n, k - 1021, 0);
     c + v
 }
 

@@ -12,7 +12,7 @@ use lib.Ieee.{binary64, down, size, units, round}
 use lib.Ieee.Digits.{size-lt, size-le}
 use lib.Ieee.Fits.{round-is}
 use lib.Ieee.Nearest.{closest}
-use Rattle.elementary.specs.Inside.Round.{Cut, Halved, Any}
+use Rattle.elementary.specs.Inside.Round.{Cut, HalfToEven, Any}
 use Rattle.elementary.proofs.Laws.Halves.{closest-is}
 
 -- ---- two tests that agree
@@ -113,7 +113,7 @@ pub record Steps (m x e k d y q : ℕ) : Type 0 where
   pub drop : k ≡ e + 11 - 1330
   pub down : d ≡ 1329 + k - e
   pub rest : Any (m % 2 ^ d) x y
-  pub half : Halved (m / 2 ^ d) y q
+  pub half : HalfToEven (m / 2 ^ d) y q
 
 pub half-below : (m e k d : ℕ) → m < 2 ^ 64 → k ≡ e + 11 - 1330 → d ≡ 1329 + k - e → m / 2 ^ d < 2 ^ 54
 half-below m e k d h a b = shr-lt 54 d (lt-of-lt-of-le h (pow-mono (wide a b)))
@@ -153,7 +153,7 @@ module _ {m x e k d y q : ℕ} (S : Steps m x e k d y q) where
     kept-is : closest n (den * 2 ^ k) ≡ q
     kept-is =
         closest-is n (den * 2 ^ k) y q (mul-pos D (pow-pos k)) nothing only
-        (subst (λ (h : ℕ). Halved h y q) (ap (λ (z : ℕ). z / 2 ^ d) (sym (C .whole)) ∙ halves-cut 1329 n den e k d D sums) (S .half))
+        (subst (λ (h : ℕ). HalfToEven h y q) (ap (λ (z : ℕ). z / 2 ^ d) (sym (C .whole)) ∙ halves-cut 1329 n den e k d D sums) (S .half))
 
     drop-is : size (n / den) - 53 ≡ k
     drop-is =
@@ -199,7 +199,7 @@ module _ {m x e k d y q : ℕ} (S : Steps m x e k d y q) where
       upper h l e = omega arith
 
 -- some y and q there are
-pub half-of : (h y : ℕ) → (q : ℕ) × Halved h y q
+pub half-of : (h y : ℕ) → (q : ℕ) × HalfToEven h y q
 half-of h y = elim (eq-zero-or-pos y) [
   | inl z ↦ ((h + h / 2 % 2) / 2, record { tie = λ _. refl; more = λ p. absurd (omega arith) })
   | inr p ↦ ((h + 1) / 2, record { tie = λ z. absurd (omega arith); more = λ _. refl })

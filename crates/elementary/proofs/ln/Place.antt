@@ -13,13 +13,13 @@ use lib.Ieee.Fits.{round-fits}
 use Rattle.elementary.specs.Sqrt.{inUnits}
 use Rattle.elementary.specs.Ops.{_⊗_, half}
 use Rattle.elementary.specs.Ln.{SQRT-2, placeOf, significandOf, exponentAt, lnAt, lnInner}
-use Rattle.elementary.specs.Inside.Round.{Decoded, Digits}
+use Rattle.elementary.specs.Inside.Round.{PartsOf, Digits}
 use Rattle.elementary.proofs.Laws.Leaf.{size-of}
 use Rattle.elementary.proofs.Laws.Decode.{same-power}
 use Rattle.elementary.proofs.Laws.Places.{units-of}
 use Rattle.elementary.proofs.Laws.Values.{revalue, value-unique}
 
-module _ (y : Float) (s : Bool) (m i : ℕ) (D : Decoded y s m i) (G : Digits m i) where
+module _ (y : Float) (s : Bool) (m i : ℕ) (D : PartsOf y s m i) (G : Digits m i) where
   abbrev u : ℕ
   u = inUnits binary64 y
 

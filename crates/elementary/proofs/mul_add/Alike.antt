@@ -12,7 +12,7 @@ use lib.Ieee.Digits.{size-lt, size-reaches}
 use lib.Ieee.Fits.{round-is}
 use lib.Ieee.Nearest.{closest}
 use lib.Ieee.Scale.{round-same}
-use Rattle.elementary.specs.Inside.Round.{Cut, Halved, Same}
+use Rattle.elementary.specs.Inside.Round.{Cut, HalfToEven, SameZero}
 use Rattle.elementary.specs.Inside.MulAdd.{Marked}
 use Rattle.elementary.proofs.Laws.Halves.{closest-is}
 use Rattle.elementary.proofs.Laws.Leaf.{half-of, size-of, mul-mod-mul, zero-of-mul, sum-zero-l, sum-zero-r}
@@ -29,7 +29,7 @@ same-closest : (n m d : ℕ) → 0 < d → n * 2 / d ≡ m * 2 / d → (n * 2 % 
 same-closest n m d P e f g =
     let h = half-of (n * 2 / d) (n * 2 % d) in
     closest-is n d (n * 2 % d) (h .0) P (λ z. z) (λ z. z) (h .1)
-    ∙ sym (closest-is m d (n * 2 % d) (h .0) P f g (subst (λ (w : ℕ). Halved w (n * 2 % d) (h .0)) e (h .1)))
+    ∙ sym (closest-is m d (n * 2 % d) (h .0) P f g (subst (λ (w : ℕ). HalfToEven w (n * 2 % d) (h .0)) e (h .1)))
 
 -- ---- the digits from 2 ^ (g + i) on
 lower : (x g i : ℕ) → x % 2 ^ (g + i) ≡ x / 2 ^ g % 2 ^ i * 2 ^ g + x % 2 ^ g
@@ -155,7 +155,7 @@ module _ (g v r : ℕ) (M : Marked (suc g) v r) where
   pub mark-from : r * 2 ^ g % 2 ^ suc g ≡ 0 → v % 2 ^ suc g ≡ 0
   mark-from z = M .to (zero-of-mul (r % 2) (2 ^ g) (pow-pos g) (sym mark-rest ∙ z))
 
-  same-of : (x : ℕ) → Same (x % 2 ^ suc g) (x % 2 ^ suc g)
+  same-of : (x : ℕ) → SameZero (x % 2 ^ suc g) (x % 2 ^ suc g)
   same-of x = record { to = λ z. z; from = λ z. z }
 
   -- ---- h * 2 ^ (g + 1) and it

@@ -6,7 +6,7 @@ use native.Mathlib.Omega.{arith}
 use lib.Dec.{leb, ltb, le→leb, leb→le, lt→ltb, ltb→lt}
 use lib.Arith.{mod-mul}
 use lib.Pow.{pow-add, pow-pos, shr-shr, high, shl-lt}
-use Rattle.elementary.specs.Inside.Round.{wide, Any, Same}
+use Rattle.elementary.specs.Inside.Round.{wide, Any, SameZero}
 use Rattle.elementary.proofs.Laws.Leaf.{same-test, mul-mod-mul, zero-of-mul, sum-zero-l, sum-zero-r}
 use Rattle.elementary.proofs.Laws.Words.{wide-div, wide-mod, top-lt}
 
@@ -177,12 +177,12 @@ right-far h l d u D L e =
     zero-high u = omega arith
 
 -- ---- what is dropped
-pub lost-near : (h l d r : ℕ) → d < 64 → r ≡ l % 2 ^ d → Same r (wide h l % 2 ^ d)
+pub lost-near : (h l d r : ℕ) → d < 64 → r ≡ l % 2 ^ d → SameZero r (wide h l % 2 ^ d)
 lost-near h l d r D e =
     let f : wide h l % 2 ^ d ≡ r = wide-mod h l (64 - d) d (omega arith) ∙ sym e in
     record { to = λ z. f ∙ z; from = λ z. sym f ∙ z }
 
-pub lost-far : (h l d r : ℕ) → 64 ≤ d → l < 2 ^ 64 → Any l (h % 2 ^ (d - 64)) r → Same r (wide h l % 2 ^ d)
+pub lost-far : (h l d r : ℕ) → 64 ≤ d → l < 2 ^ 64 → Any l (h % 2 ^ (d - 64)) r → SameZero r (wide h l % 2 ^ d)
 lost-far h l d r D L A =
     let f : wide h l % 2 ^ d ≡ h % 2 ^ (d - 64) * 2 ^ 64 + l =
     ap (λ (t : ℕ). wide h l % t) (ap (λ (t : ℕ). 2 ^ t) (omega arith) ∙ pow-add 2 64 (d - 64) ∙ mul-comm (2 ^ 64) (2 ^ (d - 64)))

@@ -9,7 +9,7 @@ use lib.Dec.{T, leb}
 use lib.Pow.{pow-pos, pow-mono, shl-lt}
 use lib.Ieee.{Float, nan, inf, fin, binary64, toBits, fits, isNan, eq, add, sub, mul, sum, round, unlike}
 use lib.Ieee.Exact.{HasValue, round-exact}
-use Rattle.elementary.specs.Inside.Round.{wide, Decoded}
+use Rattle.elementary.specs.Inside.Round.{wide, PartsOf}
 use Rattle.elementary.specs.Inside.MulAdd.{Marked, Middling, Opened, Apart}
 use Rattle.elementary.proofs.Laws.Decode.{split-power, same-power, normal-value}
 use Rattle.elementary.proofs.Laws.Values.{revalue}
@@ -276,7 +276,7 @@ module _ (f h : ℕ) (l : f < h + 1075) where
   as-shifted : spot ≡ h + 63 + 1266
   as-shifted = omega arith
 
-  pub addend-value : (x : Float) (s : Bool) (m : ℕ) → Decoded x s m (h + 63) → HasValue x s (m * 2 ^ spot) (2 ^ 2404)
+  pub addend-value : (x : Float) (s : Bool) (m : ℕ) → PartsOf x s m (h + 63) → HasValue x s (m * 2 ^ spot) (2 ^ 2404)
   addend-value x s m A = revalue x s (m * 2 ^ (h + 63)) (2 ^ 1138) (m * 2 ^ spot) (2 ^ 2404) (pow-pos 1138) (same-power m (h + 63) 2404 spot 1138 (omega arith)) (A .value)
 
   addend-is : (m : ℕ) → m * 2 ^ spot ≡ m * 2 ^ (h + 63) * (2 ^ 128 * 2 ^ 1138)
@@ -285,7 +285,7 @@ module _ (f h : ℕ) (l : f < h + 1075) where
 product-is : (a b i j : ℕ) → a * b * 2 ^ (i + j + 254) ≡ a * 2 ^ (i + 63) * (b * 2 ^ (j + 63)) * 2 ^ 128
 product-is a b i j = ap (λ (w : ℕ). a * b * 2 ^ w) (omega arith) ∙ product-form a b (i + 63) (j + 63)
 
-pub fma-is : (x y z : Float) (s t v : Bool) (a b c i j h p : ℕ) → i + j < h + 1075 → Decoded x s a (i + 63) → Decoded y t b (j + 63) → Decoded z v c (h + 63) → p ≡ a * b
+pub fma-is : (x y z : Float) (s t v : Bool) (a b c i j h p : ℕ) → i + j < h + 1075 → PartsOf x s a (i + 63) → PartsOf y t b (j + 63) → PartsOf z v c (h + 63) → p ≡ a * b
     → sum binary64 (unlike s t) (p * 2 ^ (i + j + 254)) v (c * 2 ^ (i + j + 254 + (h + 1075 - (i + j)))) (2 ^ 2404) ≡ fma binary64 x y z
 fma-is x y z s t v a b c i j h p l A B C e =
     ap (λ (w : ℕ). sum binary64 (unlike s t) w v (c * 2 ^ (i + j + 254 + (h + 1075 - (i + j)))) (2 ^ 2404)) (ap (λ (w : ℕ). w * 2 ^ (i + j + 254)) e ∙ product-is a b i j)

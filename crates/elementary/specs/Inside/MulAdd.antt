@@ -5,7 +5,7 @@ use mathlib.Core.Bool.{Bool, true, false, not}
 use Prim.Native.Nat.{ℕ, _+_, _/_, _%_, _^_, _<_, _≤_}
 use lib.Dec.{T}
 use lib.Ieee.{Float, binary64, toBits, isNan, fits, add, lt, eq}
-use Rattle.elementary.specs.Inside.Round.{wide, Decoded}
+use Rattle.elementary.specs.Inside.Round.{wide, PartsOf}
 
 -- It has 105 or 106 digits.
 pub record Placed (hi lo : ℕ) : Type 0 where
@@ -86,7 +86,7 @@ pub record Opened (x : Float) (s : Bool) (m e : ℕ) : Type 0 where
   pub lead : 2 ^ 52 ≤ m
   pub top : m < 2 ^ 53
   pub field : e < 2 ^ 11
-  pub value : 0 < e → e < 2047 → Decoded x s m (e + 63)
+  pub value : 0 < e → e < 2047 → PartsOf x s m (e + 63)
 
 -- ---- a whole factor and a whole addend
 

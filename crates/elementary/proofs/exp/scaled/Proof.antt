@@ -18,17 +18,17 @@ far-requires-2 c κs = search needs
 returns-2 : tie.Need-returns-2
 returns-2 c = search needs
 
-sub-assembled : tie.Need-sub-assembled
-sub-assembled c = search needs
+sub-float-of-fields : tie.Need-sub-float-of-fields
+sub-float-of-fields c = search needs
 
-assembled-requires : tie.Need-assembled-requires
-assembled-requires c κs = search needs
+float-of-fields-requires : tie.Need-float-of-fields-requires
+float-of-fields-requires c κs = search needs
 
 returns-3 : tie.Need-returns-3
 returns-3 c =
     let a = c .before .before .before in
-    power.mul-power binary64 (a .args .p) (c .assembled .result) (a .args .e) 2048
-    (power.field-power (c .assembled .result) (a .args .e) (omega arith) (c .assembled .ensures))
+    power.mul-power binary64 (a .args .p) (c .float-of-fields .result) (a .args .e) 2048
+    (power.field-power (c .float-of-fields .result) (a .args .e) (omega arith) (c .float-of-fields .ensures))
 
 pub scaled-spec : {M : Type 1} → statement M
 scaled-spec =
@@ -38,6 +38,6 @@ scaled-spec =
     returns
     far-requires-2
     returns-2
-    sub-assembled
-    assembled-requires
+    sub-float-of-fields
+    float-of-fields-requires
     returns-3)

@@ -14,30 +14,30 @@ use borrow.Author.Needs.{needs}
 use Rattle.elementary.proofs.ln.positive.Statement.{statement}
 use Rattle.elementary.proofs.ln.positive.Tie as tie
 
-digits : (d : tie.After-taken-apart) → Digits (d .taken-apart .result .m) (d .taken-apart .result .e)
-digits d = digits-of (d .before .args .y) (d .taken-apart .result .neg) (d .taken-apart .result .m) (d .taken-apart .result .e) (d .before .pre) (d .taken-apart .ensures)
+digits : (d : tie.After-parts-of) → Digits (d .parts-of .result .m) (d .parts-of .result .e)
+digits d = digits-of (d .before .args .y) (d .parts-of .result .neg) (d .parts-of .result .m) (d .parts-of .result .e) (d .before .pre) (d .parts-of .ensures)
 
-place : (d : tie.After-taken-apart) → d .taken-apart .result .e - 12 ≡ placeOf (d .before .args .y)
-place d = place-is (d .before .args .y) (d .taken-apart .result .neg) (d .taken-apart .result .m) (d .taken-apart .result .e) (d .taken-apart .ensures) (digits d)
+place : (d : tie.After-parts-of) → d .parts-of .result .e - 12 ≡ placeOf (d .before .args .y)
+place d = place-is (d .before .args .y) (d .parts-of .result .neg) (d .parts-of .result .m) (d .parts-of .result .e) (d .parts-of .ensures) (digits d)
 
 back : (m : ℕ) → 2 ^ 52 ≤ m → 2 ^ 52 + (m - 2 ^ 52) ≡ m
 back m h = omega arith
 
-significand : (c : tie.After-assembled) → c .assembled .result ≡ significandOf (c .before .before .before .args .y)
+significand : (c : tie.After-float-of-fields) → c .float-of-fields .result ≡ significandOf (c .before .before .before .args .y)
 significand c =
     let d = c .before .before in
-    let m = d .taken-apart .result .m in
-    significand-is (d .before .args .y) (d .taken-apart .result .neg) m (d .taken-apart .result .e) (d .taken-apart .ensures) (digits d) (c .assembled .result) (subst T (sym (c .assembled .ok)) tt)
-    (subst (λ (w : ℕ). HasValue (c .assembled .result) _ (w * 2 ^ 2352) (2 ^ 2404)) (back m (digits d .lead)) (c .assembled .ensures))
+    let m = d .parts-of .result .m in
+    significand-is (d .before .args .y) (d .parts-of .result .neg) m (d .parts-of .result .e) (d .parts-of .ensures) (digits d) (c .float-of-fields .result) (subst T (sym (c .float-of-fields .ok)) tt)
+    (subst (λ (w : ℕ). HasValue (c .float-of-fields .result) _ (w * 2 ^ 2352) (2 ^ 2404)) (back m (digits d .lead)) (c .float-of-fields .ensures))
 
-taken-apart-requires : tie.Need-taken-apart-requires
-taken-apart-requires c κs = positive-finite (c .args .y) (c .pre)
+parts-of-requires : tie.Need-parts-of-requires
+parts-of-requires c κs = positive-finite (c .args .y) (c .pre)
 
-sub-assembled : tie.Need-sub-assembled
-sub-assembled c = digits (c .before) .lead
+sub-float-of-fields : tie.Need-sub-float-of-fields
+sub-float-of-fields c = digits (c .before) .lead
 
-assembled-requires : tie.Need-assembled-requires
-assembled-requires c κs = (lit< tt, (lit< tt, under (c .before .taken-apart .result .m) (digits (c .before) .lead) (digits (c .before) .top)))
+float-of-fields-requires : tie.Need-float-of-fields-requires
+float-of-fields-requires c κs = (lit< tt, (lit< tt, under (c .before .parts-of .result .m) (digits (c .before) .lead) (digits (c .before) .top)))
   where
     under : (m : ℕ) → 2 ^ 52 ≤ m → m < 2 ^ 53 → m - 2 ^ 52 < 2 ^ 52
     under m h k = omega arith
@@ -63,17 +63,17 @@ returns c =
     c .near-one .ensures
     ∙ ap (lnAt (j .if1 .m)) (c .before .exponent .ensures)
     ∙ ⊎-elim
-    (λ w. halved (d .before .args .y) (a .assembled .result) (j .if1 .m) (d .taken-apart .result .e - 12) (j .if1 .place) (significand a) (place d) (w .0 .taken) (w .1) (w .2))
-    (λ w. kept (d .before .args .y) (a .assembled .result) (j .if1 .m) (d .taken-apart .result .e - 12) (j .if1 .place) (significand a) (place d) (w .0 .left) (w .1) (w .2))
+    (λ w. halved (d .before .args .y) (a .float-of-fields .result) (j .if1 .m) (d .parts-of .result .e - 12) (j .if1 .place) (significand a) (place d) (w .0 .taken) (w .1) (w .2))
+    (λ w. kept (d .before .args .y) (a .float-of-fields .result) (j .if1 .m) (d .parts-of .result .e - 12) (j .if1 .place) (significand a) (place d) (w .0 .left) (w .1) (w .2))
     (j .if1 .came)
 
 pub positive-spec : {M : Type 1} → statement M
 positive-spec =
     tie.close
     (tie.spec
-    taken-apart-requires
-    sub-assembled
-    assembled-requires
+    parts-of-requires
+    sub-float-of-fields
+    float-of-fields-requires
     sub-place
     add-place
     exponent-requires

@@ -13,27 +13,27 @@ use Rattle.elementary.proofs.mul_add.general.Tie as tie
 factors : (d : tie.After-both) → (scale.finite (d .before .before .before .args .a) && scale.finite (d .before .before .before .args .b)) ≡ d .both .result
 factors d =
     sym (d .both .ensures
-    ∙ ap (λ (z : Bool). z && d .before .finite2 .result) (d .before .before .finite .ensures)
-    ∙ ap (λ (z : Bool). scale.finite (d .before .before .before .args .a) && z) (d .before .finite2 .ensures))
+    ∙ ap (λ (z : Bool). z && d .before .is-finite2 .result) (d .before .before .is-finite .ensures)
+    ∙ ap (λ (z : Bool). scale.finite (d .before .before .before .args .a) && z) (d .before .is-finite2 .ensures))
 
-finite-requires : tie.Need-finite-requires
-finite-requires c κs = search needs
+is-finite-requires : tie.Need-is-finite-requires
+is-finite-requires c κs = search needs
 
-finite-requires-2 : tie.Need-finite-requires-2
-finite-requires-2 c κs = search needs
+is-finite-requires-2 : tie.Need-is-finite-requires-2
+is-finite-requires-2 c κs = search needs
 
 both-requires : tie.Need-both-requires
 both-requires c κs = search needs
 
-finite-requires-3 : tie.Need-finite-requires-3
-finite-requires-3 c κs = search needs
+is-finite-requires-3 : tie.Need-is-finite-requires-3
+is-finite-requires-3 c κs = search needs
 
 fused-finite-requires : tie.Need-fused-finite-requires
 fused-finite-requires c κs =
     let d = c .before .before .before in
     let a = d .before .before .before in
     let t : T (scale.finite (a .args .a) && scale.finite (a .args .b)) = subst T (sym (factors d ∙ c .before .before .if1 .taken)) tt in
-    (and-l (scale.finite (a .args .a)) (scale.finite (a .args .b)) t, (and-r (scale.finite (a .args .a)) (scale.finite (a .args .b)) t, subst T (sym (sym (c .before .finite3 .ensures) ∙ c .if2 .taken)) tt))
+    (and-l (scale.finite (a .args .a)) (scale.finite (a .args .b)) t, (and-r (scale.finite (a .args .a)) (scale.finite (a .args .b)) t, subst T (sym (sym (c .before .is-finite3 .ensures) ∙ c .if2 .taken)) tt))
 
 returns : tie.Need-returns
 returns c = search needs
@@ -42,7 +42,7 @@ returns-2 : tie.Need-returns-2
 returns-2 c =
     let d = c .before .before .before in
     let a = d .before .before .before in
-    exactly.addend binary64 (a .args .a) (a .args .b) (a .args .c) (factors d ∙ c .before .before .if1 .taken) (sym (c .before .finite3 .ensures) ∙ c .if2 .left)
+    exactly.addend binary64 (a .args .a) (a .args .b) (a .args .c) (factors d ∙ c .before .before .if1 .taken) (sym (c .before .is-finite3 .ensures) ∙ c .if2 .left)
 
 returns-3 : tie.Need-returns-3
 returns-3 c =
@@ -53,10 +53,10 @@ pub general-spec : {M : Type 1} → statement M
 general-spec =
     tie.close
     (tie.spec
-    finite-requires
-    finite-requires-2
+    is-finite-requires
+    is-finite-requires-2
     both-requires
-    finite-requires-3
+    is-finite-requires-3
     fused-finite-requires
     returns
     returns-2

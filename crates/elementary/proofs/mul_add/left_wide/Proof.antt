@@ -10,24 +10,24 @@ use Rattle.elementary.proofs.mul_add.left_wide.Tie as tie
 whole : (d : ℕ) → d < 64 → 64 - d + d ≡ 64
 whole d h = omega arith
 
-sub-shifted : tie.Need-sub-shifted
-sub-shifted c = search needs
+sub-shift-right : tie.Need-sub-shift-right
+sub-shift-right c = search needs
 
-shifted-requires : tie.Need-shifted-requires
-shifted-requires c κs = search needs
+shift-right-requires : tie.Need-shift-right-requires
+shift-right-requires c κs = search needs
 
-raised-requires : tie.Need-raised-requires
-raised-requires c κs = (c .before .pre .0, carry.left-high (2 ^ 64) (c .before .args .vh) (c .before .args .vl) (2 ^ c .before .args .d) (c .before .pre .1))
+shift-left-requires : tie.Need-shift-left-requires
+shift-left-requires c κs = (c .before .pre .0, carry.left-high (2 ^ 64) (c .before .args .vh) (c .before .args .vl) (2 ^ c .before .args .d) (c .before .pre .1))
 
 add-t6 : tie.Need-add-t6
-add-t6 c = record { fits = carry.left-sum (c .before .before .args .vh) (c .before .before .args .vl) (c .before .before .args .d) (64 - c .before .before .args .d) (c .before .shifted .result) (c .raised .result) (whole (c .before .before .args .d) (c .before .before .pre .0)) (c .before .shifted .ensures) (c .raised .ensures) (c .before .before .pre .1) }
+add-t6 c = record { fits = carry.left-sum (c .before .before .args .vh) (c .before .before .args .vl) (c .before .before .args .d) (64 - c .before .before .args .d) (c .before .shift-right .result) (c .shift-left .result) (whole (c .before .before .args .d) (c .before .before .pre .0)) (c .before .shift-right .ensures) (c .shift-left .ensures) (c .before .before .pre .1) }
 
 shl-t7 : tie.Need-shl-t7
 shl-t7 c = search needs
 
 returns : tie.Need-returns
-returns c = carry.left-law (c .before .before .args .vh) (c .before .before .args .vl) (c .before .before .args .d) (64 - c .before .before .args .d) (c .before .shifted .result) (c .raised .result) (whole (c .before .before .args .d) (c .before .before .pre .0)) (c .before .shifted .ensures) (c .raised .ensures)
+returns c = carry.left-law (c .before .before .args .vh) (c .before .before .args .vl) (c .before .before .args .d) (64 - c .before .before .args .d) (c .before .shift-right .result) (c .shift-left .result) (whole (c .before .before .args .d) (c .before .before .pre .0)) (c .before .shift-right .ensures) (c .shift-left .ensures)
 
 pub left-wide-spec : {M : Type 1} → statement M
 left-wide-spec =
-    tie.close (tie.spec sub-shifted shifted-requires raised-requires add-t6 shl-t7 returns)
+    tie.close (tie.spec sub-shift-right shift-right-requires shift-left-requires add-t6 shl-t7 returns)

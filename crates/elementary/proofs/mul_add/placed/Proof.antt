@@ -20,35 +20,35 @@ down hi A h = elim (A .off) [ inl g ↦ absurd (no g h) | inr g ↦ g ]
     no : 2 ^ 51 + 8 ≤ hi → hi < 2 ^ 51 → ⊥
     no g k = omega arith
 
-sub-assembled : tie.Need-sub-assembled
-sub-assembled c = search needs
+sub-float-of-fields : tie.Need-sub-float-of-fields
+sub-float-of-fields c = search needs
 
-assembled-requires : tie.Need-assembled-requires
-assembled-requires c κs = search needs
+float-of-fields-requires : tie.Need-float-of-fields-requires
+float-of-fields-requires c κs = search needs
 
-sub-assembled-2 : tie.Need-sub-assembled-2
-sub-assembled-2 c = search needs
+sub-float-of-fields-2 : tie.Need-sub-float-of-fields-2
+sub-float-of-fields-2 c = search needs
 
-assembled-requires-2 : tie.Need-assembled-requires-2
-assembled-requires-2 c κs = search needs
+float-of-fields-requires-2 : tie.Need-float-of-fields-requires-2
+float-of-fields-requires-2 c κs = search needs
 
-sub-assembled-3 : tie.Need-sub-assembled-3
-sub-assembled-3 c = search needs
+sub-float-of-fields-3 : tie.Need-sub-float-of-fields-3
+sub-float-of-fields-3 c = search needs
 
 marked-requires : tie.Need-marked-requires
 marked-requires c κs = search needs
 
-assembled-requires-3 : tie.Need-assembled-requires-3
-assembled-requires-3 c κs = search needs
+float-of-fields-requires-3 : tie.Need-float-of-fields-requires-3
+float-of-fields-requires-3 c κs = search needs
 
 returns : tie.Need-returns
 returns c =
     let d = c .before in
     let a = d .before .before .before in
-    let x = d .before .before .assembled in
-    let y = d .before .assembled2 in
+    let x = d .before .before .float-of-fields in
+    let y = d .before .float-of-fields2 in
     let m = d .marked in
-    let z = c .assembled3 in (
+    let z = c .float-of-fields3 in (
       λ h. machine.placed-up (x .result) (y .result) (z .result) (a .args .neg) (a .args .hi) (a .args .lo) (m .result) (a .args .k) (a .pre .room) (m .ensures .1) (a .fits .lo .fits) (m .ensures .0) (a .pre .top) (x .ensures) (y .ensures) (z .ensures) (up (a .args .hi) (a .pre .apart) h),
       (λ h. machine.placed-down (x .result) (y .result) (z .result) (a .args .neg) (a .args .hi) (a .args .lo) (m .result) (a .args .k) (a .pre .room) (m .ensures .1) (a .fits .lo .fits) (m .ensures .0) (a .pre .top) (x .ensures) (y .ensures) (z .ensures) (down (a .args .hi) (a .pre .apart) h), a .fits .lo .fits),
     )
@@ -57,11 +57,11 @@ pub placed-spec : {M : Type 1} → statement M
 placed-spec =
     tie.close
     (tie.spec
-    sub-assembled
-    assembled-requires
-    sub-assembled-2
-    assembled-requires-2
-    sub-assembled-3
+    sub-float-of-fields
+    float-of-fields-requires
+    sub-float-of-fields-2
+    float-of-fields-requires-2
+    sub-float-of-fields-3
     marked-requires
-    assembled-requires-3
+    float-of-fields-requires-3
     returns)

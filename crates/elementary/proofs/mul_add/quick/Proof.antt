@@ -6,7 +6,7 @@ use native.Mathlib.Nat.{mul-le-mul}
 use native.Mathlib.Omega.{arith}
 use lib.Ieee.{binary64, unlike, sum}
 use Rattle.elementary.specs.MulAdd.{fma}
-use Rattle.elementary.specs.Inside.Round.{wide, Decoded}
+use Rattle.elementary.specs.Inside.Round.{wide, PartsOf}
 use Rattle.elementary.specs.Inside.MulAdd.{Placed, Middling, Joined}
 use Rattle.elementary.proofs.mul_add.Carry as carry
 use Rattle.elementary.proofs.mul_add.Machine as machine
@@ -76,13 +76,13 @@ module _ (d : tie.After-product) where
   room : Middling (ea + eb)
   room = record { low = sum-low ea eb a-low b-low; high = sum-high ea eb a-high b-high }
 
-  a-is : Decoded (start .args .a) (p .opened .result .neg) (p .opened .result .m) (ea + 63)
+  a-is : PartsOf (start .args .a) (p .opened .result .neg) (p .opened .result .m) (ea + 63)
   a-is = p .opened .ensures .value (some ea a-low) (small ea a-high)
 
-  b-is : Decoded (start .args .b) (q .opened2 .result .neg) (q .opened2 .result .m) (eb + 63)
+  b-is : PartsOf (start .args .b) (q .opened2 .result .neg) (q .opened2 .result .m) (eb + 63)
   b-is = q .opened2 .ensures .value (some eb b-low) (small eb b-high)
 
-  c-is : ec < 2047 → Decoded (start .args .c) (r .opened3 .result .neg) (r .opened3 .result .m) (ec + 63)
+  c-is : ec < 2047 → PartsOf (start .args .c) (r .opened3 .result .neg) (r .opened3 .result .m) (ec + 63)
   c-is h = r .opened3 .ensures .value (some-addend (ea + eb) ec (room .low) order) h
 
   joined : Joined (d .product .result .hi) (d .product .result .lo) (r .opened3 .result .m) (ec + 1075 - (ea + eb)) (ea + eb)

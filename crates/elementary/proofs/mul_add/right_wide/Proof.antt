@@ -25,15 +25,15 @@ shr-t10 c = search needs
 add-t11 : tie.Need-add-t11
 add-t11 c = record { fits = carry.right-fits (c .before .args .vh) (c .before .args .vl) (64 - c .before .args .d) (c .before .args .d) (whole (c .before .args .d) (c .if1 .taken)) (c .before .fits .vl .fits) }
 
-shifted-requires : tie.Need-shifted-requires
-shifted-requires c κs = search needs
+shift-right-requires : tie.Need-shift-right-requires
+shift-right-requires c κs = search needs
 
 returns : tie.Need-returns
 returns c = carry.right-law (c .before .args .vh) (c .before .args .vl) (64 - c .before .args .d) (c .before .args .d) (whole (c .before .args .d) (c .if1 .taken))
 
 returns-2 : tie.Need-returns-2
-returns-2 c = carry.right-far (c .before .before .args .vh) (c .before .before .args .vl) (c .before .before .args .d) (c .shifted .result) (c .before .if1 .left) (c .before .before .fits .vl .fits) (c .shifted .ensures)
+returns-2 c = carry.right-far (c .before .before .args .vh) (c .before .before .args .vl) (c .before .before .args .d) (c .shift-right .result) (c .before .if1 .left) (c .before .before .fits .vl .fits) (c .shift-right .ensures)
 
 pub right-wide-spec : {M : Type 1} → statement M
 right-wide-spec =
-    tie.close (tie.spec shr-t7 sub-t8 shl-t9 shr-t10 add-t11 shifted-requires returns returns-2)
+    tie.close (tie.spec shr-t7 sub-t8 shl-t9 shr-t10 add-t11 shift-right-requires returns returns-2)

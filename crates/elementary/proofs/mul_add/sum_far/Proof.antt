@@ -51,8 +51,8 @@ add-wide-requires c κs =
     let y = c .before .before .right-wide in
     sums.wide-room (wide (a .args .lh) (a .args .ll)) (wide (y .result .hi) (y .result .lo)) (lt-of-lt-of-le (a .pre .large .high) (lit≤ tt)) (lt-of-lt-of-le (y-small a (y .ensures)) (lit≤ tt))
 
-rounded-signed-requires : tie.Need-rounded-signed-requires
-rounded-signed-requires c κs =
+round-signed-requires : tie.Need-round-signed-requires
+round-signed-requires c κs =
     let a = c .before .before .before .before in
     let y = c .before .before .before .right-wide in
     let v = c .add-wide in
@@ -67,7 +67,7 @@ returns c =
     let v = c .before .add-wide in
     let l = wide (a .args .lh) (a .args .ll) in
     let s = wide (a .args .sh) (a .args .sl) in
-    c .rounded-signed .ensures (l * 2 ^ a .args .e + s * 2 ^ (a .args .e - a .args .d)) (2 ^ 2404) (pow-pos 2404)
+    c .round-signed .ensures (l * 2 ^ a .args .e + s * 2 ^ (a .args .e - a .args .d)) (2 ^ 2404) (pow-pos 2404)
     (sums.far-plus l s (a .args .d) (a .args .e) (a .pre .room) (2 ^ 2404) (pow-pos 2404)
     (sums.cut-plus l s (2 ^ a .args .d) (wide (y .result .hi) (y .result .lo)) (x .result) (pow-pos (a .args .d)) (y .ensures) (x .ensures) (wide (v .result .hi) (v .result .lo)) (v .ensures)))
     ∙ sym (sums.sum-same binary64 (a .args .ln) (a .args .sn) (l * 2 ^ a .args .e) (s * 2 ^ (a .args .e - a .args .d)) (2 ^ 2404) (c .before .before .if1 .taken))
@@ -78,8 +78,8 @@ sub-wide-requires c κs =
     let y = c .before .before .right-wide in
     le-trans (le-of-lt (y-small a (y .ensures))) (le-trans (lit≤ tt) (a .pre .large .low))
 
-rounded-signed-requires-2 : tie.Need-rounded-signed-requires-2
-rounded-signed-requires-2 c κs =
+round-signed-requires-2 : tie.Need-round-signed-requires-2
+round-signed-requires-2 c κs =
     let a = c .before .before .before .before .before in
     let y = c .before .before .before .before .right-wide in
     let v = c .before .sub-wide in
@@ -93,8 +93,8 @@ less-one-requires c κs =
     let v = c .before .sub-wide in
     subst (λ (z : ℕ). 0 < z) (sym (v .ensures)) (le-trans (lit≤ tt) (less-big (wide (a .args .lh) (a .args .ll)) (wide (y .result .hi) (y .result .lo)) (a .pre .large .low) (y-small a (y .ensures))))
 
-rounded-signed-requires-3 : tie.Need-rounded-signed-requires-3
-rounded-signed-requires-3 c κs =
+round-signed-requires-3 : tie.Need-round-signed-requires-3
+round-signed-requires-3 c κs =
     let a = c .before .before .before .before .before .before in
     let y = c .before .before .before .before .before .right-wide in
     let v = c .before .before .sub-wide in
@@ -110,7 +110,7 @@ returns-2 c =
     let v = c .before .before .sub-wide in
     let l = wide (a .args .lh) (a .args .ll) in
     let s = wide (a .args .sh) (a .args .sl) in
-    c .rounded-signed2 .ensures (l * 2 ^ a .args .e - s * 2 ^ (a .args .e - a .args .d)) (2 ^ 2404) (pow-pos 2404)
+    c .round-signed2 .ensures (l * 2 ^ a .args .e - s * 2 ^ (a .args .e - a .args .d)) (2 ^ 2404) (pow-pos 2404)
     (sums.far-minus l s (a .args .d) (a .args .e) (a .pre .room) (2 ^ 2404) (pow-pos 2404)
     (sums.cut-exact-minus l s (2 ^ a .args .d) (wide (y .result .hi) (y .result .lo)) (x .result) (pow-pos (a .args .d)) (y .ensures) (x .ensures) (wide (v .result .hi) (v .result .lo)) (c .before .if2 .taken) (v .ensures)))
     ∙ differ a (c .before .before .before .if1 .left)
@@ -124,7 +124,7 @@ returns-3 c =
     let w = c .before .less-one in
     let l = wide (a .args .lh) (a .args .ll) in
     let s = wide (a .args .sh) (a .args .sl) in
-    c .rounded-signed3 .ensures (l * 2 ^ a .args .e - s * 2 ^ (a .args .e - a .args .d)) (2 ^ 2404) (pow-pos 2404)
+    c .round-signed3 .ensures (l * 2 ^ a .args .e - s * 2 ^ (a .args .e - a .args .d)) (2 ^ 2404) (pow-pos 2404)
     (sums.far-minus l s (a .args .d) (a .args .e) (a .pre .room) (2 ^ 2404) (pow-pos 2404)
     (sums.cut-minus l s (2 ^ a .args .d) (wide (y .result .hi) (y .result .lo)) (x .result) (pow-pos (a .args .d)) (y .ensures) (x .ensures) (wide (w .result .hi) (w .result .lo))
     (omega arith) (lt-of-lt-of-le (y-small a (y .ensures)) (le-trans (lit≤ tt) (a .pre .large .low))) (w .ensures ∙ ap (λ (z : ℕ). z - 1) (v .ensures))))
@@ -137,11 +137,11 @@ sum-far-spec =
     right-wide-requires
     lost-requires
     add-wide-requires
-    rounded-signed-requires
+    round-signed-requires
     returns
     sub-wide-requires
-    rounded-signed-requires-2
+    round-signed-requires-2
     less-one-requires
-    rounded-signed-requires-3
+    round-signed-requires-3
     returns-2
     returns-3)

@@ -27,15 +27,15 @@ add-wide-requires c κs =
     (subst (λ (z : ℕ). z < 2 ^ 126) (sym (x .ensures)) (sums.near-fits (wide (a .args .lh) (a .args .ll)) (a .args .d) (a .pre .large .high) (a .pre .close)))
     (a .pre .small .high)
 
-rounded-exact-requires : tie.Need-rounded-exact-requires
-rounded-exact-requires c κs = search needs
+round-exact-requires : tie.Need-round-exact-requires
+round-exact-requires c κs = search needs
 
 returns : tie.Need-returns
 returns c =
     let a = c .before .before .before .before in
     let x = c .before .before .before .left-wide in
     let v = c .before .add-wide in
-    c .rounded-exact .ensures
+    c .round-exact .ensures
     ∙ sums.near-same binary64 (a .args .ln) (a .args .sn) (wide (a .args .lh) (a .args .ll)) (wide (x .result .hi) (x .result .lo)) (wide (a .args .sh) (a .args .sl))
     (wide (v .result .hi) (v .result .lo)) (a .args .d) (a .args .e) (2 ^ 2404) (x .ensures) (c .before .before .if1 .taken) (v .ensures)
 
@@ -48,14 +48,14 @@ sub-wide-requires c κs =
     let x = c .before .before .before .left-wide in
     leb-true (wide (x .result .hi) (x .result .lo)) (wide (a .args .sh) (a .args .sl)) (sym (c .before .covers .ensures) ∙ c .if2 .taken)
 
-nonzero-requires : tie.Need-nonzero-requires
-nonzero-requires c κs = search needs
+is-nonzero-requires : tie.Need-is-nonzero-requires
+is-nonzero-requires c κs = search needs
 
 both-requires : tie.Need-both-requires
 both-requires c κs = search needs
 
-rounded-exact-requires-2 : tie.Need-rounded-exact-requires-2
-rounded-exact-requires-2 c κs = search needs
+round-exact-requires-2 : tie.Need-round-exact-requires-2
+round-exact-requires-2 c κs = search needs
 
 sub-wide-requires-2 : tie.Need-sub-wide-requires-2
 sub-wide-requires-2 c κs =
@@ -63,8 +63,8 @@ sub-wide-requires-2 c κs =
     let x = c .before .before .before .left-wide in
     le-of-lt (leb-false (wide (x .result .hi) (x .result .lo)) (wide (a .args .sh) (a .args .sl)) (sym (c .before .covers .ensures) ∙ c .if2 .left))
 
-rounded-exact-requires-3 : tie.Need-rounded-exact-requires-3
-rounded-exact-requires-3 c κs = search needs
+round-exact-requires-3 : tie.Need-round-exact-requires-3
+round-exact-requires-3 c κs = search needs
 
 returns-2 : tie.Need-returns-2
 returns-2 c =
@@ -72,8 +72,8 @@ returns-2 c =
     let x = c .before .before .before .before .before .before .before .left-wide in
     let v = c .before .before .before .sub-wide in
     let w = wide (v .result .hi) (v .result .lo) in
-    c .rounded-exact2 .ensures
-    ∙ ap (λ (z : Bool). round binary64 z (w * 2 ^ a .args .e) (2 ^ 2404)) (c .before .both .ensures ∙ ap (λ (z : Bool). a .args .sn && z) (c .before .before .nonzero .ensures))
+    c .round-exact2 .ensures
+    ∙ ap (λ (z : Bool). round binary64 z (w * 2 ^ a .args .e) (2 ^ 2404)) (c .before .both .ensures ∙ ap (λ (z : Bool). a .args .sn && z) (c .before .before .is-nonzero .ensures))
     ∙ sums.near-less binary64 (a .args .ln) (a .args .sn) (wide (a .args .lh) (a .args .ll)) (wide (x .result .hi) (x .result .lo)) (wide (a .args .sh) (a .args .sl))
     w (a .args .d) (a .args .e) (2 ^ 2404) (x .ensures) (c .before .before .before .before .before .before .if1 .left)
     (leb-true (wide (x .result .hi) (x .result .lo)) (wide (a .args .sh) (a .args .sl)) (sym (c .before .before .before .before .before .covers .ensures) ∙ c .before .before .before .before .if2 .taken))
@@ -84,7 +84,7 @@ returns-3 c =
     let a = c .before .before .before .before .before .before in
     let x = c .before .before .before .before .before .left-wide in
     let v = c .before .sub-wide2 in
-    c .rounded-exact3 .ensures
+    c .round-exact3 .ensures
     ∙ sums.near-more binary64 (a .args .ln) (a .args .sn) (wide (a .args .lh) (a .args .ll)) (wide (x .result .hi) (x .result .lo)) (wide (a .args .sh) (a .args .sl))
     (wide (v .result .hi) (v .result .lo)) (a .args .d) (a .args .e) (2 ^ 2404) (x .ensures) (c .before .before .before .before .if1 .left)
     (leb-false (wide (x .result .hi) (x .result .lo)) (wide (a .args .sh) (a .args .sl)) (sym (c .before .before .before .covers .ensures) ∙ c .before .before .if2 .left))
@@ -96,14 +96,14 @@ sum-near-spec =
     (tie.spec
     left-wide-requires
     add-wide-requires
-    rounded-exact-requires
+    round-exact-requires
     returns
     covers-requires
     sub-wide-requires
-    nonzero-requires
+    is-nonzero-requires
     both-requires
-    rounded-exact-requires-2
+    round-exact-requires-2
     sub-wide-requires-2
-    rounded-exact-requires-3
+    round-exact-requires-3
     returns-2
     returns-3)

@@ -1,12 +1,12 @@
--- `round::shifted` meets its contract: from 64 on nothing is left. Assumes nothing.
+-- `round::shift_right` meets its contract: from 64 on nothing is left. Assumes nothing.
 use borrow.Author.Needs.{needs}
 use mathlib.Core.Path.{sym}
 use native.Mathlib.Nat.{div-eq-of-lt, lt-of-lt-of-le}
 use native.Mathlib.Omega.{arith}
 use lib.Pow.{pow-mono}
 use Prim.Native.Nat.{_≤_}
-use Rattle.elementary.proofs.round.shifted.Statement.{statement}
-use Rattle.elementary.proofs.round.shifted.Tie as tie
+use Rattle.elementary.proofs.round.shift_right.Statement.{statement}
+use Rattle.elementary.proofs.round.shift_right.Tie as tie
 
 shr-result : tie.Need-shr-result
 shr-result c = search needs
@@ -19,5 +19,5 @@ returns-2 c =
     let h : 64 ≤ c .before .args .d = omega arith in
     sym (div-eq-of-lt (lt-of-lt-of-le (c .before .fits .m .fits) (pow-mono h)))
 
-pub shifted-spec : {M : Type 1} → statement M
-shifted-spec = tie.close (tie.spec shr-result returns returns-2)
+pub shift-right-spec : {M : Type 1} → statement M
+shift-right-spec = tie.close (tie.spec shr-result returns returns-2)

@@ -1,10 +1,10 @@
--- `round::assembled` meets its contract: the fields read back from the pattern (Fields). Assumes nothing.
+-- `round::float_of_fields` meets its contract: the fields read back from the pattern (Fields). Assumes nothing.
 use Prim.Native.Nat.{ℕ, _+_, _*_, _%_, _^_, _<_}
 use native.Mathlib.Omega.{arith}
 use Rattle.elementary.proofs.Laws.Fields as fields
 use borrow.Author.Needs.{needs}
-use Rattle.elementary.proofs.round.assembled.Statement.{statement}
-use Rattle.elementary.proofs.round.assembled.Tie as tie
+use Rattle.elementary.proofs.round.float_of_fields.Statement.{statement}
+use Rattle.elementary.proofs.round.float_of_fields.Tie as tie
 
 sign-bit-requires : tie.Need-sign-bit-requires
 sign-bit-requires c κs = search needs
@@ -24,6 +24,6 @@ float-from-bits-result c = fields.pattern-no-nan (c .before .args .neg) (c .befo
 returns : tie.Need-returns
 returns c = fields.pattern-value (c .before .args .neg) (c .before .args .f) (c .before .args .t) (c .sign-bit .result) (c .before .pre .1 .0) (c .before .pre .1 .1) (c .sign-bit .ensures) (c .before .pre .0)
 
-pub assembled-spec : {M : Type 1} → statement M
-assembled-spec =
+pub float-of-fields-spec : {M : Type 1} → statement M
+float-of-fields-spec =
     tie.close (tie.spec sign-bit-requires add-result add-result-2 float-from-bits-result returns)
