@@ -5,4 +5,4 @@ pub mod Sqrt
 pub mod MulAdd
 pub mod Exp
 pub mod Each
-pub mod Turns
+pub mod Bisection

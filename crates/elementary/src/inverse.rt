@@ -1,5 +1,5 @@
-// The bisection of the inverse normal cdf. The middles of the next eight turns are guessed and their
-// cdf values computed side by side. A turn takes a value only where its own middle is the guessed
+// The bisection of the inverse normal cdf. The middles of the next eight steps are guessed and their
+// cdf values computed side by side. A step takes a value only where its own middle is the guessed
 // point, so nothing has to be known of a guess: a wrong one costs time only.
 use crate::cody::tilde;
 use crate::exp::exp;
@@ -19,9 +19,9 @@ ghost use Rattle.elementary.specs.Inside.Each.{Each};
 ghost use Rattle.elementary.specs.Exp.{expOf};
 ghost use Rattle.elementary.specs.Cody.{negativeSquare};
 ghost use Rattle.elementary.specs.NormalDistribution.{cdfOf, midOf, lowest, highest, endsOf};
-ghost use Rattle.elementary.specs.Inside.Turns.{After};
+ghost use Rattle.elementary.specs.Inside.Bisection.{After};
 
-// The ends after i turns, and the cdf's values there.
+// The ends after i steps, and the cdf's values there.
 struct Ends {
     lo: f64,
     hi: f64,
@@ -85,7 +85,7 @@ fn aim(p: f64, at: Ends, guess: f64) -> f64 {
     }
 }
 
-// The next eight middles, if the result is near the guess: turn by turn.
+// The next eight middles, if the result is near the guess: step by step.
 fn middles_in_turn(a: f64, b: f64, guess: f64) -> [f64; 8] {
     let mut x = [0.0; 8];
     let mut lo = a;
@@ -138,7 +138,7 @@ fn middles(a: f64, b: f64, guess: f64) -> [f64; 8] {
     middles_in_turn(a, b, guess)
 }
 
-// ---- turns
+// ---- steps
 
 // The cdf at mid, which is f if mid is x.
 fn known(set: RuleSet, mid: f64, x: f64, f: f64) -> f64
@@ -152,7 +152,7 @@ fn known(set: RuleSet, mid: f64, x: f64, f: f64) -> f64
     }
 }
 
-// One turn, whose middle has the cdf's value v.
+// One step, whose middle has the cdf's value v.
 fn bisection_step(set: RuleSet, p: f64, from: Ends, mid: f64, v: f64) -> Ends
     requires { ⌜ After set p (from .lo) (from .hi) (from .i) ⌝ ∗ ⌜ from .i < 64 ⌝ ∗ ⌜ mid ≡ midOf (from .lo) (from .hi) ⌝ ∗ ⌜ v ≡ cdfOf set mid ⌝ }
     ensures { λ r. ⌜ After set p (r .lo) (r .hi) (r .i) ⌝ ∗ ⌜ from .i < r .i ⌝ }
@@ -176,7 +176,7 @@ fn bisection_step(set: RuleSet, p: f64, from: Ends, mid: f64, v: f64) -> Ends
     }
 }
 
-// The turns after the first whose middles were guessed.
+// The steps after the first whose middles were guessed.
 fn apply_guessed_steps(set: RuleSet, p: f64, from: Ends, x: [f64; 8], f: [f64; 8]) -> Ends
     requires { ⌜ After set p (from .lo) (from .hi) (from .i) ⌝ ∗ ⌜ Each (cdfOf set) x f ⌝ }
     ensures { λ r. ⌜ After set p (r .lo) (r .hi) (r .i) ⌝ ∗ ⌜ from .i ≤ r .i ⌝ }
@@ -198,7 +198,7 @@ fn apply_guessed_steps(set: RuleSet, p: f64, from: Ends, x: [f64; 8], f: [f64; 8
     at
 }
 
-// One turn and up to seven more.
+// One step and up to seven more.
 fn batch(set: RuleSet, p: f64, from: Ends, guess: f64, a: f64, e: f64) -> Ends
     requires { ⌜ After set p (from .lo) (from .hi) (from .i) ⌝ ∗ ⌜ from .i < 64 ⌝ ∗ ⌜ e ≡ expOf (negativeSquare a) ⌝ }
     ensures { λ r. ⌜ After set p (r .lo) (r .hi) (r .i) ⌝ ∗ ⌜ from .i < r .i ⌝ }
@@ -210,8 +210,8 @@ fn batch(set: RuleSet, p: f64, from: Ends, guess: f64, a: f64, e: f64) -> Ends
     apply_guessed_steps(set, p, bisection_step(set, p, from, mid, v), x, f)
 }
 
-// The 64 turns: the middle becomes lo if its cdf is below p, else hi. Where the middle is an end, no
-// later turn changes anything.
+// The 64 steps: the middle becomes lo if its cdf is below p, else hi. Where the middle is an end, no
+// later step changes anything.
 pub(crate) fn bisected(set: RuleSet, p: f64) -> f64
     requires { ⌜ lt (cdfOf set lowest) p ≡ true ⌝ ∗ ⌜ lt (cdfOf set highest) p ≡ false ⌝ }
     ensures { λ r. ⌜ r ≡ endsOf set p .hi ⌝ }

@@ -128,18 +128,18 @@ module _ (P h l Q : ℕ) where
   pub left-high : (h * P + l) * Q < P * P → h * Q < P
   left-high k = lt-of-le-of-lt (omega arith) (left-fits k)
 
-carried : (l d z : ℕ) → z + d ≡ 64 → l / 2 ^ z ≡ l * 2 ^ d / 2 ^ 64
-carried l d z s = sym (ap (λ (t : ℕ). l * 2 ^ d / t) (ap (λ (t : ℕ). 2 ^ t) (sym s) ∙ pow-add 2 z d) ∙ mul-div-mul-right l (2 ^ z) (pow-pos d))
+carry : (l d z : ℕ) → z + d ≡ 64 → l / 2 ^ z ≡ l * 2 ^ d / 2 ^ 64
+carry l d z s = sym (ap (λ (t : ℕ). l * 2 ^ d / t) (ap (λ (t : ℕ). 2 ^ t) (sym s) ∙ pow-add 2 z d) ∙ mul-div-mul-right l (2 ^ z) (pow-pos d))
 
 pub left-law : (h l d z u r : ℕ) → z + d ≡ 64 → u ≡ l / 2 ^ z → r ≡ h * 2 ^ d → wide (r + u) (l * 2 ^ d % 2 ^ 64) ≡ wide h l * 2 ^ d
 left-law h l d z u r s e f =
-    ap (λ (t : ℕ). wide (r + t) (l * 2 ^ d % 2 ^ 64)) (e ∙ carried l d z s)
+    ap (λ (t : ℕ). wide (r + t) (l * 2 ^ d % 2 ^ 64)) (e ∙ carry l d z s)
     ∙ ap (λ (t : ℕ). wide (t + l * 2 ^ d / 2 ^ 64) (l * 2 ^ d % 2 ^ 64)) f
     ∙ left-flat (2 ^ 64) h l (2 ^ d)
 
 pub left-sum : (h l d z u r : ℕ) → z + d ≡ 64 → u ≡ l / 2 ^ z → r ≡ h * 2 ^ d → wide h l * 2 ^ d < 2 ^ 128 → r + u < 2 ^ 64
 left-sum h l d z u r s e f k =
-    subst (λ (t : ℕ). r + t < 2 ^ 64) (sym (e ∙ carried l d z s))
+    subst (λ (t : ℕ). r + t < 2 ^ 64) (sym (e ∙ carry l d z s))
     (subst (λ (t : ℕ). t + l * 2 ^ d / 2 ^ 64 < 2 ^ 64) (sym f) (left-fits (2 ^ 64) h l (2 ^ d) k))
 
 -- ---- v / 2 ^ d, with z for 64 - d

@@ -24,7 +24,7 @@ use Rattle.elementary.proofs.Laws.Nearest.{units-fits}
 use Rattle.elementary.proofs.Laws.Isqrt.{sq-lt, sq-suc, sq-twice, isqrt-root}
 use Rattle.elementary.specs.Inside.Sqrt.{Root}
 use Rattle.elementary.proofs.Laws.Bits.{nan-pattern, no-nan-pattern}
-use Rattle.elementary.proofs.Laws.Values.{recast, value-low, value-mid, value-inf, value-packed, value-unique}
+use Rattle.elementary.proofs.Laws.Values.{recast, value-low, value-mid, value-inf, value-of-pattern, value-unique}
 
 -- ---- which way `nearest` goes
 by-order : (q r a b : ℕ) → (a < b → q ≡ r) → (b < a → suc q ≡ r) → (a ≡ b → ⊥) → nearest q (compare a b) ≡ r
@@ -126,7 +126,7 @@ written r k lo hi small =
     let room : r * 2 ^ k < 2 ^ 2098 = lt-of-lt-of-le (shl-lt 53 k hi) (pow-mono {i = 53 + k} {j = 2098} (omega arith)) in
     value-unique (ofBits binary64 (k * 2 ^ 52 + r)) (units binary64 false r k) false (r * 2 ^ k)
     (ofBits-fits binary64 (k * 2 ^ 52 + r)) (units-fits binary64 false r k (omega arith) room)
-    (value-packed false k r (λ _. lo) (omega arith) (omega arith)) (units-val binary64 false r k room)
+    (value-of-pattern false k r (λ _. lo) (omega arith) (omega arith)) (units-val binary64 false r k room)
 
 -- ---- `sqrtOf` at a finite value that is not 0
 no-zero : (u c a d : ℕ) → 0 * u * c ≡ a * d → 0 < a → 0 < d → ⊥

@@ -1,4 +1,4 @@
--- `cody::alike` meets its contract: after j turns the first j are a. Assumes nothing.
+-- `cody::alike` meets its contract: after j steps the first j are a. Assumes nothing.
 use mathlib.Core.Path.{sym}
 use mathlib.Core.Bool.{true≢false}
 use Prim.Native.Nat.{_-_, _≤_}

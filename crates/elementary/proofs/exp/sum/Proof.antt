@@ -1,8 +1,8 @@
--- `exp::sum` meets its contract: after the turns down to i, what is left of the 13 turns is the i turns from p on. Assumes nothing.
+-- `exp::sum` meets its contract: after the steps down to i, what is left of the 13 steps is the i steps from p on. Assumes nothing.
 use mathlib.Core.Path.{refl}
 use Prim.Native.Nat.{_≤_}
 use native.Mathlib.Omega.{arith}
-use Rattle.elementary.proofs.exp.Turns.{Left, turned, done, fits}
+use Rattle.elementary.proofs.exp.Steps.{Left, sum-step, done, fits}
 use Rattle.elementary.proofs.exp.sum.Statement.{statement}
 use Rattle.elementary.proofs.exp.sum.Tie as tie
 
@@ -25,7 +25,7 @@ loop-less : tie.Need-loop-less Inv-loop μ-loop
 loop-less c = omega arith
 
 loop-again : tie.Need-loop-again Inv-loop μ-loop
-loop-again c = (omega arith, turned _ _ _ (c .before .loop-test .taken) (c .before .before .loop .inv .1))
+loop-again c = (omega arith, sum-step _ _ _ (c .before .loop-test .taken) (c .before .before .loop .inv .1))
 
 returns : tie.Need-returns Inv-loop μ-loop
 returns c = done _ _ _ (c .loop-test .left) (c .before .loop .inv .1)

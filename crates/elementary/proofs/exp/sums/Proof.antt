@@ -1,11 +1,11 @@
--- `exp::sums` meets its contract: each of the eight goes through the turns of `sum`. Assumes nothing.
+-- `exp::sums` meets its contract: each of the eight goes through the steps of `sum`. Assumes nothing.
 use mathlib.Core.Path.{refl}
 use Prim.Native.Nat.{_≤_}
 use native.Mathlib.Omega.{arith}
 use borrow.Author.Needs.{needs}
 use Rattle.elementary.specs.Ops.{one}
 use Rattle.elementary.specs.Exp.{expSum}
-use Rattle.elementary.proofs.exp.Turns.{Left, turned, done, fits}
+use Rattle.elementary.proofs.exp.Steps.{Left, sum-step, done, fits}
 use Rattle.elementary.specs.Inside.Each.{Of}
 use Rattle.elementary.proofs.Laws.Eight.{eight}
 use Rattle.elementary.proofs.exp.sums.Statement.{statement}
@@ -59,14 +59,14 @@ loop-again c =
     let h = c .before .before .loop .inv in
     let l = c .before .loop-test .taken in (
       omega arith,
-      turned _ _ _ l (h .1),
-      turned _ _ _ l (h .2),
-      turned _ _ _ l (h .3),
-      turned _ _ _ l (h .4),
-      turned _ _ _ l (h .5),
-      turned _ _ _ l (h .6),
-      turned _ _ _ l (h .7),
-      turned _ _ _ l (h .8),
+      sum-step _ _ _ l (h .1),
+      sum-step _ _ _ l (h .2),
+      sum-step _ _ _ l (h .3),
+      sum-step _ _ _ l (h .4),
+      sum-step _ _ _ l (h .5),
+      sum-step _ _ _ l (h .6),
+      sum-step _ _ _ l (h .7),
+      sum-step _ _ _ l (h .8),
     )
 
 returns : tie.Need-returns Inv-loop μ-loop

@@ -1,9 +1,9 @@
--- `inverse::apply_guessed_steps` meets its contract: each turn is one of `bisection_step`'s. Assumes nothing.
+-- `inverse::apply_guessed_steps` meets its contract: each step is one of `bisection_step`'s. Assumes nothing.
 use mathlib.Core.Path.{refl}
 use Prim.Native.Nat.{_-_, _≤_}
 use native.Mathlib.Omega.{arith}
 use borrow.Author.Needs.{needs}
-use Rattle.elementary.specs.Inside.Turns.{After}
+use Rattle.elementary.specs.Inside.Bisection.{After}
 use Rattle.elementary.proofs.inverse.Laws.{at-point}
 use Rattle.elementary.proofs.inverse.apply_guessed_steps.Statement.{statement}
 use Rattle.elementary.proofs.inverse.apply_guessed_steps.Tie as tie

@@ -4,7 +4,7 @@ use Prim.Native.Nat.{_-_}
 use native.Mathlib.Omega.{arith}
 use borrow.Author.Needs.{needs}
 use Rattle.elementary.specs.NormalDistribution.{endsOf}
-use Rattle.elementary.specs.Inside.Turns.{After}
+use Rattle.elementary.specs.Inside.Bisection.{After}
 use Rattle.elementary.proofs.inverse.Laws.{ends-low, ends-high, done}
 use Rattle.elementary.proofs.inverse.bisected.Statement.{statement}
 use Rattle.elementary.proofs.inverse.bisected.Tie as tie

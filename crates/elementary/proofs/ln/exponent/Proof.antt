@@ -1,7 +1,7 @@
 -- `ln::exponent` meets its contract: both numbers are whole and small. Assumes nothing.
 use native.Mathlib.Omega.{arith}
 use lib.Dec.{lit≤}
-use Rattle.elementary.proofs.ln.Turns.{counted, difference, unit}
+use Rattle.elementary.proofs.ln.Steps.{counted, difference, unit}
 use Rattle.elementary.proofs.ln.exponent.Statement.{statement}
 use Rattle.elementary.proofs.ln.exponent.Tie as tie
 

@@ -25,7 +25,7 @@ wider e h = omega arith
 y-small : (a : tie.Start) {y : ℕ} → y ≡ wide (a .args .sh) (a .args .sl) / 2 ^ a .args .d → y < 2 ^ 85
 y-small a e = subst (λ (z : ℕ). z < 2 ^ 85) (sym e) (sums.far-small (wide (a .args .sh) (a .args .sl)) (a .args .d) (a .pre .apart) (a .pre .small .high))
 
--- what `rounded_signed` requires
+-- what `round_signed` requires
 ready : (x : ℕ) (a : tie.Start) {v : ℕ} → 2 ^ 64 ≤ v → (0 < v) × ((v < 2 ^ 64 → x ≡ 0) × ((64 ≤ a .args .e) × (a .args .e < 2 ^ 31)))
 ready x a h = (le-trans (lit≤ tt) h, ((λ k. absurd (not-le-of-lt k h)), (a .pre .low, wider (a .args .e) (a .pre .high))))
 

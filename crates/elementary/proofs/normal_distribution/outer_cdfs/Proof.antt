@@ -1,8 +1,8 @@
--- `normal_distribution::outer_cdfs` meets its contract: after j turns the first j are filled in. Assumes nothing.
+-- `normal_distribution::outer_cdfs` meets its contract: after j steps the first j are filled in. Assumes nothing.
 use mathlib.Core.Path.{_≡_, refl, ap, _∙_}
 use Prim.Native.Nat.{_-_}
 use native.Mathlib.Omega.{arith}
-use Rattle.elementary.proofs.Laws.Eight.{Filled, begun, next, filled}
+use Rattle.elementary.proofs.Laws.Eight.{Prefix, prefix-none, next, prefix-all}
 use borrow.Author.Needs.{needs}
 use lib.Ieee.{Float, neg}
 use Rattle.elementary.specs.Ops.{_⊗_, half}
@@ -18,7 +18,7 @@ unfolding cdfOf
 cdf-of set x e h = rw h
 
 abbrev Inv-loop : tie.InvT-loop
-Inv-loop set a e x f r₀ j₀ r j = Filled (Of (cdfOf set) x) r j
+Inv-loop set a e x f r₀ j₀ r j = Prefix (Of (cdfOf set) x) r j
 
 abbrev μ-loop : tie.MeasureT-loop
 μ-loop set a e x f r₀ j₀ r j = 8 - j
@@ -31,7 +31,7 @@ smoothened-exponentials-of-negative-squares-requires :
 smoothened-exponentials-of-negative-squares-requires c κs = search needs
 
 loop-holds : tie.Need-loop-holds Inv-loop μ-loop
-loop-holds c = begun _ _ refl
+loop-holds c = prefix-none _ _ refl
 
 mul-erfc-with : tie.Need-mul-erfc-with Inv-loop μ-loop
 mul-erfc-with c = search needs
@@ -64,7 +64,7 @@ loop-again : tie.Need-loop-again Inv-loop μ-loop
 loop-again c = next _ _ _ _ (c .before .loop-test .taken) (cdf-of _ _ _ (c .erfc-with .ensures)) (c .before .before .loop .inv)
 
 returns : tie.Need-returns Inv-loop μ-loop
-returns c = filled (c .before .loop .inv) (c .loop-test .left)
+returns c = prefix-all (c .before .loop .inv) (c .loop-test .left)
 
 pub outer-cdfs-spec : {M : Type 1} → statement M
 outer-cdfs-spec =

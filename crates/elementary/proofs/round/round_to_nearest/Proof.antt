@@ -93,7 +93,7 @@ returns-2 c num den D C =
     let q = c .halve-to-even .result in
     let e = leaf.round-units S num den D C in
     ap (λ (z : ℕ). ofBits binary64 (z + q)) (shl-is (k-of c) (small c))
-    ∙ pattern.packed q (k-of c) (leaf.kept-le S) (leaf.kept-ge S) (small c) (subst (λ (z : Float). T (fits binary64 z)) e (round-fits binary64 false num den))
+    ∙ pattern.units-pattern q (k-of c) (leaf.kept-le S) (leaf.kept-ge S) (small c) (subst (λ (z : Float). T (fits binary64 z)) e (round-fits binary64 false num den))
     ∙ sym e
 
 pub round-to-nearest-spec : {M : Type 1} → statement M

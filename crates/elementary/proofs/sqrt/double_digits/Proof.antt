@@ -1,9 +1,9 @@
--- `twice` meets its contract: what is left and the next digits are those that `extend` asks for. Assumes nothing.
+-- `double_digits` meets its contract: what is left and the next digits are those that `extend` asks for. Assumes nothing.
 use native.Mathlib.Omega.{arith}
 use borrow.Author.Needs.{needs}
 use Rattle.elementary.proofs.sqrt.Steps.{taken, products, asked, root-of}
-use Rattle.elementary.proofs.sqrt.twice.Statement.{statement}
-use Rattle.elementary.proofs.sqrt.twice.Tie as tie
+use Rattle.elementary.proofs.sqrt.double_digits.Statement.{statement}
+use Rattle.elementary.proofs.sqrt.double_digits.Tie as tie
 
 div-extend : tie.Need-div-extend
 div-extend c = search needs
@@ -26,5 +26,5 @@ extend-requires c κs = asked (c .args .n) (c .args .g) (c .args .base) (c .pre)
 returns : tie.Need-returns
 returns c = root-of (c .before .args .n) (c .before .args .g) (c .before .args .base) (c .before .pre) (c .extend .result) (c .extend .ensures)
 
-pub twice-spec : {M : Type 1} → statement M
-twice-spec = tie.close (tie.spec div-extend mul-extend mul-extend-2 sub-extend rem-extend extend-requires returns)
+pub double-digits-spec : {M : Type 1} → statement M
+double-digits-spec = tie.close (tie.spec div-extend mul-extend mul-extend-2 sub-extend rem-extend extend-requires returns)

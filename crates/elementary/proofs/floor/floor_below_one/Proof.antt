@@ -1,8 +1,8 @@
--- `small` meets its contract: the sign decides between 0 and −1, and −0.0 stays. Assumes nothing.
+-- `floor_below_one` meets its contract: the sign decides between 0 and −1, and −0.0 stays. Assumes nothing.
 use native.Mathlib.Omega.{arith}
 use Rattle.elementary.proofs.floor.Laws.{floor-small, floor-small-negative, floor-minus-zero}
-use Rattle.elementary.proofs.floor.small.Statement.{statement}
-use Rattle.elementary.proofs.floor.small.Tie as tie
+use Rattle.elementary.proofs.floor.floor_below_one.Statement.{statement}
+use Rattle.elementary.proofs.floor.floor_below_one.Tie as tie
 
 returns : tie.Need-returns
 returns c = floor-small (c .before .args .b) (c .if1 .taken) (c .before .pre)
@@ -13,5 +13,5 @@ returns-2 c = rw (c .if2 .taken) floor-minus-zero
 returns-3 : tie.Need-returns-3
 returns-3 c = floor-small-negative (c .before .before .args .b) (omega (arith, c .if2 .left)) (omega arith) (c .before .before .pre)
 
-pub small-spec : {M : Type 1} → statement M
-small-spec = tie.close (tie.spec returns returns-2 returns-3)
+pub floor-below-one-spec : {M : Type 1} → statement M
+floor-below-one-spec = tie.close (tie.spec returns returns-2 returns-3)

@@ -1,4 +1,4 @@
--- The turns of exp's sum: after those down to i, what is left of the 13 turns is the i turns from p on. Assumes nothing.
+-- The steps of exp's sum: after those down to i, what is left of the 13 steps is the i steps from p on. Assumes nothing.
 use mathlib.Core.Path.{_≡_, sym}
 use Prim.Native.Nat.{ℕ, zero, suc, _-_, _^_, _≤_, _<_}
 use native.Mathlib.Omega.{arith}
@@ -11,10 +11,10 @@ use Rattle.elementary.specs.Exp.{expSum}
 abbrev pub Left : Float → Float → ℕ → Type 0
 Left r p i = expSum 13 r one ≡ expSum i r p
 
-pub turned : (r p : Float) (i : ℕ) → 0 < i → Left r p i → Left r (one ⊕ r ⊗ p ⊘ float i) (i - 1)
+pub sum-step : (r p : Float) (i : ℕ) → 0 < i → Left r p i → Left r (one ⊕ r ⊗ p ⊘ float i) (i - 1)
 unfolding expSum
-turned r p zero l h = absurd (omega arith)
-turned r p (suc i) l h = let e : suc i - 1 ≡ i = omega arith in rw e h
+sum-step r p zero l h = absurd (omega arith)
+sum-step r p (suc i) l h = let e : suc i - 1 ≡ i = omega arith in rw e h
 
 pub done : (r p : Float) (i : ℕ) → i ≤ 0 → Left r p i → p ≡ expSum 13 r one
 unfolding expSum

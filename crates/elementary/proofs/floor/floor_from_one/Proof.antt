@@ -1,4 +1,4 @@
--- `cut` meets its contract: what is cut off `c` leaves the floor's own bits. Assumes nothing.
+-- `floor_from_one` meets its contract: what is cut off `c` leaves the floor's own bits. Assumes nothing.
 use mathlib.Core.Path.{ap, _∙_}
 use mathlib.Core.Logic.{⊎-elim, inl, inr}
 use Prim.Native.Nat.{ℕ, _+_, _-_, _^_, _<_}
@@ -6,11 +6,11 @@ use native.Mathlib.Nat.{mod-le}
 use native.Mathlib.Omega.{arith}
 use borrow.Author.Needs.{needs}
 use lib.Pow.{pow-pos, pow-mono}
-use Rattle.elementary.proofs.floor.Laws.{Raised, unit-is, floor-cut, floor-cut-no-nan}
-use Rattle.elementary.proofs.floor.cut.Statement.{statement}
-use Rattle.elementary.proofs.floor.cut.Tie as tie
-use Rattle.elementary.proofs.floor.cut.Reads as reads
-use Rattle.elementary.proofs.floor.cut.Lts as lts
+use Rattle.elementary.proofs.floor.Laws.{AddUnit, unit-is, floor-cut, floor-cut-no-nan}
+use Rattle.elementary.proofs.floor.floor_from_one.Statement.{statement}
+use Rattle.elementary.proofs.floor.floor_from_one.Tie as tie
+use Rattle.elementary.proofs.floor.floor_from_one.Reads as reads
+use Rattle.elementary.proofs.floor.floor_from_one.Lts as lts
 
 shl-unit : tie.Need-shl-unit
 shl-unit c = search needs
@@ -37,18 +37,18 @@ module _ (c : lts.After-row-known reads.Pre reads.Post) where
   width : b < 2 ^ 64
   width = omega arith
 
-  raised : Raised b (2 ^ d) (c .before .if1 .c)
-  raised = ⊎-elim (λ w. inl (w .0 .taken, w .1 ∙ ap (λ (z : ℕ). b + (z - 1)) (unit-is d (c .before .before .pre .1)))) (λ w. inr (w .0 .left, w .1)) (c .before .if1 .came)
+  add-unit : AddUnit b (2 ^ d) (c .before .if1 .c)
+  add-unit = ⊎-elim (λ w. inl (w .0 .taken, w .1 ∙ ap (λ (z : ℕ). b + (z - 1)) (unit-is d (c .before .before .pre .1)))) (λ w. inr (w .0 .left, w .1)) (c .before .if1 .came)
 
 float-from-bits-result : tie.Need-float-from-bits-result
 float-from-bits-result c =
     let p = c .before .before .pre in
-    rw (unit-is (d c) (p .1)) (floor-cut-no-nan (b c) (d c) (p .0) (p .1) (width c) (p .2) (c .before .if1 .c) (raised c))
+    rw (unit-is (d c) (p .1)) (floor-cut-no-nan (b c) (d c) (p .0) (p .1) (width c) (p .2) (c .before .if1 .c) (add-unit c))
 
 returns : tie.Need-returns
 returns c =
     let p = c .before .before .pre in
-    rw (unit-is (d c) (p .1)) (floor-cut (b c) (d c) (p .0) (p .1) (width c) (p .2) (c .before .if1 .c) (raised c))
+    rw (unit-is (d c) (p .1)) (floor-cut (b c) (d c) (p .0) (p .1) (width c) (p .2) (c .before .if1 .c) (add-unit c))
 
-pub cut-spec : {M : Type 1} → statement M
-cut-spec = tie.close (tie.spec shl-unit sub-c add-c rem-result sub-result float-from-bits-result returns)
+pub floor-from-one-spec : {M : Type 1} → statement M
+floor-from-one-spec = tie.close (tie.spec shl-unit sub-c add-c rem-result sub-result float-from-bits-result returns)

@@ -1,11 +1,11 @@
--- `exp::far` meets its contract: a finite p by its digits, any other is its own answer. Assumes nothing.
+-- `exp::scale_by_any_power` meets its contract: a finite p by its digits, any other is its own answer. Assumes nothing.
 use mathlib.Core.Path.{sym, _∙_, subst}
 use lib.Dec.{T}
 use lib.Ieee.{binary64}
 use Rattle.elementary.proofs.exp.Power as power
 use borrow.Author.Needs.{needs}
-use Rattle.elementary.proofs.exp.far.Statement.{statement}
-use Rattle.elementary.proofs.exp.far.Tie as tie
+use Rattle.elementary.proofs.exp.scale_by_any_power.Statement.{statement}
+use Rattle.elementary.proofs.exp.scale_by_any_power.Tie as tie
 
 is-finite-requires : tie.Need-is-finite-requires
 is-finite-requires c κs = search needs
@@ -31,8 +31,8 @@ returns c =
 returns-2 : tie.Need-returns-2
 returns-2 c = power.far-special binary64 (c .before .before .args .p) _ (sym (c .before .is-finite .ensures) ∙ c .if1 .left)
 
-pub far-spec : {M : Type 1} → statement M
-far-spec =
+pub scale-by-any-power-spec : {M : Type 1} → statement M
+scale-by-any-power-spec =
     tie.close
     (tie.spec
     is-finite-requires

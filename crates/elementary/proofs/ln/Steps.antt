@@ -1,4 +1,4 @@
--- The turns of ln's series, and the exponent as a difference of two whole floats. Assumes nothing.
+-- The steps of ln's series, and the exponent as a difference of two whole floats. Assumes nothing.
 use mathlib.Core.Path.{_≡_, refl, sym, ap, _∙_}
 use mathlib.Core.Bool.{Bool, true, false, not, cond}
 use Prim.Native.Nat.{ℕ, zero, suc, _+_, _-_, _*_, _^_, _≤_, _<_}
@@ -21,14 +21,14 @@ pub first : one ⊘ ofBits binary64 0x4037_0000_0000_0000 ≡ one ⊘ float 23
 unfolding ofBits ofInt
 first = refl
 
--- q is the sum for z after the turns down to i
+-- q is the sum for z after the steps down to i
 abbrev pub Down : ℕ → Float → Float → Type 0
 Down i z q = lnSum 11 z (one ⊘ float 23) ≡ lnSum i z q
 
-pub turned : (i : ℕ) (z q : Float) → 0 < i → Down i z q → Down (i - 1) z (one ⊘ float (2 * (i - 1) + 1) ⊕ z ⊗ q)
+pub horner-step : (i : ℕ) (z q : Float) → 0 < i → Down i z q → Down (i - 1) z (one ⊘ float (2 * (i - 1) + 1) ⊕ z ⊗ q)
 unfolding lnSum
-turned zero z q l h = absurd (omega arith)
-turned (suc i) z q l h = let e : suc i - 1 ≡ i = omega arith in rw e h
+horner-step zero z q l h = absurd (omega arith)
+horner-step (suc i) z q l h = let e : suc i - 1 ≡ i = omega arith in rw e h
 
 pub done : (i : ℕ) (z q : Float) → i ≤ 0 → Down i z q → q ≡ lnSum 11 z (one ⊘ float 23)
 unfolding lnSum

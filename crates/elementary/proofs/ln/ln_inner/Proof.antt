@@ -1,4 +1,4 @@
--- `ln::positive` meets its contract: the place and the significand of y taken apart are the definition's. Assumes nothing.
+-- `ln::ln_inner` meets its contract: the place and the significand of y taken apart are the definition's. Assumes nothing.
 use mathlib.Core.Path.{_≡_, sym, ap, _∙_, subst}
 use mathlib.Core.Logic.{⊎-elim}
 use Prim.Native.Nat.{ℕ, _+_, _-_, _*_, _^_, _≤_, _<_}
@@ -11,8 +11,8 @@ use Rattle.elementary.specs.Ln.{lnAt, placeOf, significandOf}
 use Rattle.elementary.proofs.ln.Ends.{digits-of}
 use Rattle.elementary.proofs.ln.Place.{place-is, significand-is, halved, kept}
 use borrow.Author.Needs.{needs}
-use Rattle.elementary.proofs.ln.positive.Statement.{statement}
-use Rattle.elementary.proofs.ln.positive.Tie as tie
+use Rattle.elementary.proofs.ln.ln_inner.Statement.{statement}
+use Rattle.elementary.proofs.ln.ln_inner.Tie as tie
 
 digits : (d : tie.After-parts-of) → Digits (d .parts-of .result .m) (d .parts-of .result .e)
 digits d = digits-of (d .before .args .y) (d .parts-of .result .neg) (d .parts-of .result .m) (d .parts-of .result .e) (d .before .pre) (d .parts-of .ensures)
@@ -52,23 +52,23 @@ exponent-requires : tie.Need-exponent-requires
 exponent-requires c κs =
     let g = digits (c .before .before .before .before) in ⊎-elim (λ w. omega arith) (λ w. omega arith) (c .if1 .came)
 
-near-one-requires : tie.Need-near-one-requires
-near-one-requires c κs = search needs
+ln-near-one-requires : tie.Need-ln-near-one-requires
+ln-near-one-requires c κs = search needs
 
 returns : tie.Need-returns
 returns c =
     let j = c .before .before in
     let a = j .before .before in
     let d = a .before .before in
-    c .near-one .ensures
+    c .ln-near-one .ensures
     ∙ ap (lnAt (j .if1 .m)) (c .before .exponent .ensures)
     ∙ ⊎-elim
     (λ w. halved (d .before .args .y) (a .float-of-fields .result) (j .if1 .m) (d .parts-of .result .e - 12) (j .if1 .place) (significand a) (place d) (w .0 .taken) (w .1) (w .2))
     (λ w. kept (d .before .args .y) (a .float-of-fields .result) (j .if1 .m) (d .parts-of .result .e - 12) (j .if1 .place) (significand a) (place d) (w .0 .left) (w .1) (w .2))
     (j .if1 .came)
 
-pub positive-spec : {M : Type 1} → statement M
-positive-spec =
+pub ln-inner-spec : {M : Type 1} → statement M
+ln-inner-spec =
     tie.close
     (tie.spec
     parts-of-requires
@@ -77,5 +77,5 @@ positive-spec =
     sub-place
     add-place
     exponent-requires
-    near-one-requires
+    ln-near-one-requires
     returns)
