@@ -168,7 +168,7 @@ fn erfc_abs(set: RuleSet, y: f64, factor: f64) -> f64
 }
 
 // erfc of x above the threshold, y = |x|.
-fn outside(set: RuleSet, x: f64, y: f64, factor: f64) -> f64
+fn erfc_outside(set: RuleSet, x: f64, y: f64, factor: f64) -> f64
     requires { ⌜ factor ≡ smoothenedExponentialOfNegativeSquare y ⌝ }
     ensures { λ r. ⌜ r ≡ cond (lt x +0) (two ⊖ erfcAbs set y) (erfcAbs set y) ⌝ }
 {
@@ -187,7 +187,7 @@ pub fn erfc_under(set: RuleSet, x: f64) -> f64
     if y <= THRESHOLD {
         return 1.0 - x * ab(y * y);
     }
-    outside(set, x, y, smoothened_exponential_of_negative_square(y))
+    erfc_outside(set, x, y, smoothened_exponential_of_negative_square(y))
 }
 
 pub fn erfc(x: f64) -> f64
@@ -197,7 +197,7 @@ pub fn erfc(x: f64) -> f64
 }
 
 // erfc where the exponential factor is known.
-pub(crate) fn erfc_with(set: RuleSet, x: f64, factor: f64) -> f64
+pub(crate) fn erfc_with_factor(set: RuleSet, x: f64, factor: f64) -> f64
     requires { ⌜ factor ≡ smoothenedExponentialOfNegativeSquare (absOf x) ⌝ }
     ensures { λ r. ⌜ r ≡ erfcOf set x ⌝ }
 {
@@ -205,7 +205,7 @@ pub(crate) fn erfc_with(set: RuleSet, x: f64, factor: f64) -> f64
     if y <= THRESHOLD {
         return 1.0 - x * ab(y * y);
     }
-    outside(set, x, y, factor)
+    erfc_outside(set, x, y, factor)
 }
 
 pub fn erfcx(x: f64) -> f64
@@ -268,7 +268,7 @@ fn negative_rests(y: [f64; 8], t: [f64; 8]) -> [f64; 8]
 }
 
 // Whether all are a.
-fn alike(t: [f64; 8], a: f64) -> bool
+fn all_same(t: [f64; 8], a: f64) -> bool
     ensures { λ r. ⌜ (r ≡ true → UpTo (λ k. a) t 8) ⌝ }
 {
     let mut j: usize = 0;
@@ -287,7 +287,7 @@ fn exps_of_negative_squares(t: [f64; 8], a: f64, e: f64) -> [f64; 8]
     requires { ⌜ e ≡ expOf (negativeSquare a) ⌝ }
     ensures { λ r. ⌜ Each (λ b. expOf (negativeSquare b)) t r ⌝ }
 {
-    if alike(t, a) {
+    if all_same(t, a) {
         [e, e, e, e, e, e, e, e]
     } else {
         exps(negative_squares(t))

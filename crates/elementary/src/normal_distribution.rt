@@ -1,8 +1,8 @@
 // The normal distribution: normal_distribution.rs over document 01's rules.
 use crate::cody::erfc_under;
-use crate::cody::erfc_with;
+use crate::cody::erfc_with_factor;
 use crate::cody::smoothened_exponentials_of_negative_squares;
-use crate::inverse::bisected;
+use crate::inverse::bisect;
 use crate::methods::abs;
 use crate::rule_set::RULE_SET_0;
 use crate::rule_set::RuleSet;
@@ -50,7 +50,7 @@ fn outer_cdfs(set: RuleSet, x: [f64; 8], a: f64, e: f64) -> [f64; 8]
     let mut r = [0.0; 8];
     let mut j: usize = 0;
     while j < 8 {
-        r[j] = 0.5 * erfc_with(set, -x[j] * FRAC_1_SQRT_2, f[j]);
+        r[j] = 0.5 * erfc_with_factor(set, -x[j] * FRAC_1_SQRT_2, f[j]);
         j += 1;
     }
     r
@@ -93,7 +93,7 @@ pub fn inverse_normal_cdf_under(set: RuleSet, p: f64) -> f64
     if p >= 1.0 {
         return 1.0 / 0.0;
     }
-    bisected(set, p)
+    bisect(set, p)
 }
 
 pub fn inverse_normal_cdf(p: f64) -> f64

@@ -7,7 +7,7 @@ use Rattle.elementary.specs.declared.rule_set.RuleSet.{RuleSet}
 use Rattle.elementary.specs.NormalDistribution.{cdfOf, bisected, endsOf}
 
 -- the ends stand on both sides of p, and the steps that are left lead to the result
-pub record After (set : RuleSet) (p lo hi : Float) (i : ℕ) : Type 0 where
+pub record AfterSteps (set : RuleSet) (p lo hi : Float) (i : ℕ) : Type 0 where
   pub bound : i ≤ 64
   pub under : lt (cdfOf set lo) p ≡ true
   pub over : lt (cdfOf set hi) p ≡ false

@@ -1,19 +1,19 @@
--- `inverse::bisected` meets its contract. Assumes nothing.
+-- `inverse::bisect` meets its contract. Assumes nothing.
 use mathlib.Core.Path.{refl}
 use Prim.Native.Nat.{_-_}
 use native.Mathlib.Omega.{arith}
 use borrow.Author.Needs.{needs}
 use Rattle.elementary.specs.NormalDistribution.{endsOf}
-use Rattle.elementary.specs.Inside.Bisection.{After}
+use Rattle.elementary.specs.Inside.Bisection.{AfterSteps}
 use Rattle.elementary.proofs.inverse.Laws.{ends-low, ends-high, done}
-use Rattle.elementary.proofs.inverse.bisected.Statement.{statement}
-use Rattle.elementary.proofs.inverse.bisected.Tie as tie
+use Rattle.elementary.proofs.inverse.bisect.Statement.{statement}
+use Rattle.elementary.proofs.inverse.bisect.Tie as tie
 
 abbrev Inv-loop : tie.InvT-loop
-Inv-loop set p guess a e at₀ at = After set p (at .lo) (at .hi) (at .i)
+Inv-loop set p guess a e at₀ at = AfterSteps set p (at .lo) (at .hi) (at .steps)
 
 abbrev μ-loop : tie.MeasureT-loop
-μ-loop set p guess a e at₀ at = 64 - at .i
+μ-loop set p guess a e at₀ at = 64 - at .steps
 
 approximation-requires : tie.Need-approximation-requires Inv-loop μ-loop
 approximation-requires c κs = search needs
@@ -47,25 +47,25 @@ returns-2 c =
     let h = c .before .before .before .before .before .before .before .loop .inv in
     ends-high _ _ _ _ h (c .before .same2 .ensures (c .if3 .taken))
 
-aim-requires : tie.Need-aim-requires Inv-loop μ-loop
-aim-requires c κs = search needs
+refine-guess-requires : tie.Need-refine-guess-requires Inv-loop μ-loop
+refine-guess-requires c κs = search needs
 
-batch-requires : tie.Need-batch-requires Inv-loop μ-loop
-batch-requires c κs =
+bisection-batch-requires : tie.Need-bisection-batch-requires Inv-loop μ-loop
+bisection-batch-requires c κs =
     let l = c .before .before .before .before .before .before .before .before in
     (l .loop .inv, (omega (arith, c .before .before .before .before .before .before .if1 .taken), l .before .exp .ensures))
 
 loop-less : tie.Need-loop-less Inv-loop μ-loop
-loop-less c = omega (arith, c .batch .ensures .1, c .batch .ensures .0 .bound)
+loop-less c = omega (arith, c .bisection-batch .ensures .1, c .bisection-batch .ensures .0 .bound)
 
 loop-again : tie.Need-loop-again Inv-loop μ-loop
-loop-again c = c .batch .ensures .0
+loop-again c = c .bisection-batch .ensures .0
 
 returns-3 : tie.Need-returns-3 Inv-loop μ-loop
 returns-3 c = done _ _ _ _ (c .before .before .loop .inv) (c .if1 .left)
 
-pub bisected-spec : {M : Type 1} → statement M
-bisected-spec =
+pub bisect-spec : {M : Type 1} → statement M
+bisect-spec =
     tie.close
     (tie.spec
     Inv-loop
@@ -79,8 +79,8 @@ bisected-spec =
     returns
     same-requires-2
     returns-2
-    aim-requires
-    batch-requires
+    refine-guess-requires
+    bisection-batch-requires
     loop-less
     loop-again
     returns-3)

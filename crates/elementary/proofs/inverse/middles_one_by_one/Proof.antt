@@ -1,8 +1,8 @@
--- `inverse::middles_in_turn` is safe and ends. Assumes nothing.
+-- `inverse::middles_one_by_one` is safe and ends. Assumes nothing.
 use Prim.Native.Nat.{_-_, _≤_}
 use borrow.Author.Needs.{needs}
-use Rattle.elementary.proofs.inverse.middles_in_turn.Statement.{statement}
-use Rattle.elementary.proofs.inverse.middles_in_turn.Tie as tie
+use Rattle.elementary.proofs.inverse.middles_one_by_one.Statement.{statement}
+use Rattle.elementary.proofs.inverse.middles_one_by_one.Tie as tie
 
 abbrev Inv-loop : tie.InvT-loop
 Inv-loop a b guess x₀ lo₀ hi₀ j₀ x lo hi j = j ≤ 8
@@ -31,7 +31,7 @@ loop-again c = search needs
 returns : tie.Need-returns Inv-loop μ-loop
 returns c = search needs
 
-pub middles-in-turn-spec : {M : Type 1} → statement M
-middles-in-turn-spec =
+pub middles-one-by-one-spec : {M : Type 1} → statement M
+middles-one-by-one-spec =
     tie.close
     (tie.spec Inv-loop μ-loop loop-holds mul-x array-write-x add-j loop-less loop-again returns)

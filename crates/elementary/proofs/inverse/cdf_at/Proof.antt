@@ -1,7 +1,7 @@
--- `inverse::known` meets its contract. Assumes nothing.
+-- `inverse::cdf_at` meets its contract. Assumes nothing.
 use borrow.Author.Needs.{needs}
-use Rattle.elementary.proofs.inverse.known.Statement.{statement}
-use Rattle.elementary.proofs.inverse.known.Tie as tie
+use Rattle.elementary.proofs.inverse.cdf_at.Statement.{statement}
+use Rattle.elementary.proofs.inverse.cdf_at.Tie as tie
 
 same-requires : tie.Need-same-requires
 same-requires c κs = search needs
@@ -15,5 +15,5 @@ returns c = rw (c .before .same .ensures (c .if1 .taken)) (c .before .before .pr
 returns-2 : tie.Need-returns-2
 returns-2 c = search needs
 
-pub known-spec : {M : Type 1} → statement M
-known-spec = tie.close (tie.spec same-requires standard-normal-cdf-under-requires returns returns-2)
+pub cdf-at-spec : {M : Type 1} → statement M
+cdf-at-spec = tie.close (tie.spec same-requires standard-normal-cdf-under-requires returns returns-2)

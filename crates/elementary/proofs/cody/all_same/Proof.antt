@@ -1,4 +1,4 @@
--- `cody::alike` meets its contract: after j steps the first j are a. Assumes nothing.
+-- `cody::all_same` meets its contract: after j steps the first j are a. Assumes nothing.
 use mathlib.Core.Path.{sym}
 use mathlib.Core.Bool.{true≢false}
 use Prim.Native.Nat.{_-_, _≤_}
@@ -6,8 +6,8 @@ use native.Mathlib.Omega.{arith}
 use borrow.Author.Needs.{needs}
 use Rattle.elementary.specs.Inside.Each.{UpTo}
 use Rattle.elementary.proofs.Laws.Eight.{one-more}
-use Rattle.elementary.proofs.cody.alike.Statement.{statement}
-use Rattle.elementary.proofs.cody.alike.Tie as tie
+use Rattle.elementary.proofs.cody.all_same.Statement.{statement}
+use Rattle.elementary.proofs.cody.all_same.Tie as tie
 
 abbrev Inv-loop : tie.InvT-loop
 Inv-loop a t j₀ j = (j ≤ 8) × UpTo (λ k. a) t j
@@ -45,8 +45,8 @@ returns c = λ h. absurd (true≢false (sym h))
 returns-2 : tie.Need-returns-2 Inv-loop μ-loop
 returns-2 c = λ h k p. c .before .loop .inv .1 k (omega (arith, c .loop-test .left))
 
-pub alike-spec : {M : Type 1} → statement M
-alike-spec =
+pub all-same-spec : {M : Type 1} → statement M
+all-same-spec =
     tie.close
     (tie.spec
     Inv-loop
