@@ -1,5 +1,5 @@
-// IEEE 754's fusedMultiplyAdd, a × b + c rounded once, in three ways: `by_errors` is all in floats,
-// `quick` finds two floats whose exact sum rounds alike and lets the machine add them, `general`
+// IEEE 754's fusedMultiplyAdd, a × b + c rounded once, in three ways: `mul_add_by_errors` is all in floats,
+// `mul_add_quick` finds two floats whose exact sum rounds alike and lets the machine add them, `mul_add_general`
 // works in numbers of two words. For a whole b and a whole −c `mul_add_whole` has a fourth, with no
 // branch on digits.
 use crate::limits::EPSILON;
@@ -82,7 +82,7 @@ fn sub_wide(ah: u64, al: u64, bh: u64, bl: u64) -> Wide
 }
 
 // a − 1.
-fn less_one(ah: u64, al: u64) -> Wide
+fn sub_one(ah: u64, al: u64) -> Wide
     requires { ⌜ 0 < wide ah al ⌝ }
     ensures { λ r. ⌜ wide (r .hi) (r .lo) ≡ wide ah al - 1 ⌝ }
 {
@@ -97,14 +97,14 @@ fn less_one(ah: u64, al: u64) -> Wide
 }
 
 // Whether a is at least b.
-fn covers(ah: u64, al: u64, bh: u64, bl: u64) -> bool
+fn at_least(ah: u64, al: u64, bh: u64, bl: u64) -> bool
     ensures { λ r. ⌜ r ≡ leb (wide bh bl) (wide ah al) ⌝ }
 {
     if ah == bh { bl <= al } else { bh < ah }
 }
 
 // v * 2^d.
-fn left_wide(vh: u64, vl: u64, d: u64) -> Wide
+fn shift_left_wide(vh: u64, vl: u64, d: u64) -> Wide
     requires { ⌜ d < 64 ⌝ ∗ ⌜ wide vh vl * 2 ^ d < 2 ^ 128 ⌝ }
     ensures { λ r. ⌜ wide (r .hi) (r .lo) ≡ wide vh vl * 2 ^ d ⌝ }
 {
@@ -116,7 +116,7 @@ fn left_wide(vh: u64, vl: u64, d: u64) -> Wide
 }
 
 // v / 2^d.
-fn right_wide(vh: u64, vl: u64, d: u64) -> Wide
+fn shift_right_wide(vh: u64, vl: u64, d: u64) -> Wide
     requires { ⌜ 0 < d ⌝ }
     ensures { λ r. ⌜ wide (r .hi) (r .lo) ≡ wide vh vl / 2 ^ d ⌝ }
 {
@@ -131,8 +131,8 @@ fn right_wide(vh: u64, vl: u64, d: u64) -> Wide
     }
 }
 
-// 0 just where `right_wide` drops nothing.
-fn lost(vh: u64, vl: u64, d: u64) -> u64
+// 0 just where `shift_right_wide` drops nothing.
+fn dropped_bits(vh: u64, vl: u64, d: u64) -> u64
     ensures { λ r. ⌜ SameZero r (wide vh vl % 2 ^ d) ⌝ }
 {
     if d < 64 {
@@ -153,12 +153,12 @@ fn sum_near(ln: bool, lh: u64, ll: u64, sn: bool, sh: u64, sl: u64, d: u64, e: u
     requires { ⌜ Near lh ll sh sl d e ⌝ }
     ensures { λ r. ⌜ r ≡ sum binary64 ln (wide lh ll * 2 ^ (e + d)) sn (wide sh sl * 2 ^ e) (2 ^ 2404) ⌝ }
 {
-    let x = left_wide(lh, ll, d);
+    let x = shift_left_wide(lh, ll, d);
     if ln == sn {
         let v = add_wide(x.hi, x.lo, sh, sl);
         return round_exact(ln, v.hi, v.lo, e);
     }
-    if covers(sh, sl, x.hi, x.lo) {
+    if at_least(sh, sl, x.hi, x.lo) {
         let v = sub_wide(sh, sl, x.hi, x.lo);
         round_exact(both(sn, is_nonzero(v.hi, v.lo)), v.hi, v.lo, e)
     } else {
@@ -172,8 +172,8 @@ fn sum_far(ln: bool, lh: u64, ll: u64, sn: bool, sh: u64, sl: u64, d: u64, e: u6
     requires { ⌜ Far lh ll sh sl d e ⌝ }
     ensures { λ r. ⌜ r ≡ sum binary64 ln (wide lh ll * 2 ^ e) sn (wide sh sl * 2 ^ (e - d)) (2 ^ 2404) ⌝ }
 {
-    let y = right_wide(sh, sl, d);
-    let x = lost(sh, sl, d);
+    let y = shift_right_wide(sh, sl, d);
+    let x = dropped_bits(sh, sl, d);
     if ln == sn {
         let v = add_wide(lh, ll, y.hi, y.lo);
         return round_signed(ln, v.hi, v.lo, x, e);
@@ -182,7 +182,7 @@ fn sum_far(ln: bool, lh: u64, ll: u64, sn: bool, sh: u64, sl: u64, d: u64, e: u6
     if x == 0 {
         round_signed(ln, v.hi, v.lo, 0, e)
     } else {
-        let w = less_one(v.hi, v.lo);
+        let w = sub_one(v.hi, v.lo);
         round_signed(ln, w.hi, w.lo, x, e)
     }
 }
@@ -213,7 +213,7 @@ fn sum_wide(an: bool, ah: u64, al: u64, ae: u64, bn: bool, bh: u64, bl: u64, be:
 }
 
 // The sum of a product and an addend, none of them 0, rounded once.
-fn fused(n: bool, am: u64, ae: u64, bm: u64, be: u64, cn: bool, cm: u64, ce: u64) -> f64
+fn mul_add_nonzero(n: bool, am: u64, ae: u64, bm: u64, be: u64, cn: bool, cm: u64, ce: u64) -> f64
     requires { ⌜ Digits am ae ⌝ ∗ ⌜ Digits bm be ⌝ ∗ ⌜ Digits cm ce ⌝ }
     ensures { λ r. ⌜ r ≡ sum binary64 n (am * bm * 2 ^ (ae + be + 128)) cn (cm * 2 ^ 52 * 2 ^ (ce + 1214)) (2 ^ 2404) ⌝ }
 {
@@ -231,7 +231,7 @@ fn fused(n: bool, am: u64, ae: u64, bm: u64, be: u64, cn: bool, cm: u64, ce: u64
 }
 
 // `mul_add` for finite operands. With a zero among them the plain operations round once or not at all.
-fn fused_finite(a: f64, b: f64, c: f64) -> f64
+fn mul_add_finite(a: f64, b: f64, c: f64) -> f64
     requires { ⌜ T (Scale.finite a) ⌝ ∗ ⌜ T (Scale.finite b) ⌝ ∗ ⌜ T (Scale.finite c) ⌝ }
     ensures { λ r. ⌜ r ≡ fma binary64 a b c ⌝ }
 {
@@ -247,17 +247,17 @@ fn fused_finite(a: f64, b: f64, c: f64) -> f64
     if r.m == 0 {
         return a * b;
     }
-    fused(p.neg != q.neg, p.m, p.e, q.m, q.e, r.neg, r.m, r.e)
+    mul_add_nonzero(p.neg != q.neg, p.m, p.e, q.m, q.e, r.neg, r.m, r.e)
 }
 
 // `mul_add` for any operands. Only where a finite product meets an infinite addend would the plain
 // operations go wrong: the product may overflow.
-fn general(a: f64, b: f64, c: f64) -> f64
+fn mul_add_general(a: f64, b: f64, c: f64) -> f64
     ensures { λ r. ⌜ r ≡ fma binary64 a b c ⌝ }
 {
     if both(is_finite(a), is_finite(b)) {
         if is_finite(c) {
-            fused_finite(a, b, c)
+            mul_add_finite(a, b, c)
         } else {
             c
         }
@@ -267,46 +267,46 @@ fn general(a: f64, b: f64, c: f64) -> f64
 }
 
 // 1 where v is not 0.
-fn mark(v: u64) -> u64
+fn sticky_bit(v: u64) -> u64
     ensures { λ r. ⌜ r < 2 ⌝ ∗ ⌜ SameZero r v ⌝ }
 {
     if v == 0 { 0 } else { 1 }
 }
 
 // v without its 13 lowest digits, and a last digit that is 1 where they are not 0.
-fn marked(v: u64) -> u64
+fn cut_with_sticky(v: u64) -> u64
     ensures { λ r. ⌜ r < 2 ^ 52 ⌝ ∗ ⌜ Marked 13 v r ⌝ }
 {
-    (v >> 13) * 2 + mark(v % 0x2000)
+    (v >> 13) * 2 + sticky_bit(v % 0x2000)
 }
 
 // The same for two words and their 55 lowest digits.
-fn marked_wide(hi: u64, lo: u64) -> u64
+fn cut_wide_with_sticky(hi: u64, lo: u64) -> u64
     requires { ⌜ hi < 2 ^ 42 ⌝ }
     ensures { λ r. ⌜ r < 2 ^ 52 ⌝ ∗ ⌜ Marked 55 (wide hi lo) r ⌝ }
 {
-    ((hi << 9) + (lo >> 55)) * 2 + mark(lo % 0x80_0000_0000_0000)
+    ((hi << 9) + (lo >> 55)) * 2 + sticky_bit(lo % 0x80_0000_0000_0000)
 }
 
 // The float nearest to ±((hi - 2^51) * 2^64 + lo) * 2^(k + 254) / 2^2404. A sum of two floats that
 // has the same leading digits, and the same mark for what lies below them, is rounded by the machine.
-fn placed(neg: bool, hi: u64, lo: u64, k: u64) -> f64
+fn round_by_addition(neg: bool, hi: u64, lo: u64, k: u64) -> f64
     requires { ⌜ Clear hi k ⌝ }
     ensures { λ r. ⌜ (2 ^ 51 ≤ hi → r ≡ round binary64 neg (wide (hi - 2 ^ 51) lo * 2 ^ (k + 254)) (2 ^ 2404)) ⌝
         ∗ ⌜ (hi < 2 ^ 51 → r ≡ round binary64 (not neg) (((2 ^ 51 - hi) * 2 ^ 64 - lo) * 2 ^ (k + 254)) (2 ^ 2404)) ⌝ ∗ ⌜ lo < 2 ^ 64 ⌝ }
 {
     let u = float_of_fields(neg, k - 1011, hi) - float_of_fields(neg, k - 1011, 0x8_0000_0000_0001);
-    u + float_of_fields(neg, k - 1063, marked(lo))
+    u + float_of_fields(neg, k - 1063, cut_with_sticky(lo))
 }
 
 // A result, where there is one.
-struct Tried {
+struct Attempt {
     done: bool,
     value: f64,
 }
 
 // Whether (hi - 2^51) * 2^64 is far enough from 0.
-fn clear(hi: u64) -> bool
+fn far_from_zero(hi: u64) -> bool
     ensures { λ r. ⌜ (r ≡ true → Apart hi) ⌝ }
 {
     if hi < 0x8_0000_0000_0008 {
@@ -317,7 +317,7 @@ fn clear(hi: u64) -> bool
 }
 
 // 2^115 + p, or 2^115 - p - 1.
-fn turned(neg: bool, ph: u64, pl: u64) -> Wide
+fn signed_offset(neg: bool, ph: u64, pl: u64) -> Wide
     requires { ⌜ ph < 2 ^ 42 ⌝ }
     ensures { λ r. ⌜ Turned neg (wide ph pl) (wide (r .hi) (r .lo)) ⌝ }
 {
@@ -342,22 +342,22 @@ fn one_if(t: bool) -> u64
 }
 
 // ±p * 2^(k + 254) + ±m * 2^(k + 254 + d), for a d that is not large. The last digit of
-// m * 2^d is free for the 1 that `turned` leaves out.
-fn near(n: bool, ph: u64, pl: u64, cn: bool, m: u64, d: u64, k: u64) -> Tried
+// m * 2^d is free for the 1 that `signed_offset` leaves out.
+fn quick_near(n: bool, ph: u64, pl: u64, cn: bool, m: u64, d: u64, k: u64) -> Attempt
     requires { ⌜ Joined ph pl m d k ⌝ ∗ ⌜ 0 < d ⌝ ∗ ⌜ d < 62 ⌝ }
     ensures { λ r. ⌜ (r .done ≡ true → r .value ≡ sum binary64 n (wide ph pl * 2 ^ (k + 254)) cn (m * 2 ^ (k + 254 + d)) (2 ^ 2404)) ⌝ }
 {
-    let x = left_wide(0, m, d);
-    let y = turned(n != cn, ph, pl);
+    let x = shift_left_wide(0, m, d);
+    let y = signed_offset(n != cn, ph, pl);
     let v = add_wide(y.hi, y.lo, x.hi, x.lo + one_if(n != cn));
-    if clear(v.hi) {
-        let r = placed(cn, v.hi, v.lo, k);
-        Tried {
+    if far_from_zero(v.hi) {
+        let r = round_by_addition(cn, v.hi, v.lo, k);
+        Attempt {
             done: true,
             value: r,
         }
     } else {
-        Tried {
+        Attempt {
             done: false,
             value: 0.0,
         }
@@ -365,16 +365,17 @@ fn near(n: bool, ph: u64, pl: u64, cn: bool, m: u64, d: u64, k: u64) -> Tried
 }
 
 // c, which is ±m * 2^(k + 254 + d), and ±p * 2^(k + 254), for a large d.
-fn beyond(n: bool, ph: u64, pl: u64, c: f64, cn: bool, m: u64, d: u64, k: u64) -> f64
+fn quick_far(n: bool, ph: u64, pl: u64, c: f64, cn: bool, m: u64, d: u64, k: u64) -> f64
     requires { ⌜ Joined ph pl m d k ⌝ ∗ ⌜ 62 ≤ d ⌝ ∗ ⌜ HasValue c cn (m * 2 ^ (k + 254 + d)) (2 ^ 2404) ⌝ }
     ensures { λ r. ⌜ r ≡ sum binary64 n (wide ph pl * 2 ^ (k + 254)) cn (m * 2 ^ (k + 254 + d)) (2 ^ 2404) ⌝ }
 {
-    let v = float_of_fields(n, k - 1021, marked_wide(ph, pl)) - float_of_fields(n, k - 1021, 0);
+    let v = float_of_fields(n, k - 1021, cut_wide_with_sticky(ph, pl))
+        - float_of_fields(n, k - 1021, 0);
     c + v
 }
 
 // The fields of a float, with the leading digit of a normal one.
-fn opened(x: f64) -> Parts
+fn fields_of(x: f64) -> Parts
     requires { ⌜ T (not (Ieee.isNan x)) ⌝ }
     ensures { λ r. ⌜ Opened x (r .neg) (r .m) (r .e) ⌝ }
 {
@@ -387,22 +388,22 @@ fn opened(x: f64) -> Parts
 }
 
 // Whether an exponent's field is a middling one.
-fn middling(f: u64) -> bool
+fn exponent_in_range(f: u64) -> bool
     ensures { λ r. ⌜ (r ≡ true → 768 ≤ f) ⌝ ∗ ⌜ (r ≡ true → f < 1280) ⌝ }
 {
     if f < 768 { false } else { f < 1280 }
 }
 
 // `mul_add`, where the factors are middling and the addend is not much smaller than the product.
-fn quick(a: f64, b: f64, c: f64) -> Tried
+fn mul_add_quick(a: f64, b: f64, c: f64) -> Attempt
     requires { ⌜ T (not (Ieee.isNan a)) ⌝ ∗ ⌜ T (not (Ieee.isNan b)) ⌝ ∗ ⌜ T (not (Ieee.isNan c)) ⌝ }
     ensures { λ r. ⌜ (r .done ≡ true → r .value ≡ fma binary64 a b c) ⌝ }
 {
-    let p = opened(a);
-    if middling(p.e) {
-        let q = opened(b);
-        if middling(q.e) {
-            let r = opened(c);
+    let p = fields_of(a);
+    if exponent_in_range(p.e) {
+        let q = fields_of(b);
+        if exponent_in_range(q.e) {
+            let r = fields_of(c);
             let k = p.e + q.e;
             let e = r.e + 1075;
             if k < e {
@@ -410,11 +411,11 @@ fn quick(a: f64, b: f64, c: f64) -> Tried
                 let w = product(p.m, q.m);
                 let n = p.neg != q.neg;
                 if d < 62 {
-                    return near(n, w.hi, w.lo, r.neg, r.m, d, k);
+                    return quick_near(n, w.hi, w.lo, r.neg, r.m, d, k);
                 }
                 if r.e < 2047 {
-                    let v = beyond(n, w.hi, w.lo, c, r.neg, r.m, d, k);
-                    return Tried {
+                    let v = quick_far(n, w.hi, w.lo, c, r.neg, r.m, d, k);
+                    return Attempt {
                         done: true,
                         value: v,
                     };
@@ -422,18 +423,18 @@ fn quick(a: f64, b: f64, c: f64) -> Tried
             }
         }
     }
-    Tried {
+    Attempt {
         done: false,
         value: 0.0,
     }
 }
 
 // Whether two factors are middling and an addend is not huge, by their bits.
-fn usual(x: u64, y: u64, z: u64) -> bool
+fn operands_in_range(x: u64, y: u64, z: u64) -> bool
     ensures { λ r. ⌜ (r ≡ true → Usual x y z) ⌝ }
 {
-    if middling(x % 0x8000_0000_0000_0000 / 0x10_0000_0000_0000) {
-        if middling(y % 0x8000_0000_0000_0000 / 0x10_0000_0000_0000) {
+    if exponent_in_range(x % 0x8000_0000_0000_0000 / 0x10_0000_0000_0000) {
+        if exponent_in_range(y % 0x8000_0000_0000_0000 / 0x10_0000_0000_0000) {
             return z % 0x8000_0000_0000_0000 < 0x7e00_0000_0000_0000;
         }
     }
@@ -442,7 +443,7 @@ fn usual(x: u64, y: u64, z: u64) -> bool
 
 // s + w rounded, where every number that rounds to w gives the same sum with s: what lies between
 // the two floats beside w does.
-fn pinned(s: f64, w: f64) -> Tried
+fn rounds_alike(s: f64, w: f64) -> Attempt
     requires { ⌜ T (not (Ieee.isNan w)) ⌝ }
     ensures { λ r. ⌜ (r .done ≡ true → Pinned s w (r .value)) ⌝ }
 {
@@ -455,7 +456,7 @@ fn pinned(s: f64, w: f64) -> Tried
             if w < hi {
                 let m = f64::to_bits(r) % 0x8000_0000_0000_0000;
                 if 0 < m {
-                    return Tried {
+                    return Attempt {
                         done: m < 0x7ff0_0000_0000_0000,
                         value: r,
                     };
@@ -463,7 +464,7 @@ fn pinned(s: f64, w: f64) -> Tried
             }
         }
     }
-    Tried {
+    Attempt {
         done: false,
         value: 0.0,
     }
@@ -472,14 +473,14 @@ fn pinned(s: f64, w: f64) -> Tried
 // `mul_add` in floats: the product and the sum with what rounding took off each, which are floats
 // (Dekker, Knuth), and one rounding of all. The five products are exact; a's 27 lower digits are cut
 // once more, since with b's 27 they would make 54.
-fn by_errors(a: f64, b: f64, c: f64) -> Tried
+fn mul_add_by_errors(a: f64, b: f64, c: f64) -> Attempt
     requires { ⌜ T (not (Ieee.isNan a)) ⌝ ∗ ⌜ T (not (Ieee.isNan b)) ⌝ ∗ ⌜ T (not (Ieee.isNan c)) ⌝ }
     ensures { λ r. ⌜ (r .done ≡ true → r .value ≡ fma binary64 a b c) ⌝ }
 {
     let x = f64::to_bits(a);
     let y = f64::to_bits(b);
     let z = f64::to_bits(c);
-    if usual(x, y, z) {
+    if operands_in_range(x, y, z) {
         let ah = f64::from_bits(x - x % 0x800_0000);
         let am = f64::from_bits(x - x % 0x4000);
         let bh = f64::from_bits(y - y % 0x800_0000);
@@ -489,9 +490,9 @@ fn by_errors(a: f64, b: f64, c: f64) -> Tried
         let s = p + c;
         let v = s - p;
         let t = (p - (s - v)) + (c - v);
-        return pinned(s, t + e);
+        return rounds_alike(s, t + e);
     }
-    Tried {
+    Attempt {
         done: false,
         value: 0.0,
     }
@@ -503,19 +504,23 @@ pub fn mul_add(a: f64, b: f64, c: f64) -> f64
 {
     let t = a * b + c;
     if t == t {
-        let f = by_errors(a, b, c);
+        let f = mul_add_by_errors(a, b, c);
         if f.done {
             return f.value;
         }
-        let q = quick(a, b, c);
-        if q.done { q.value } else { general(a, b, c) }
+        let q = mul_add_quick(a, b, c);
+        if q.done {
+            q.value
+        } else {
+            mul_add_general(a, b, c)
+        }
     } else {
-        general(a, b, c)
+        mul_add_general(a, b, c)
     }
 }
 
 // Whether `split` serves: a is from 2^-12 to 2, and p and q have at most 19 digits.
-fn splits(a: f64, p: u32, q: u32) -> bool
+fn can_split(a: f64, p: u32, q: u32) -> bool
     ensures { λ r. ⌜ (r ≡ true → Splits a p q) ⌝ }
 {
     if p >= 0x8_0000 {
@@ -551,7 +556,7 @@ fn split(a: f64, p: u32, q: u32) -> f64
 pub fn mul_add_whole(a: f64, p: u32, q: u32) -> f64
     ensures { λ r. ⌜ r ≡ fma binary64 a (float p) (negated (float q)) ⌝ }
 {
-    if splits(a, p, q) {
+    if can_split(a, p, q) {
         split(a, p, q)
     } else {
         mul_add(a, p as f64, -(q as f64))

@@ -54,7 +54,7 @@ module _ (x y : Float) (s : Bool) (a b e : ℕ) (lo : 1330 ≤ e) (hi : e ≤ 33
 pub shift : (q u j : ℕ) → q * 2 ^ (u + j) ≡ q * 2 ^ j * 2 ^ u
 shift q u j = split-power q (u + j) j u (add-comm u j)
 
--- ---- `placed`
+-- ---- `round_by_addition`
 module _ (x y z : Float) (s : Bool) (hi lo m k : ℕ) (K : Middling k) (M : Marked 13 lo m) (L : lo < 2 ^ 64) (N : m < 2 ^ 52) (H : hi < 2 ^ 52)
     (p : HasValue x s ((2 ^ 52 + hi) * 2 ^ (k - 1011 + 1329)) (2 ^ 2404)) (q : HasValue y s ((2 ^ 52 + 0x8_0000_0000_0001) * 2 ^ (k - 1011 + 1329)) (2 ^ 2404))
     (r : HasValue z s ((2 ^ 52 + m) * 2 ^ (k - 1063 + 1329)) (2 ^ 2404)) where
@@ -102,7 +102,7 @@ module _ (x y z : Float) (s : Bool) (hi lo m k : ℕ) (K : Middling k) (M : Mark
       ∙ sym (round-alike (not s) 13 (h * 2 ^ 13 - lo) (h * 2 ^ 13 - m * 2 ^ 12) u (omega arith) (minus-alike 12 lo m M h (omega arith)))
       ∙ ap (λ (w : ℕ). round binary64 (not s) (w * 2 ^ u) (2 ^ 2404)) whole
 
--- ---- `near`, with p for the product and c for the addend, both by the unit 2 ^ u
+-- ---- `quick_near`, with p for the product and c for the addend, both by the unit 2 ^ u
 scaled-addend : (n cn : Bool) (p m d u : ℕ) → sum binary64 n (p * 2 ^ u) cn (m * 2 ^ d * 2 ^ u) (2 ^ 2404) ≡ sum binary64 n (p * 2 ^ u) cn (m * 2 ^ (u + d)) (2 ^ 2404)
 scaled-addend n cn p m d u = ap (λ (w : ℕ). sum binary64 n (p * 2 ^ u) cn w (2 ^ 2404)) (sym (shift m u d))
 
@@ -168,7 +168,7 @@ module _ (n cn : Bool) (p m d u vh vl : ℕ) (S : Bool·beq n cn ≡ true → wi
     ]
   ]
 
--- ---- `beyond`, with p for the product and r for its leading digits
+-- ---- `quick_far`, with p for the product and r for its leading digits
 module _ (c x y : Float) (n cn : Bool) (p m d k r : ℕ) (K : Middling k) (M : Marked 55 p r) (R : r < 2 ^ 52) (D : 62 ≤ d) (L : 2 ^ 52 ≤ m) (lo : 2 ^ 104 ≤ p) (hi : p < 2 ^ 106)
     (X : HasValue x n ((2 ^ 52 + r) * 2 ^ (k - 1021 + 1329)) (2 ^ 2404)) (Y : HasValue y n ((2 ^ 52 + 0) * 2 ^ (k - 1021 + 1329)) (2 ^ 2404))
     (C : HasValue c cn (m * 2 ^ (k + 254 + d)) (2 ^ 2404)) where
@@ -215,7 +215,7 @@ module _ (c x y : Float) (n cn : Bool) (p m d k r : ℕ) (K : Middling k) (M : M
       ∙ ap (λ (w : ℕ). sum binary64 cn w n (p * 2 ^ v) (2 ^ 2404)) (sym high-digits)
       ∙ sum-comm binary64 cn n (m * 2 ^ (v + d)) (p * 2 ^ v) (2 ^ 2404)
 
--- ---- `opened`
+-- ---- `fields_of`
 module _ (x : Float) (F : T (fits binary64 x)) where
   abbrev b : ℕ
   b = toBits binary64 x
@@ -268,7 +268,7 @@ operands x y z h =
     let p : T (not (isNan (mul binary64 x y))) = add-l (mul binary64 x y) z t in
     (mul-l x y p, (mul-r x y p, add-r (mul binary64 x y) z t))
 
--- ---- `quick`
+-- ---- `mul_add_quick`
 module _ (f h : ℕ) (l : f < h + 1075) where
   abbrev spot : ℕ
   spot = f + 254 + (h + 1075 - f)

@@ -39,31 +39,31 @@ differ a b =
     sym (sums.sum-more binary64 (a .args .ln) (a .args .sn) (l * 2 ^ a .args .e) (s * 2 ^ (a .args .e - a .args .d)) (2 ^ 2404) b
     (sums.far-order l s (a .args .d) (a .args .e) (a .pre .room) (sums.far-below l s (a .args .d) (a .pre .apart) (a .pre .large .low) (a .pre .small .high))))
 
-right-wide-requires : tie.Need-right-wide-requires
-right-wide-requires c κs = search needs
+shift-right-wide-requires : tie.Need-shift-right-wide-requires
+shift-right-wide-requires c κs = search needs
 
-lost-requires : tie.Need-lost-requires
-lost-requires c κs = search needs
+dropped-bits-requires : tie.Need-dropped-bits-requires
+dropped-bits-requires c κs = search needs
 
 add-wide-requires : tie.Need-add-wide-requires
 add-wide-requires c κs =
     let a = c .before .before .before in
-    let y = c .before .before .right-wide in
+    let y = c .before .before .shift-right-wide in
     sums.wide-room (wide (a .args .lh) (a .args .ll)) (wide (y .result .hi) (y .result .lo)) (lt-of-lt-of-le (a .pre .large .high) (lit≤ tt)) (lt-of-lt-of-le (y-small a (y .ensures)) (lit≤ tt))
 
 round-signed-requires : tie.Need-round-signed-requires
 round-signed-requires c κs =
     let a = c .before .before .before .before in
-    let y = c .before .before .before .right-wide in
+    let y = c .before .before .before .shift-right-wide in
     let v = c .add-wide in
     let h : 2 ^ 64 ≤ wide (v .result .hi) (v .result .lo) = subst (λ (z : ℕ). 2 ^ 64 ≤ z) (sym (v .ensures)) (omega arith) in
-    ready (c .before .before .lost .result) a h
+    ready (c .before .before .dropped-bits .result) a h
 
 returns : tie.Need-returns
 returns c =
     let a = c .before .before .before .before .before in
-    let y = c .before .before .before .before .right-wide in
-    let x = c .before .before .before .lost in
+    let y = c .before .before .before .before .shift-right-wide in
+    let x = c .before .before .before .dropped-bits in
     let v = c .before .add-wide in
     let l = wide (a .args .lh) (a .args .ll) in
     let s = wide (a .args .sh) (a .args .sl) in
@@ -75,38 +75,38 @@ returns c =
 sub-wide-requires : tie.Need-sub-wide-requires
 sub-wide-requires c κs =
     let a = c .before .before .before in
-    let y = c .before .before .right-wide in
+    let y = c .before .before .shift-right-wide in
     le-trans (le-of-lt (y-small a (y .ensures))) (le-trans (lit≤ tt) (a .pre .large .low))
 
 round-signed-requires-2 : tie.Need-round-signed-requires-2
 round-signed-requires-2 c κs =
     let a = c .before .before .before .before .before in
-    let y = c .before .before .before .before .right-wide in
+    let y = c .before .before .before .before .shift-right-wide in
     let v = c .before .sub-wide in
     let h : 2 ^ 64 ≤ wide (v .result .hi) (v .result .lo) = subst (λ (z : ℕ). 2 ^ 64 ≤ z) (sym (v .ensures)) (less-big (wide (a .args .lh) (a .args .ll)) (wide (y .result .hi) (y .result .lo)) (a .pre .large .low) (y-small a (y .ensures))) in
     ready 0 a h
 
-less-one-requires : tie.Need-less-one-requires
-less-one-requires c κs =
+sub-one-requires : tie.Need-sub-one-requires
+sub-one-requires c κs =
     let a = c .before .before .before .before .before in
-    let y = c .before .before .before .before .right-wide in
+    let y = c .before .before .before .before .shift-right-wide in
     let v = c .before .sub-wide in
     subst (λ (z : ℕ). 0 < z) (sym (v .ensures)) (le-trans (lit≤ tt) (less-big (wide (a .args .lh) (a .args .ll)) (wide (y .result .hi) (y .result .lo)) (a .pre .large .low) (y-small a (y .ensures))))
 
 round-signed-requires-3 : tie.Need-round-signed-requires-3
 round-signed-requires-3 c κs =
     let a = c .before .before .before .before .before .before in
-    let y = c .before .before .before .before .before .right-wide in
+    let y = c .before .before .before .before .before .shift-right-wide in
     let v = c .before .before .sub-wide in
-    let w = c .less-one in
+    let w = c .sub-one in
     let h : 2 ^ 64 ≤ wide (w .result .hi) (w .result .lo) = subst (λ (z : ℕ). 2 ^ 64 ≤ z) (sym (w .ensures ∙ ap (λ (z : ℕ). z - 1) (v .ensures))) (one-big (wide (a .args .lh) (a .args .ll)) (wide (y .result .hi) (y .result .lo)) (a .pre .large .low) (y-small a (y .ensures))) in
-    ready (c .before .before .before .before .lost .result) a h
+    ready (c .before .before .before .before .dropped-bits .result) a h
 
 returns-2 : tie.Need-returns-2
 returns-2 c =
     let a = c .before .before .before .before .before .before in
-    let y = c .before .before .before .before .before .right-wide in
-    let x = c .before .before .before .before .lost in
+    let y = c .before .before .before .before .before .shift-right-wide in
+    let x = c .before .before .before .before .dropped-bits in
     let v = c .before .before .sub-wide in
     let l = wide (a .args .lh) (a .args .ll) in
     let s = wide (a .args .sh) (a .args .sl) in
@@ -118,10 +118,10 @@ returns-2 c =
 returns-3 : tie.Need-returns-3
 returns-3 c =
     let a = c .before .before .before .before .before .before .before in
-    let y = c .before .before .before .before .before .before .right-wide in
-    let x = c .before .before .before .before .before .lost in
+    let y = c .before .before .before .before .before .before .shift-right-wide in
+    let x = c .before .before .before .before .before .dropped-bits in
     let v = c .before .before .before .sub-wide in
-    let w = c .before .less-one in
+    let w = c .before .sub-one in
     let l = wide (a .args .lh) (a .args .ll) in
     let s = wide (a .args .sh) (a .args .sl) in
     c .round-signed3 .ensures (l * 2 ^ a .args .e - s * 2 ^ (a .args .e - a .args .d)) (2 ^ 2404) (pow-pos 2404)
@@ -134,14 +134,14 @@ pub sum-far-spec : {M : Type 1} → statement M
 sum-far-spec =
     tie.close
     (tie.spec
-    right-wide-requires
-    lost-requires
+    shift-right-wide-requires
+    dropped-bits-requires
     add-wide-requires
     round-signed-requires
     returns
     sub-wide-requires
     round-signed-requires-2
-    less-one-requires
+    sub-one-requires
     round-signed-requires-3
     returns-2
     returns-3)
