@@ -21,8 +21,8 @@ ghost use Rattle.elementary.specs.Cody.{negativeSquare};
 ghost use Rattle.elementary.specs.NormalDistribution.{cdfOf, midOf, lowest, highest, endsOf};
 ghost use Rattle.elementary.specs.Inside.Bisection.{AfterSteps};
 
-// The ends after some steps, and the cdf's values there.
-struct BisectionState {
+// The two ends around the result after some steps, and the cdf's values there.
+struct Bracket {
     lo: f64,
     hi: f64,
     cdf_lo: f64,
@@ -77,7 +77,7 @@ fn approximation(p: f64) -> f64 {
 }
 
 // Where the ends are close, a line through the cdf's values there meets p nearer to the result.
-fn refine_guess(p: f64, at: BisectionState, guess: f64) -> f64 {
+fn refine_guess(p: f64, at: Bracket, guess: f64) -> f64 {
     if at.hi - at.lo < 1e-6 {
         at.lo + (p - at.cdf_lo) / (at.cdf_hi - at.cdf_lo) * (at.hi - at.lo)
     } else {
@@ -153,12 +153,12 @@ fn cdf_at(set: RuleSet, mid: f64, x: f64, f: f64) -> f64
 }
 
 // One step, whose middle has the cdf's value v.
-fn bisection_step(set: RuleSet, p: f64, from: BisectionState, mid: f64, v: f64) -> BisectionState
+fn bisection_step(set: RuleSet, p: f64, from: Bracket, mid: f64, v: f64) -> Bracket
     requires { ⌜ AfterSteps set p (from .lo) (from .hi) (from .steps) ⌝ ∗ ⌜ from .steps < 64 ⌝ ∗ ⌜ mid ≡ midOf (from .lo) (from .hi) ⌝ ∗ ⌜ v ≡ cdfOf set mid ⌝ }
     ensures { λ r. ⌜ AfterSteps set p (r .lo) (r .hi) (r .steps) ⌝ ∗ ⌜ from .steps < r .steps ⌝ }
 {
     if v < p {
-        BisectionState {
+        Bracket {
             lo: mid,
             hi: from.hi,
             cdf_lo: v,
@@ -166,7 +166,7 @@ fn bisection_step(set: RuleSet, p: f64, from: BisectionState, mid: f64, v: f64) 
             steps: from.steps + 1,
         }
     } else {
-        BisectionState {
+        Bracket {
             lo: from.lo,
             hi: mid,
             cdf_lo: from.cdf_lo,
@@ -177,13 +177,7 @@ fn bisection_step(set: RuleSet, p: f64, from: BisectionState, mid: f64, v: f64) 
 }
 
 // The steps after the first whose middles were guessed.
-fn apply_guessed_steps(
-    set: RuleSet,
-    p: f64,
-    from: BisectionState,
-    x: [f64; 8],
-    f: [f64; 8],
-) -> BisectionState
+fn apply_guessed_steps(set: RuleSet, p: f64, from: Bracket, x: [f64; 8], f: [f64; 8]) -> Bracket
     requires { ⌜ AfterSteps set p (from .lo) (from .hi) (from .steps) ⌝ ∗ ⌜ Each (cdfOf set) x f ⌝ }
     ensures { λ r. ⌜ AfterSteps set p (r .lo) (r .hi) (r .steps) ⌝ ∗ ⌜ from .steps ≤ r .steps ⌝ }
 {
@@ -205,14 +199,7 @@ fn apply_guessed_steps(
 }
 
 // One step and up to seven more.
-fn bisection_batch(
-    set: RuleSet,
-    p: f64,
-    from: BisectionState,
-    guess: f64,
-    a: f64,
-    e: f64,
-) -> BisectionState
+fn bisection_batch(set: RuleSet, p: f64, from: Bracket, guess: f64, a: f64, e: f64) -> Bracket
     requires { ⌜ AfterSteps set p (from .lo) (from .hi) (from .steps) ⌝ ∗ ⌜ from .steps < 64 ⌝ ∗ ⌜ e ≡ expOf (negativeSquare a) ⌝ }
     ensures { λ r. ⌜ AfterSteps set p (r .lo) (r .hi) (r .steps) ⌝ ∗ ⌜ from .steps < r .steps ⌝ }
 {
@@ -232,7 +219,7 @@ pub(crate) fn bisect(set: RuleSet, p: f64) -> f64
     let guess = approximation(p);
     let a = tilde(abs(guess * FRAC_1_SQRT_2));
     let e = exp(-a * a);
-    let mut at = BisectionState {
+    let mut at = Bracket {
         lo: -39.0,
         hi: 39.0,
         cdf_lo: 0.0,

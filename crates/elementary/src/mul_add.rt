@@ -1,7 +1,7 @@
-// IEEE 754's fusedMultiplyAdd, a × b + c rounded once, in three ways: `mul_add_by_errors` is all in floats,
-// `mul_add_quick` finds two floats whose exact sum rounds alike and lets the machine add them, `mul_add_general`
-// works in numbers of two words. For a whole b and a whole −c `mul_add_whole` has a fourth, with no
-// branch on digits.
+// IEEE 754's fusedMultiplyAdd, a × b + c rounded once, in three ways: `mul_add_by_errors` is all in
+// floats, `mul_add_quick` finds two floats whose exact sum rounds alike and lets the machine add them,
+// `mul_add_general` works in numbers of two words. For a whole b and a whole −c `mul_add_whole` has a
+// fourth, with no branch on digits.
 use crate::limits::EPSILON;
 use crate::round::Parts;
 use crate::round::Wide;
@@ -26,7 +26,7 @@ ghost use lib.Ieee.Scale as Scale;
 ghost use Rattle.elementary.specs.Ops.{float};
 ghost use Rattle.elementary.specs.Inside.Round.{wide, SameZero, Digits};
 ghost use Rattle.elementary.specs.MulAdd.{fma};
-ghost use Rattle.elementary.specs.Inside.MulAdd.{Near, Far, Ordered, Both, Marked, Clear, Joined, Opened, Apart, Turned, Splits, Pinned, Usual};
+ghost use Rattle.elementary.specs.Inside.MulAdd.{SumNear, SumFar, SumOrdered, SumWide, CutWithSticky, LeavesRoom, QuickOperands, FieldsOf, FarFromZero, SignedOffset, CanSplit, RoundsAlike, OperandsInRange};
 
 // The product of two numbers of at most 53 digits.
 fn product(a: u64, b: u64) -> Wide
@@ -150,7 +150,7 @@ fn both(a: bool, b: bool) -> bool
 
 // ±l * 2^(e + d) + ±s * 2^e, for a small d.
 fn sum_near(ln: bool, lh: u64, ll: u64, sn: bool, sh: u64, sl: u64, d: u64, e: u64) -> f64
-    requires { ⌜ Near lh ll sh sl d e ⌝ }
+    requires { ⌜ SumNear lh ll sh sl d e ⌝ }
     ensures { λ r. ⌜ r ≡ sum binary64 ln (wide lh ll * 2 ^ (e + d)) sn (wide sh sl * 2 ^ e) (2 ^ 2404) ⌝ }
 {
     let x = shift_left_wide(lh, ll, d);
@@ -169,7 +169,7 @@ fn sum_near(ln: bool, lh: u64, ll: u64, sn: bool, sh: u64, sl: u64, d: u64, e: u
 
 // ±l * 2^e + ±s * 2^(e - d), for a d that is not small.
 fn sum_far(ln: bool, lh: u64, ll: u64, sn: bool, sh: u64, sl: u64, d: u64, e: u64) -> f64
-    requires { ⌜ Far lh ll sh sl d e ⌝ }
+    requires { ⌜ SumFar lh ll sh sl d e ⌝ }
     ensures { λ r. ⌜ r ≡ sum binary64 ln (wide lh ll * 2 ^ e) sn (wide sh sl * 2 ^ (e - d)) (2 ^ 2404) ⌝ }
 {
     let y = shift_right_wide(sh, sl, d);
@@ -189,7 +189,7 @@ fn sum_far(ln: bool, lh: u64, ll: u64, sn: bool, sh: u64, sl: u64, d: u64, e: u6
 
 // ±l * 2^le + ±s * 2^se, for an se that is not above le.
 fn sum_ordered(ln: bool, lh: u64, ll: u64, le: u64, sn: bool, sh: u64, sl: u64, se: u64) -> f64
-    requires { ⌜ Ordered lh ll le sh sl se ⌝ }
+    requires { ⌜ SumOrdered lh ll le sh sl se ⌝ }
     ensures { λ r. ⌜ r ≡ sum binary64 ln (wide lh ll * 2 ^ le) sn (wide sh sl * 2 ^ se) (2 ^ 2404) ⌝ }
 {
     let d = le - se;
@@ -202,7 +202,7 @@ fn sum_ordered(ln: bool, lh: u64, ll: u64, le: u64, sn: bool, sh: u64, sl: u64, 
 
 // ±a * 2^ae + ±b * 2^be.
 fn sum_wide(an: bool, ah: u64, al: u64, ae: u64, bn: bool, bh: u64, bl: u64, be: u64) -> f64
-    requires { ⌜ Both ah al ae bh bl be ⌝ }
+    requires { ⌜ SumWide ah al ae bh bl be ⌝ }
     ensures { λ r. ⌜ r ≡ sum binary64 an (wide ah al * 2 ^ ae) bn (wide bh bl * 2 ^ be) (2 ^ 2404) ⌝ }
 {
     if be <= ae {
@@ -266,7 +266,7 @@ fn mul_add_general(a: f64, b: f64, c: f64) -> f64
     }
 }
 
-// 1 where v is not 0.
+// A digit that is 1 where v is not 0.
 fn sticky_bit(v: u64) -> u64
     ensures { λ r. ⌜ r < 2 ⌝ ∗ ⌜ SameZero r v ⌝ }
 {
@@ -275,7 +275,7 @@ fn sticky_bit(v: u64) -> u64
 
 // v without its 13 lowest digits, and a last digit that is 1 where they are not 0.
 fn cut_with_sticky(v: u64) -> u64
-    ensures { λ r. ⌜ r < 2 ^ 52 ⌝ ∗ ⌜ Marked 13 v r ⌝ }
+    ensures { λ r. ⌜ r < 2 ^ 52 ⌝ ∗ ⌜ CutWithSticky 13 v r ⌝ }
 {
     (v >> 13) * 2 + sticky_bit(v % 0x2000)
 }
@@ -283,15 +283,15 @@ fn cut_with_sticky(v: u64) -> u64
 // The same for two words and their 55 lowest digits.
 fn cut_wide_with_sticky(hi: u64, lo: u64) -> u64
     requires { ⌜ hi < 2 ^ 42 ⌝ }
-    ensures { λ r. ⌜ r < 2 ^ 52 ⌝ ∗ ⌜ Marked 55 (wide hi lo) r ⌝ }
+    ensures { λ r. ⌜ r < 2 ^ 52 ⌝ ∗ ⌜ CutWithSticky 55 (wide hi lo) r ⌝ }
 {
     ((hi << 9) + (lo >> 55)) * 2 + sticky_bit(lo % 0x80_0000_0000_0000)
 }
 
 // The float nearest to ±((hi - 2^51) * 2^64 + lo) * 2^(k + 254) / 2^2404. A sum of two floats that
-// has the same leading digits, and the same mark for what lies below them, is rounded by the machine.
+// has the same leading digits and the same sticky digit below them is rounded by the machine.
 fn round_by_addition(neg: bool, hi: u64, lo: u64, k: u64) -> f64
-    requires { ⌜ Clear hi k ⌝ }
+    requires { ⌜ LeavesRoom hi k ⌝ }
     ensures { λ r. ⌜ (2 ^ 51 ≤ hi → r ≡ round binary64 neg (wide (hi - 2 ^ 51) lo * 2 ^ (k + 254)) (2 ^ 2404)) ⌝
         ∗ ⌜ (hi < 2 ^ 51 → r ≡ round binary64 (not neg) (((2 ^ 51 - hi) * 2 ^ 64 - lo) * 2 ^ (k + 254)) (2 ^ 2404)) ⌝ ∗ ⌜ lo < 2 ^ 64 ⌝ }
 {
@@ -299,15 +299,20 @@ fn round_by_addition(neg: bool, hi: u64, lo: u64, k: u64) -> f64
     u + float_of_fields(neg, k - 1063, cut_with_sticky(lo))
 }
 
-// A result, where there is one.
+// A result, where one is found.
 struct Attempt {
     done: bool,
     value: f64,
 }
 
+const NO_RESULT: Attempt = Attempt {
+    done: false,
+    value: 0.0,
+};
+
 // Whether (hi - 2^51) * 2^64 is far enough from 0.
 fn far_from_zero(hi: u64) -> bool
-    ensures { λ r. ⌜ (r ≡ true → Apart hi) ⌝ }
+    ensures { λ r. ⌜ (r ≡ true → FarFromZero hi) ⌝ }
 {
     if hi < 0x8_0000_0000_0008 {
         hi < 0x7_ffff_ffff_fff8
@@ -316,10 +321,10 @@ fn far_from_zero(hi: u64) -> bool
     }
 }
 
-// 2^115 + p, or 2^115 - p - 1.
+// 2^115 + p, or 2^115 - p - 1 for a minus.
 fn signed_offset(neg: bool, ph: u64, pl: u64) -> Wide
     requires { ⌜ ph < 2 ^ 42 ⌝ }
-    ensures { λ r. ⌜ Turned neg (wide ph pl) (wide (r .hi) (r .lo)) ⌝ }
+    ensures { λ r. ⌜ SignedOffset neg (wide ph pl) (wide (r .hi) (r .lo)) ⌝ }
 {
     if neg {
         Wide {
@@ -344,7 +349,7 @@ fn one_if(t: bool) -> u64
 // ±p * 2^(k + 254) + ±m * 2^(k + 254 + d), for a d that is not large. The last digit of
 // m * 2^d is free for the 1 that `signed_offset` leaves out.
 fn quick_near(n: bool, ph: u64, pl: u64, cn: bool, m: u64, d: u64, k: u64) -> Attempt
-    requires { ⌜ Joined ph pl m d k ⌝ ∗ ⌜ 0 < d ⌝ ∗ ⌜ d < 62 ⌝ }
+    requires { ⌜ QuickOperands ph pl m d k ⌝ ∗ ⌜ 0 < d ⌝ ∗ ⌜ d < 62 ⌝ }
     ensures { λ r. ⌜ (r .done ≡ true → r .value ≡ sum binary64 n (wide ph pl * 2 ^ (k + 254)) cn (m * 2 ^ (k + 254 + d)) (2 ^ 2404)) ⌝ }
 {
     let x = shift_left_wide(0, m, d);
@@ -357,16 +362,13 @@ fn quick_near(n: bool, ph: u64, pl: u64, cn: bool, m: u64, d: u64, k: u64) -> At
             value: r,
         }
     } else {
-        Attempt {
-            done: false,
-            value: 0.0,
-        }
+        NO_RESULT
     }
 }
 
 // c, which is ±m * 2^(k + 254 + d), and ±p * 2^(k + 254), for a large d.
 fn quick_far(n: bool, ph: u64, pl: u64, c: f64, cn: bool, m: u64, d: u64, k: u64) -> f64
-    requires { ⌜ Joined ph pl m d k ⌝ ∗ ⌜ 62 ≤ d ⌝ ∗ ⌜ HasValue c cn (m * 2 ^ (k + 254 + d)) (2 ^ 2404) ⌝ }
+    requires { ⌜ QuickOperands ph pl m d k ⌝ ∗ ⌜ 62 ≤ d ⌝ ∗ ⌜ HasValue c cn (m * 2 ^ (k + 254 + d)) (2 ^ 2404) ⌝ }
     ensures { λ r. ⌜ r ≡ sum binary64 n (wide ph pl * 2 ^ (k + 254)) cn (m * 2 ^ (k + 254 + d)) (2 ^ 2404) ⌝ }
 {
     let v = float_of_fields(n, k - 1021, cut_wide_with_sticky(ph, pl))
@@ -377,7 +379,7 @@ fn quick_far(n: bool, ph: u64, pl: u64, c: f64, cn: bool, m: u64, d: u64, k: u64
 // The fields of a float, with the leading digit of a normal one.
 fn fields_of(x: f64) -> Parts
     requires { ⌜ T (not (Ieee.isNan x)) ⌝ }
-    ensures { λ r. ⌜ Opened x (r .neg) (r .m) (r .e) ⌝ }
+    ensures { λ r. ⌜ FieldsOf x (r .neg) (r .m) (r .e) ⌝ }
 {
     let b = f64::to_bits(x);
     Parts {
@@ -387,14 +389,14 @@ fn fields_of(x: f64) -> Parts
     }
 }
 
-// Whether an exponent's field is a middling one.
+// Whether an exponent's field is from 768 to 1279: a number from 2^-255 to below 2^257.
 fn exponent_in_range(f: u64) -> bool
     ensures { λ r. ⌜ (r ≡ true → 768 ≤ f) ⌝ ∗ ⌜ (r ≡ true → f < 1280) ⌝ }
 {
     if f < 768 { false } else { f < 1280 }
 }
 
-// `mul_add`, where the factors are middling and the addend is not much smaller than the product.
+// `mul_add` for factors in range and an addend that is not much smaller than the product.
 fn mul_add_quick(a: f64, b: f64, c: f64) -> Attempt
     requires { ⌜ T (not (Ieee.isNan a)) ⌝ ∗ ⌜ T (not (Ieee.isNan b)) ⌝ ∗ ⌜ T (not (Ieee.isNan c)) ⌝ }
     ensures { λ r. ⌜ (r .done ≡ true → r .value ≡ fma binary64 a b c) ⌝ }
@@ -423,15 +425,12 @@ fn mul_add_quick(a: f64, b: f64, c: f64) -> Attempt
             }
         }
     }
-    Attempt {
-        done: false,
-        value: 0.0,
-    }
+    NO_RESULT
 }
 
-// Whether two factors are middling and an addend is not huge, by their bits.
+// Whether two factors' exponents are in range and an addend is not huge, by their bits.
 fn operands_in_range(x: u64, y: u64, z: u64) -> bool
-    ensures { λ r. ⌜ (r ≡ true → Usual x y z) ⌝ }
+    ensures { λ r. ⌜ (r ≡ true → OperandsInRange x y z) ⌝ }
 {
     if exponent_in_range(x % 0x8000_0000_0000_0000 / 0x10_0000_0000_0000) {
         if exponent_in_range(y % 0x8000_0000_0000_0000 / 0x10_0000_0000_0000) {
@@ -445,7 +444,7 @@ fn operands_in_range(x: u64, y: u64, z: u64) -> bool
 // the two floats beside w does.
 fn rounds_alike(s: f64, w: f64) -> Attempt
     requires { ⌜ T (not (Ieee.isNan w)) ⌝ }
-    ensures { λ r. ⌜ (r .done ≡ true → Pinned s w (r .value)) ⌝ }
+    ensures { λ r. ⌜ (r .done ≡ true → RoundsAlike s w (r .value)) ⌝ }
 {
     let d = f64::from_bits(f64::to_bits(w) % 0x8000_0000_0000_0000) * EPSILON;
     let lo = w - d;
@@ -464,10 +463,7 @@ fn rounds_alike(s: f64, w: f64) -> Attempt
             }
         }
     }
-    Attempt {
-        done: false,
-        value: 0.0,
-    }
+    NO_RESULT
 }
 
 // `mul_add` in floats: the product and the sum with what rounding took off each, which are floats
@@ -492,10 +488,7 @@ fn mul_add_by_errors(a: f64, b: f64, c: f64) -> Attempt
         let t = (p - (s - v)) + (c - v);
         return rounds_alike(s, t + e);
     }
-    Attempt {
-        done: false,
-        value: 0.0,
-    }
+    NO_RESULT
 }
 
 // a * b + c, rounded once: IEEE 754's fusedMultiplyAdd.
@@ -521,7 +514,7 @@ pub fn mul_add(a: f64, b: f64, c: f64) -> f64
 
 // Whether `split` serves: a is from 2^-12 to 2, and p and q have at most 19 digits.
 fn can_split(a: f64, p: u32, q: u32) -> bool
-    ensures { λ r. ⌜ (r ≡ true → Splits a p q) ⌝ }
+    ensures { λ r. ⌜ (r ≡ true → CanSplit a p q) ⌝ }
 {
     if p >= 0x8_0000 {
         return false;
@@ -543,7 +536,7 @@ fn can_split(a: f64, p: u32, q: u32) -> bool
 // a * p - q for an a of two parts: without its 31 lowest digits, and these. Both products and the
 // difference are exact, so that only the last sum rounds.
 fn split(a: f64, p: u32, q: u32) -> f64
-    requires { ⌜ Splits a p q ⌝ }
+    requires { ⌜ CanSplit a p q ⌝ }
     ensures { λ r. ⌜ r ≡ fma binary64 a (float p) (negated (float q)) ⌝ }
 {
     let b = f64::to_bits(a);

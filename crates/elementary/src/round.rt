@@ -77,7 +77,7 @@ fn round_to_nearest(m: u64, x: u64, e: u64) -> f64
     f64::from_bits((k << 52) + q)
 }
 
-// How far x can be shifted left.
+// How far x can be shifted left in its word.
 fn leading_zeros(x: u64) -> u64
     requires { ⌜ 0 < x ⌝ }
     ensures { λ r. ⌜ LeadingZeros x r ⌝ }
@@ -156,7 +156,7 @@ pub(crate) struct Parts {
     pub(crate) e: u64,
 }
 
-// The digits of a subnormal value, shifted up to their place in a normal one.
+// The parts of a subnormal value: its digits are shifted up to their place in a normal one.
 fn subnormal_parts(neg: bool, t: u64) -> Parts
     requires { ⌜ t < 2 ^ 52 ⌝ }
     ensures { λ r. ⌜ r .neg ≡ neg ⌝ ∗ ⌜ SubnormalParts t (r .m) (r .e) ⌝ }

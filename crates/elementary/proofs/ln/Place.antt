@@ -75,8 +75,8 @@ module _ (y m₀ m : Float) (p₀ p : ℕ) (M : m₀ ≡ significandOf y) (P : p
   unfolding lnInner
   by-parts = rw (M, P)
 
-  pub halved : lt SQRT-2 m₀ ≡ true → m ≡ half ⊗ m₀ → p ≡ p₀ + 1 → lnAt m (exponentAt p) ≡ lnInner y
-  halved t e f = rw (e, f, add-one) (rw t at by-parts)
+  pub in-upper-part : lt SQRT-2 m₀ ≡ true → m ≡ half ⊗ m₀ → p ≡ p₀ + 1 → lnAt m (exponentAt p) ≡ lnInner y
+  in-upper-part t e f = rw (e, f, add-one) (rw t at by-parts)
 
-  pub kept : lt SQRT-2 m₀ ≡ false → m ≡ m₀ → p ≡ p₀ → lnAt m (exponentAt p) ≡ lnInner y
-  kept t e f = rw (e, f) (rw t at by-parts)
+  pub in-lower-part : lt SQRT-2 m₀ ≡ false → m ≡ m₀ → p ≡ p₀ → lnAt m (exponentAt p) ≡ lnInner y
+  in-lower-part t e f = rw (e, f) (rw t at by-parts)

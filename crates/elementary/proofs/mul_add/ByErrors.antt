@@ -13,7 +13,7 @@ use lib.Ieee.Exact.{HasValue}
 use lib.Ieee.Scale.{finite}
 use lib.Ieee.Bits.{ofBits-toBits}
 use Rattle.elementary.specs.MulAdd.{fma}
-use Rattle.elementary.specs.Inside.MulAdd.{Pinned, Usual}
+use Rattle.elementary.specs.Inside.MulAdd.{RoundsAlike, OperandsInRange}
 use Rattle.elementary.proofs.Laws.Bits.{no-nan-pattern}
 use Rattle.elementary.proofs.Laws.Leaf.{same-test}
 use Rattle.elementary.proofs.Laws.Values.{recast, value-low, value-mid}
@@ -74,7 +74,7 @@ module _ (x : Float) (F : T (fits binary64 x)) where
   as-units : T (finite x) → AsUnits x 18
   as-units f = by-field 18 (finite-field x F f) (omega (arith, finite-field x F f))
 
--- ---- a middling float and its leading digits
+-- ---- a float whose exponent is in range, and its leading digits
 module _ (x : Float) (F : T (fits binary64 x)) (lo : 768 ≤ toBits binary64 x % 2 ^ 63 / 2 ^ 52) (hi : toBits binary64 x % 2 ^ 63 / 2 ^ 52 < 1280) where
   abbrev bits : ℕ
   bits = toBits binary64 x
@@ -249,7 +249,7 @@ module _ (n v : Bool) {p e c : Float} (x y k : ℕ) (P : Rel n p y 0 1) (Y : Sho
       go (inf _) u m p = absurd p
       go (fin _ _ _) u m p = tt
 
-  module _ (r f : Float) (R : Pinned s w r) (G : NearPair f (cond n 0 x + cond v 0 k) (cond n x 0 + cond v k 0)) where
+  module _ (r f : Float) (R : RoundsAlike s w r) (G : NearPair f (cond n 0 x + cond v 0 k) (cond n x 0 + cond v k 0)) where
     r-fits : T (fits binary64 r)
     r-fits = subst (λ (z : Float). T (fits binary64 z)) (sym (R .low)) (add-fits binary64 s (R .lo))
 
@@ -262,8 +262,8 @@ module _ (n v : Bool) {p e c : Float} (x y k : ℕ) (P : Rel n p y 0 1) (Y : Sho
     H : AsUnits (R .hi) 18
     H = as-units (R .hi) (R .hi-fits) (finite-right s (R .hi) (finite-equal r (add binary64 s (R .hi)) (R .high) fin-r))
 
-    pub pinned-is : r ≡ f
-    pinned-is =
+    pub rounds-alike-is : r ≡ f
+    rounds-alike-is =
         squeezed (subst (λ (z : Float). NearPair z (q + cond (L .sign) 0 (L .size)) (q' + cond (L .sign) (L .size) 0)) (sym (R .low)) (add-rounds s-is (as-units-is L))) (add-rounds s-is (as-units-is H)) G
         (low n (cond (L .sign) 0 (L .size)) (cond (L .sign) (L .size) 0) (cond v 0 k) (cond v k 0) q q' (from-below (a + q' + cond n y x) (b' + q + cond n x y) (as-units-is L) (as-units-short L) w-is (R .above)))
         (high n (cond (H .sign) 0 (H .size)) (cond (H .sign) (H .size) 0) (cond v 0 k) (cond v k 0) q q' (from-above (a + q' + cond n y x) (b' + q + cond n x y) (as-units-is H) (as-units-short H) w-is (R .under)))
@@ -278,7 +278,7 @@ module _ (n v : Bool) {p e c : Float} (x y k : ℕ) (P : Rel n p y 0 1) (Y : Sho
         high false u u' c c' q q' h = omega arith
 
 -- ---- the operands
-module _ (x y z : Float) (FX : T (fits binary64 x)) (FY : T (fits binary64 y)) (FZ : T (fits binary64 z)) (O : Usual (toBits binary64 x) (toBits binary64 y) (toBits binary64 z)) where
+module _ (x y z : Float) (FX : T (fits binary64 x)) (FY : T (fits binary64 y)) (FZ : T (fits binary64 z)) (O : OperandsInRange (toBits binary64 x) (toBits binary64 y) (toBits binary64 z)) where
   abbrev xh : ℕ
   xh = h x FX (O .first-low) (O .first-high)
 
@@ -404,5 +404,5 @@ module _ (x y z : Float) (FX : T (fits binary64 x)) (FY : T (fits binary64 y)) (
       second : (k u : ℕ) → k * (1 * u) * u ≡ k * (1 * (u * u))
       second k u = simp (mul-assoc, mul-comm, mul-left-comm, mul-one, one-mul)
 
-  pub by-errors-is : (r : Float) → Pinned total (add binary64 back e) r → r ≡ fma binary64 x y z
-  by-errors-is r R = pinned-is v (Z .sign) prod (near prod) (Z .size) p-is (near-short prod) e-is z-is (Z .short) r (fma binary64 x y z) R fma-rounds
+  pub by-errors-is : (r : Float) → RoundsAlike total (add binary64 back e) r → r ≡ fma binary64 x y z
+  by-errors-is r R = rounds-alike-is v (Z .sign) prod (near prod) (Z .size) p-is (near-short prod) e-is z-is (Z .short) r (fma binary64 x y z) R fma-rounds

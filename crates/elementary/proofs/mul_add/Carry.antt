@@ -177,13 +177,13 @@ right-far h l d u D L e =
     zero-high u = omega arith
 
 -- ---- what is dropped
-pub lost-near : (h l d r : ℕ) → d < 64 → r ≡ l % 2 ^ d → SameZero r (wide h l % 2 ^ d)
-lost-near h l d r D e =
+pub dropped-near : (h l d r : ℕ) → d < 64 → r ≡ l % 2 ^ d → SameZero r (wide h l % 2 ^ d)
+dropped-near h l d r D e =
     let f : wide h l % 2 ^ d ≡ r = wide-mod h l (64 - d) d (omega arith) ∙ sym e in
     record { to = λ z. f ∙ z; from = λ z. sym f ∙ z }
 
-pub lost-far : (h l d r : ℕ) → 64 ≤ d → l < 2 ^ 64 → Any l (h % 2 ^ (d - 64)) r → SameZero r (wide h l % 2 ^ d)
-lost-far h l d r D L A =
+pub dropped-far : (h l d r : ℕ) → 64 ≤ d → l < 2 ^ 64 → Any l (h % 2 ^ (d - 64)) r → SameZero r (wide h l % 2 ^ d)
+dropped-far h l d r D L A =
     let f : wide h l % 2 ^ d ≡ h % 2 ^ (d - 64) * 2 ^ 64 + l =
     ap (λ (t : ℕ). wide h l % t) (ap (λ (t : ℕ). 2 ^ t) (omega arith) ∙ pow-add 2 64 (d - 64) ∙ mul-comm (2 ^ 64) (2 ^ (d - 64)))
     ∙ mod-mul (wide h l) (pow-pos (d - 64)) (pow-pos 64)

@@ -9,7 +9,7 @@ use lib.Ieee.Positive.{positive-finite}
 use Rattle.elementary.specs.Inside.Round.{Digits}
 use Rattle.elementary.specs.Ln.{lnAt, placeOf, significandOf}
 use Rattle.elementary.proofs.ln.Ends.{digits-of}
-use Rattle.elementary.proofs.ln.Place.{place-is, significand-is, halved, kept}
+use Rattle.elementary.proofs.ln.Place.{place-is, significand-is, in-upper-part, in-lower-part}
 use borrow.Author.Needs.{needs}
 use Rattle.elementary.proofs.ln.ln_inner.Statement.{statement}
 use Rattle.elementary.proofs.ln.ln_inner.Tie as tie
@@ -63,8 +63,8 @@ returns c =
     c .ln-near-one .ensures
     ∙ ap (lnAt (j .if1 .m)) (c .before .exponent .ensures)
     ∙ ⊎-elim
-    (λ w. halved (d .before .args .y) (a .float-of-fields .result) (j .if1 .m) (d .parts-of .result .e - 12) (j .if1 .place) (significand a) (place d) (w .0 .taken) (w .1) (w .2))
-    (λ w. kept (d .before .args .y) (a .float-of-fields .result) (j .if1 .m) (d .parts-of .result .e - 12) (j .if1 .place) (significand a) (place d) (w .0 .left) (w .1) (w .2))
+    (λ w. in-upper-part (d .before .args .y) (a .float-of-fields .result) (j .if1 .m) (d .parts-of .result .e - 12) (j .if1 .place) (significand a) (place d) (w .0 .taken) (w .1) (w .2))
+    (λ w. in-lower-part (d .before .args .y) (a .float-of-fields .result) (j .if1 .m) (d .parts-of .result .e - 12) (j .if1 .place) (significand a) (place d) (w .0 .left) (w .1) (w .2))
     (j .if1 .came)
 
 pub ln-inner-spec : {M : Type 1} → statement M

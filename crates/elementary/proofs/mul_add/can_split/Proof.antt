@@ -1,4 +1,4 @@
--- `mul_add::can_split` meets its contract: each test is a field of `Splits`. Assumes nothing.
+-- `mul_add::can_split` meets its contract: each test is a field of `CanSplit`. Assumes nothing.
 use mathlib.Core.Bool.{false≢true}
 use lib.Dec.{ltb→lt}
 use lib.Ieee.{binary64, toBits}

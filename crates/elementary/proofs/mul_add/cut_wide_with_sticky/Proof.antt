@@ -3,7 +3,7 @@ use mathlib.Core.Path.{_≡_, sym, _∙_}
 use Prim.Native.Nat.{ℕ, _+_, _*_, _/_, _%_, _^_, _<_}
 use native.Mathlib.Omega.{arith}
 use Rattle.elementary.specs.Inside.Round.{SameZero, wide}
-use Rattle.elementary.specs.Inside.MulAdd.{Marked}
+use Rattle.elementary.specs.Inside.MulAdd.{CutWithSticky}
 use borrow.Author.Needs.{needs}
 use Rattle.elementary.proofs.mul_add.cut_wide_with_sticky.Statement.{statement}
 use Rattle.elementary.proofs.mul_add.cut_wide_with_sticky.Tie as tie
@@ -23,7 +23,7 @@ whole hi lo h = omega arith
 rest : (hi lo : ℕ) → lo % 2 ^ 55 ≡ wide hi lo % 2 ^ 55
 rest hi lo = omega arith
 
-law : (hi lo x : ℕ) → hi < 2 ^ 42 → lo < 2 ^ 64 → x < 2 → SameZero x (lo % 2 ^ 55) → Marked 55 (wide hi lo) (part hi lo * 2 + x)
+law : (hi lo x : ℕ) → hi < 2 ^ 42 → lo < 2 ^ 64 → x < 2 → SameZero x (lo % 2 ^ 55) → CutWithSticky 55 (wide hi lo) (part hi lo * 2 + x)
 law hi lo x h l k S = record {
   whole = half (part hi lo) k ∙ whole hi lo h;
   to = λ z. sym (rest hi lo) ∙ S .to (last (part hi lo) z);

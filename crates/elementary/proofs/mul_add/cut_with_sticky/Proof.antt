@@ -3,7 +3,7 @@ use mathlib.Core.Path.{_≡_}
 use Prim.Native.Nat.{ℕ, _+_, _*_, _/_, _%_, _^_, _<_}
 use native.Mathlib.Omega.{arith}
 use Rattle.elementary.specs.Inside.Round.{SameZero}
-use Rattle.elementary.specs.Inside.MulAdd.{Marked}
+use Rattle.elementary.specs.Inside.MulAdd.{CutWithSticky}
 use borrow.Author.Needs.{needs}
 use Rattle.elementary.proofs.mul_add.cut_with_sticky.Statement.{statement}
 use Rattle.elementary.proofs.mul_add.cut_with_sticky.Tie as tie
@@ -11,7 +11,7 @@ use Rattle.elementary.proofs.mul_add.cut_with_sticky.Tie as tie
 below : (v x : ℕ) → v < 2 ^ 64 → x < 2 → v / 8192 * 2 + x < 2 ^ 52
 below v x h k = omega arith
 
-law : (v x : ℕ) → x < 2 → SameZero x (v % 8192) → Marked 13 v (v / 8192 * 2 + x)
+law : (v x : ℕ) → x < 2 → SameZero x (v % 8192) → CutWithSticky 13 v (v / 8192 * 2 + x)
 law v x k S = record { whole = omega arith; to = λ z. S .to (omega arith); from = λ z. even (S .from z) }
   where
     even : x ≡ 0 → (v / 8192 * 2 + x) % 2 ≡ 0

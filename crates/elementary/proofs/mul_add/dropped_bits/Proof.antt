@@ -17,10 +17,10 @@ any-requires : tie.Need-any-requires
 any-requires c κs = search needs
 
 returns : tie.Need-returns
-returns c = carry.lost-near (c .before .before .args .vh) (c .before .before .args .vl) (c .before .before .args .d) (c .low-bits .result) (c .before .if1 .taken) (c .low-bits .ensures)
+returns c = carry.dropped-near (c .before .before .args .vh) (c .before .before .args .vl) (c .before .before .args .d) (c .low-bits .result) (c .before .if1 .taken) (c .low-bits .ensures)
 
 returns-2 : tie.Need-returns-2
-returns-2 c = carry.lost-far (c .before .before .before .args .vh) (c .before .before .before .args .vl) (c .before .before .before .args .d) (c .any .result) (c .before .before .if1 .left) (c .before .before .before .fits .vl .fits) (subst (λ (z : ℕ). Any (c .before .before .before .args .vl) z (c .any .result)) (c .before .low-bits2 .ensures) (c .any .ensures))
+returns-2 c = carry.dropped-far (c .before .before .before .args .vh) (c .before .before .before .args .vl) (c .before .before .before .args .d) (c .any .result) (c .before .before .if1 .left) (c .before .before .before .fits .vl .fits) (subst (λ (z : ℕ). Any (c .before .before .before .args .vl) z (c .any .result)) (c .before .low-bits2 .ensures) (c .any .ensures))
 
 pub dropped-bits-spec : {M : Type 1} → statement M
 dropped-bits-spec = tie.close (tie.spec low-bits-requires low-bits-requires-2 any-requires returns returns-2)

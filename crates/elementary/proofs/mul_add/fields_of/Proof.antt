@@ -13,7 +13,7 @@ add-t5 : tie.Need-add-t5
 add-t5 c = search needs
 
 returns : tie.Need-returns
-returns c = machine.opened-is (c .args .x) (subst T (sym (c .good .0 .1)) tt)
+returns c = machine.fields-of-is (c .args .x) (subst T (sym (c .good .0 .1)) tt)
 
 pub fields-of-spec : {M : Type 1} → statement M
 fields-of-spec = tie.close (tie.spec float-to-bits-b add-t5 returns)

@@ -7,7 +7,7 @@ use lib.Dec.{lit≤}
 use lib.Pow.{pow-pos, shl-lt}
 use lib.Ieee.{binary64, sum}
 use Rattle.elementary.specs.Inside.Round.{wide}
-use Rattle.elementary.specs.Inside.MulAdd.{Placed}
+use Rattle.elementary.specs.Inside.MulAdd.{ProductDigits}
 use Rattle.elementary.proofs.mul_add.Carry as carry
 use borrow.Author.Needs.{needs}
 use Rattle.elementary.proofs.mul_add.mul_add_nonzero.Statement.{statement}
@@ -16,7 +16,7 @@ use Rattle.elementary.proofs.mul_add.mul_add_nonzero.Tie as tie
 two-words : (c : ℕ) → wide (c / 2 ^ 12) (c * 2 ^ 52 % 2 ^ 64) ≡ c * 2 ^ 52
 two-words c = ap (λ (z : ℕ). wide z (c * 2 ^ 52 % 2 ^ 64)) (sym (mul-div-mul-right c (2 ^ 12) (pow-pos 52))) ∙ div-add-mod' (c * 2 ^ 52) (2 ^ 64)
 
-subst' : (hi lo v : ℕ) → wide hi lo ≡ v → 2 ^ 104 ≤ v → v < 2 ^ 106 → Placed hi lo
+subst' : (hi lo v : ℕ) → wide hi lo ≡ v → 2 ^ 104 ≤ v → v < 2 ^ 106 → ProductDigits hi lo
 subst' hi lo v e l h = record { low = subst (λ (z : ℕ). 2 ^ 104 ≤ z) (sym e) l; high = subst (λ (z : ℕ). z < 2 ^ 106) (sym e) h }
 
 low : (a b : ℕ) → 64 ≤ a + b + 128

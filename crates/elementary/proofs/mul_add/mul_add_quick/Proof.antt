@@ -7,7 +7,7 @@ use native.Mathlib.Omega.{arith}
 use lib.Ieee.{binary64, unlike, sum}
 use Rattle.elementary.specs.MulAdd.{fma}
 use Rattle.elementary.specs.Inside.Round.{wide, PartsOf}
-use Rattle.elementary.specs.Inside.MulAdd.{Placed, Middling, Joined}
+use Rattle.elementary.specs.Inside.MulAdd.{ProductDigits, ExponentSumInRange, QuickOperands}
 use Rattle.elementary.proofs.mul_add.Carry as carry
 use Rattle.elementary.proofs.mul_add.Machine as machine
 use borrow.Author.Needs.{needs}
@@ -32,8 +32,8 @@ sum-low e f h k = omega arith
 sum-high : (e f : ℕ) → e < 1280 → f < 1280 → e + f < 2559
 sum-high e f h k = omega arith
 
-placed : (hi lo v : ℕ) → wide hi lo ≡ v → 2 ^ 104 ≤ v → v < 2 ^ 106 → Placed hi lo
-placed hi lo v e l h = record { low = subst (λ (z : ℕ). 2 ^ 104 ≤ z) (sym e) l; high = subst (λ (z : ℕ). z < 2 ^ 106) (sym e) h }
+product-digits : (hi lo v : ℕ) → wide hi lo ≡ v → 2 ^ 104 ≤ v → v < 2 ^ 106 → ProductDigits hi lo
+product-digits hi lo v e l h = record { low = subst (λ (z : ℕ). 2 ^ 104 ≤ z) (sym e) l; high = subst (λ (z : ℕ). z < 2 ^ 106) (sym e) h }
 
 -- ---- what the test says, and the operands
 module _ (d : tie.After-product) where
@@ -73,7 +73,7 @@ module _ (d : tie.After-product) where
   b-high : eb < 1280
   b-high = d .before .before .before .before .before .before .before .exponent-in-range2 .ensures .1 (d .before .before .before .before .before .before .if2 .taken)
 
-  room : Middling (ea + eb)
+  room : ExponentSumInRange (ea + eb)
   room = record { low = sum-low ea eb a-low b-low; high = sum-high ea eb a-high b-high }
 
   a-is : PartsOf (start .args .a) (p .fields-of .result .neg) (p .fields-of .result .m) (ea + 63)
@@ -85,9 +85,9 @@ module _ (d : tie.After-product) where
   c-is : ec < 2047 → PartsOf (start .args .c) (r .fields-of3 .result .neg) (r .fields-of3 .result .m) (ec + 63)
   c-is h = r .fields-of3 .ensures .value (some-addend (ea + eb) ec (room .low) order) h
 
-  joined : Joined (d .product .result .hi) (d .product .result .lo) (r .fields-of3 .result .m) (ec + 1075 - (ea + eb)) (ea + eb)
-  joined = record {
-    large = placed (d .product .result .hi) (d .product .result .lo) (p .fields-of .result .m * q .fields-of2 .result .m) (d .product .ensures) (mul-le-mul (p .fields-of .ensures .lead) (q .fields-of2 .ensures .lead)) (carry.mul-lt 53 53 (p .fields-of .result .m) (q .fields-of2 .result .m) (p .fields-of .ensures .top) (q .fields-of2 .ensures .top));
+  operands : QuickOperands (d .product .result .hi) (d .product .result .lo) (r .fields-of3 .result .m) (ec + 1075 - (ea + eb)) (ea + eb)
+  operands = record {
+    large = product-digits (d .product .result .hi) (d .product .result .lo) (p .fields-of .result .m * q .fields-of2 .result .m) (d .product .ensures) (mul-le-mul (p .fields-of .ensures .lead) (q .fields-of2 .ensures .lead)) (carry.mul-lt 53 53 (p .fields-of .result .m) (q .fields-of2 .result .m) (p .fields-of .ensures .top) (q .fields-of2 .ensures .top));
     lead = r .fields-of3 .ensures .lead;
     top = r .fields-of3 .ensures .top;
     room = room;
@@ -128,7 +128,7 @@ product-requires c κs = search needs
 quick-near-requires : tie.Need-quick-near-requires
 quick-near-requires c κs =
     let d = c .before .before .before in
-    (joined d, (omega arith))
+    (operands d, (omega arith))
 
 returns : tie.Need-returns
 returns c e =
@@ -138,7 +138,7 @@ returns c e =
 quick-far-requires : tie.Need-quick-far-requires
 quick-far-requires c κs =
     let d = c .before .before .before .before .before in
-    (joined d, (c .before .before .if4 .left, machine.addend-value (ea d + eb d) (ec d) (order d) (start d .args .c) (r d .fields-of3 .result .neg) (r d .fields-of3 .result .m) (c-is d (c .if5 .taken))))
+    (operands d, (c .before .before .if4 .left, machine.addend-value (ea d + eb d) (ec d) (order d) (start d .args .c) (r d .fields-of3 .result .neg) (r d .fields-of3 .result .m) (c-is d (c .if5 .taken))))
 
 returns-2 : tie.Need-returns-2
 returns-2 c e =

@@ -1,4 +1,4 @@
--- `mul_add::operands_in_range` meets its contract: each test is a field of `Usual`. Assumes nothing.
+-- `mul_add::operands_in_range` meets its contract: each test is a field of `OperandsInRange`. Assumes nothing.
 use mathlib.Core.Bool.{false≢true}
 use lib.Dec.{ltb→lt}
 use Prim.Native.Nat.{_%_, _^_}

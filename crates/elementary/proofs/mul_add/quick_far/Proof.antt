@@ -1,4 +1,4 @@
--- `mul_add::quick_far` meets its contract: the difference is exact, and beside the addend the product counts only by its marked digits (Machine). Assumes nothing.
+-- `mul_add::quick_far` meets its contract: the difference is exact, and beside the addend the product counts only by its leading digits and the sticky one (Machine). Assumes nothing.
 use Prim.Native.Nat.{ℕ, _^_, _<_}
 use native.Mathlib.Omega.{arith}
 use Rattle.elementary.specs.Inside.Round.{wide}
@@ -29,7 +29,7 @@ returns : tie.Need-returns
 returns c =
     let a = c .before .before .before in
     let m = c .before .before .cut-wide-with-sticky in
-    machine.beyond-is (a .args .c) (c .before .float-of-fields .result) (c .float-of-fields2 .result) (a .args .n) (a .args .cn) (wide (a .args .ph) (a .args .pl)) (a .args .m) (a .args .d) (a .args .k) (m .result)
+    machine.quick-far-is (a .args .c) (c .before .float-of-fields .result) (c .float-of-fields2 .result) (a .args .n) (a .args .cn) (wide (a .args .ph) (a .args .pl)) (a .args .m) (a .args .d) (a .args .k) (m .result)
     (a .pre .0 .room) (m .ensures .1) (m .ensures .0) (a .pre .1 .0) (a .pre .0 .lead) (a .pre .0 .large .low) (a .pre .0 .large .high) (c .before .float-of-fields .ensures) (c .float-of-fields2 .ensures) (a .pre .1 .1)
 
 pub quick-far-spec : {M : Type 1} → statement M

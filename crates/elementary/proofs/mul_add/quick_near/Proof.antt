@@ -7,7 +7,7 @@ use native.Mathlib.Omega.{arith}
 use lib.Dec.{lit≤}
 use lib.Pow.{pow-mono, shl-lt, add-lt-pow}
 use Rattle.elementary.specs.Inside.Round.{wide}
-use Rattle.elementary.specs.Inside.MulAdd.{Turned}
+use Rattle.elementary.specs.Inside.MulAdd.{SignedOffset}
 use Rattle.elementary.proofs.mul_add.Machine as machine
 use borrow.Author.Needs.{needs}
 use Rattle.elementary.proofs.mul_add.quick_near.Statement.{statement}
@@ -42,12 +42,12 @@ still-fits : (xl o : ℕ) → xl < 2 ^ 64 → xl % 2 ≡ 0 → o < 2 → xl + o 
 still-fits xl o h e k = omega arith
 
 -- ---- the sum
-turned-lt : (b : Bool) (p y : ℕ) → Turned b p y → p < 2 ^ 106 → y < 2 ^ 126
-turned-lt true p y t h = less (t .turn refl)
+offset-lt : (b : Bool) (p y : ℕ) → SignedOffset b p y → p < 2 ^ 106 → y < 2 ^ 126
+offset-lt true p y t h = less (t .minus refl)
   where
     less : y + p + 1 ≡ 2 ^ 115 → y < 2 ^ 126
     less e = omega arith
-turned-lt false p y t h = less (t .plain refl)
+offset-lt false p y t h = less (t .plus refl)
   where
     less : y ≡ 2 ^ 115 + p → y < 2 ^ 126
     less e = omega arith
@@ -94,10 +94,10 @@ module _ (c : tie.After-add-wide) where
   v-is = c .add-wide .ensures ∙ ap (λ (z : ℕ). y + z) (sym (add-assoc (x .shift-left-wide .result .hi * 2 ^ 64) (x .shift-left-wide .result .lo) o) ∙ ap (λ (z : ℕ). z + o) (addend-is x))
 
   same : Bool·beq (a .args .n) (a .args .cn) ≡ true → v ≡ 2 ^ 115 + (t + p)
-  same e = same-total p y o t v (c .before .before .before .signed-offset .ensures .plain (ap not e)) (c .before .before .one-if .ensures ∙ ap (λ (b : Bool). cond (not b) 1 0) e) v-is
+  same e = same-total p y o t v (c .before .before .before .signed-offset .ensures .plus (ap not e)) (c .before .before .one-if .ensures ∙ ap (λ (b : Bool). cond (not b) 1 0) e) v-is
 
   other : Bool·beq (a .args .n) (a .args .cn) ≡ false → v + p ≡ 2 ^ 115 + t
-  other e = other-total p y o t v (c .before .before .before .signed-offset .ensures .turn (ap not e)) (c .before .before .one-if .ensures ∙ ap (λ (b : Bool). cond (not b) 1 0) e) v-is
+  other e = other-total p y o t v (c .before .before .before .signed-offset .ensures .minus (ap not e)) (c .before .before .one-if .ensures ∙ ap (λ (b : Bool). cond (not b) 1 0) e) v-is
 
 shift-left-wide-requires : tie.Need-shift-left-wide-requires
 shift-left-wide-requires c κs = (close (c .args .d) (c .pre .1 .1), subst (λ (z : ℕ). z * 2 ^ c .args .d < 2 ^ 128) (sym (omega arith)) (lt-of-lt-of-le (addend-lt (c .args .m) (c .args .d) (c .pre .0 .top) (c .pre .1 .1)) (lit≤ tt)))
@@ -121,7 +121,7 @@ add-wide-requires c κs =
     let o = c .before .one-if .result in
     lt-of-lt-of-le
     (add-lt-pow 126
-    (turned-lt (not (Bool·beq (a .args .n) (a .args .cn))) (wide (a .args .ph) (a .args .pl)) (wide (c .before .before .signed-offset .result .hi) (c .before .before .signed-offset .result .lo)) (c .before .before .signed-offset .ensures) (a .pre .0 .large .high))
+    (offset-lt (not (Bool·beq (a .args .n) (a .args .cn))) (wide (a .args .ph) (a .args .pl)) (wide (c .before .before .signed-offset .result .hi) (c .before .before .signed-offset .result .lo)) (c .before .before .signed-offset .ensures) (a .pre .0 .large .high))
     (subst (λ (z : ℕ). z < 2 ^ 126) (sym (sym (add-assoc (x .shift-left-wide .result .hi * 2 ^ 64) (x .shift-left-wide .result .lo) o) ∙ ap (λ (z : ℕ). z + o) (addend-is x)))
     (more-lt (a .args .m * 2 ^ a .args .d) o (small x) (subst (λ (z : ℕ). z < 2) (sym (c .before .one-if .ensures)) (one-lt (not (Bool·beq (a .args .n) (a .args .cn))))))))
     (lit≤ tt)

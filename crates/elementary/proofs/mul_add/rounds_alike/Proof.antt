@@ -1,4 +1,4 @@
--- `mul_add::rounds_alike` meets its contract: each test is a field of `Pinned`. Assumes nothing.
+-- `mul_add::rounds_alike` meets its contract: each test is a field of `RoundsAlike`. Assumes nothing.
 use mathlib.Core.Path.{refl, sym, subst}
 use mathlib.Core.Bool.{false≢true}
 use Prim.Native.Nat.{_%_, _^_}
