@@ -148,20 +148,13 @@ pub fn erfcx_above_threshold(y: f64) -> f64
     }
 }
 
-// erfc's far arm.
-fn far_arm(set: RuleSet, factor: f64) -> f64
-    ensures { λ r. ⌜ r ≡ cond (set .«far_factor») (+0 ⊗ factor) +0 ⌝ }
-{
-    if set.far_factor { 0.0 * factor } else { 0.0 }
-}
-
 // erfc of |x| above the threshold.
 fn erfc_abs(set: RuleSet, y: f64, factor: f64) -> f64
     requires { ⌜ factor ≡ smoothenedExponentialOfNegativeSquare y ⌝ }
     ensures { λ r. ⌜ r ≡ erfcAbs set y ⌝ }
 {
     if y >= XBIG {
-        far_arm(set, factor)
+        if set.far_factor { 0.0 * factor } else { 0.0 }
     } else {
         erfcx_above_threshold(y) * factor
     }

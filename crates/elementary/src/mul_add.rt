@@ -1,6 +1,6 @@
-// IEEE 754's fusedMultiplyAdd, a × b + c rounded once, in three ways: `mul_add_by_errors` is all in
-// floats, `mul_add_quick` finds two floats whose exact sum rounds alike and lets the machine add them,
-// `mul_add_general` works in numbers of two words. For a whole b and a whole −c `mul_add_whole` has a
+// IEEE 754's fusedMultiplyAdd, a × b + c rounded once, in three ways: `fma_by_errors` is all in
+// floats, `fma_quick` finds two floats whose exact sum rounds alike and lets the machine add them,
+// `fma_general` works in numbers of two words. For a whole b and a whole −c `mul_add_whole` has a
 // fourth, with no branch on digits.
 use crate::limits::EPSILON;
 use crate::round::Parts;
@@ -213,7 +213,7 @@ fn sum_wide(an: bool, ah: u64, al: u64, ae: u64, bn: bool, bh: u64, bl: u64, be:
 }
 
 // The sum of a product and an addend, none of them 0, rounded once.
-fn mul_add_nonzero(n: bool, am: u64, ae: u64, bm: u64, be: u64, cn: bool, cm: u64, ce: u64) -> f64
+fn fma_nonzero(n: bool, am: u64, ae: u64, bm: u64, be: u64, cn: bool, cm: u64, ce: u64) -> f64
     requires { ⌜ Digits am ae ⌝ ∗ ⌜ Digits bm be ⌝ ∗ ⌜ Digits cm ce ⌝ }
     ensures { λ r. ⌜ r ≡ sum binary64 n (am * bm * 2 ^ (ae + be + 128)) cn (cm * 2 ^ 52 * 2 ^ (ce + 1214)) (2 ^ 2404) ⌝ }
 {
@@ -231,7 +231,7 @@ fn mul_add_nonzero(n: bool, am: u64, ae: u64, bm: u64, be: u64, cn: bool, cm: u6
 }
 
 // `mul_add` for finite operands. With a zero among them the plain operations round once or not at all.
-fn mul_add_finite(a: f64, b: f64, c: f64) -> f64
+fn fma_finite(a: f64, b: f64, c: f64) -> f64
     requires { ⌜ T (Scale.finite a) ⌝ ∗ ⌜ T (Scale.finite b) ⌝ ∗ ⌜ T (Scale.finite c) ⌝ }
     ensures { λ r. ⌜ r ≡ fma binary64 a b c ⌝ }
 {
@@ -247,20 +247,16 @@ fn mul_add_finite(a: f64, b: f64, c: f64) -> f64
     if r.m == 0 {
         return a * b;
     }
-    mul_add_nonzero(p.neg != q.neg, p.m, p.e, q.m, q.e, r.neg, r.m, r.e)
+    fma_nonzero(p.neg != q.neg, p.m, p.e, q.m, q.e, r.neg, r.m, r.e)
 }
 
 // `mul_add` for any operands. Only where a finite product meets an infinite addend would the plain
 // operations go wrong: the product may overflow.
-fn mul_add_general(a: f64, b: f64, c: f64) -> f64
+fn fma_general(a: f64, b: f64, c: f64) -> f64
     ensures { λ r. ⌜ r ≡ fma binary64 a b c ⌝ }
 {
     if both(is_finite(a), is_finite(b)) {
-        if is_finite(c) {
-            mul_add_finite(a, b, c)
-        } else {
-            c
-        }
+        if is_finite(c) { fma_finite(a, b, c) } else { c }
     } else {
         a * b + c
     }
@@ -397,7 +393,7 @@ fn exponent_in_range(f: u64) -> bool
 }
 
 // `mul_add` for factors in range and an addend that is not much smaller than the product.
-fn mul_add_quick(a: f64, b: f64, c: f64) -> Attempt
+fn fma_quick(a: f64, b: f64, c: f64) -> Attempt
     requires { ⌜ T (not (Ieee.isNan a)) ⌝ ∗ ⌜ T (not (Ieee.isNan b)) ⌝ ∗ ⌜ T (not (Ieee.isNan c)) ⌝ }
     ensures { λ r. ⌜ (r .done ≡ true → r .value ≡ fma binary64 a b c) ⌝ }
 {
@@ -469,7 +465,7 @@ fn rounds_alike(s: f64, w: f64) -> Attempt
 // `mul_add` in floats: the product and the sum with what rounding took off each, which are floats
 // (Dekker, Knuth), and one rounding of all. The five products are exact; a's 27 lower digits are cut
 // once more, since with b's 27 they would make 54.
-fn mul_add_by_errors(a: f64, b: f64, c: f64) -> Attempt
+fn fma_by_errors(a: f64, b: f64, c: f64) -> Attempt
     requires { ⌜ T (not (Ieee.isNan a)) ⌝ ∗ ⌜ T (not (Ieee.isNan b)) ⌝ ∗ ⌜ T (not (Ieee.isNan c)) ⌝ }
     ensures { λ r. ⌜ (r .done ≡ true → r .value ≡ fma binary64 a b c) ⌝ }
 {
@@ -497,18 +493,18 @@ pub fn mul_add(a: f64, b: f64, c: f64) -> f64
 {
     let t = a * b + c;
     if t == t {
-        let f = mul_add_by_errors(a, b, c);
+        let f = fma_by_errors(a, b, c);
         if f.done {
             return f.value;
         }
-        let q = mul_add_quick(a, b, c);
+        let q = fma_quick(a, b, c);
         if q.done {
             q.value
         } else {
-            mul_add_general(a, b, c)
+            fma_general(a, b, c)
         }
     } else {
-        mul_add_general(a, b, c)
+        fma_general(a, b, c)
     }
 }
 

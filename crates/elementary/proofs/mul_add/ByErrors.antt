@@ -1,4 +1,4 @@
--- `mul_add_by_errors`: product and sum with their rounding errors, and one rounding of the whole. Assumes nothing.
+-- `fma_by_errors`: product and sum with their rounding errors, and one rounding of the whole. Assumes nothing.
 use mathlib.Core.Path.{_≡_, refl, sym, ap, _∙_, subst}
 use mathlib.Core.Logic.{inl, inr}
 use mathlib.Core.Bool.{Bool, true, false, not, cond, false≢true}

@@ -268,7 +268,7 @@ operands x y z h =
     let p : T (not (isNan (mul binary64 x y))) = add-l (mul binary64 x y) z t in
     (mul-l x y p, (mul-r x y p, add-r (mul binary64 x y) z t))
 
--- ---- `mul_add_quick`
+-- ---- `fma_quick`
 module _ (f h : ℕ) (l : f < h + 1075) where
   abbrev spot : ℕ
   spot = f + 254 + (h + 1075 - f)

@@ -1,4 +1,4 @@
--- `mul_add::mul_add_finite` meets its contract: the three values give `fma` as one sum of fractions; a zero by the plain operations (Exactly). Assumes nothing.
+-- `mul_add::fma_finite` meets its contract: the three values give `fma` as one sum of fractions; a zero by the plain operations (Exactly). Assumes nothing.
 use mathlib.Core.Path.{_≡_, sym, ap, _∙_}
 use Prim.Native.Nat.{ℕ, _+_, _*_, _^_, _<_}
 use native.Mathlib.Nat.{mul-pos, mul-comm, zero-mul}
@@ -7,8 +7,8 @@ use lib.Pow.{pow-pos}
 use lib.Ieee.{binary64, unlike, sum, up}
 use Rattle.elementary.proofs.mul_add.Exactly as exactly
 use borrow.Author.Needs.{needs}
-use Rattle.elementary.proofs.mul_add.mul_add_finite.Statement.{statement}
-use Rattle.elementary.proofs.mul_add.mul_add_finite.Tie as tie
+use Rattle.elementary.proofs.mul_add.fma_finite.Statement.{statement}
+use Rattle.elementary.proofs.mul_add.fma_finite.Tie as tie
 
 -- the three operands taken apart
 abbrev start : tie.After-parts-of3 → tie.Start
@@ -54,8 +54,8 @@ returns-3 c =
     (exactly.size-pos (a .args .b) (d .before .parts-of2 .result .neg) (d .before .parts-of2 .result .m * 2 ^ d .before .parts-of2 .result .e) (2 ^ 1138) (d .before .parts-of2 .ensures .value) (mul-pos (some (d .before .parts-of2 .result .m) (c .before .before .if2 .left)) (pow-pos (d .before .parts-of2 .result .e))) t n g u))
     (λ v o g q. exactly.size-zero (a .args .c) (d .parts-of3 .result .neg) (d .parts-of3 .result .m * 2 ^ d .parts-of3 .result .e) (2 ^ 1138) (d .parts-of3 .ensures .value) (pow-pos 1138) (no-size (d .parts-of3 .result .m) (d .parts-of3 .result .e) (c .if3 .taken)) v o g q)
 
-mul-add-nonzero-requires : tie.Need-mul-add-nonzero-requires
-mul-add-nonzero-requires c κs =
+fma-nonzero-requires : tie.Need-fma-nonzero-requires
+fma-nonzero-requires c κs =
     let d = c .before .before .before .before .before .before .before .before in
     (d .before .before .parts-of .ensures .digits (some (d .before .before .parts-of .result .m) (c .before .before .before .before .before .before .if1 .left)), (d .before .parts-of2 .ensures .digits (some (d .before .parts-of2 .result .m) (c .before .before .before .before .if2 .left)), d .parts-of3 .ensures .digits (some (d .parts-of3 .result .m) (c .before .before .if3 .left))))
 
@@ -66,14 +66,14 @@ returns-4 c =
     let p = d .before .before .parts-of .result in
     let q = d .before .parts-of2 .result in
     let r = d .parts-of3 .result in
-    c .mul-add-nonzero .ensures
+    c .fma-nonzero .ensures
     ∙ ap (λ (z : ℕ). sum binary64 (unlike (p .neg) (q .neg)) z (r .neg) (r .m * 2 ^ 52 * 2 ^ (r .e + 1214)) (2 ^ 2404)) (exactly.product-form (p .m) (q .m) (p .e) (q .e))
     ∙ ap (λ (z : ℕ). sum binary64 (unlike (p .neg) (q .neg)) (p .m * 2 ^ p .e * (q .m * 2 ^ q .e) * 2 ^ 128) (r .neg) z (2 ^ 2404)) (exactly.addend-form (r .m) (r .e))
     ∙ sym (exactly.fma-at binary64 (a .args .a) (a .args .b) (a .args .c) (p .neg) (q .neg) (r .neg) (p .m * 2 ^ p .e) (q .m * 2 ^ q .e) (r .m * 2 ^ r .e) (2 ^ 1138) (2 ^ 128) (pow-pos 1138) (pow-pos 128)
     (d .before .before .parts-of .ensures .value) (d .before .parts-of2 .ensures .value) (d .parts-of3 .ensures .value))
 
-pub mul-add-finite-spec : {M : Type 1} → statement M
-mul-add-finite-spec =
+pub fma-finite-spec : {M : Type 1} → statement M
+fma-finite-spec =
     tie.close
     (tie.spec
     parts-of-requires
@@ -82,5 +82,5 @@ mul-add-finite-spec =
     returns
     returns-2
     returns-3
-    mul-add-nonzero-requires
+    fma-nonzero-requires
     returns-4)

@@ -1,4 +1,4 @@
--- `mul_add::mul_add_nonzero` meets its contract: the addend is shifted up to the 105 or 106 digits that the product has. Assumes nothing.
+-- `mul_add::fma_nonzero` meets its contract: the addend is shifted up to the 105 or 106 digits that the product has. Assumes nothing.
 use mathlib.Core.Path.{_≡_, sym, ap, _∙_, subst}
 use Prim.Native.Nat.{ℕ, _+_, _*_, _/_, _%_, _^_, _≤_, _<_}
 use native.Mathlib.Nat.{lt-of-lt-of-le, mul-le-mul, mul-le-mul-right, div-add-mod', mul-div-mul-right}
@@ -10,8 +10,8 @@ use Rattle.elementary.specs.Inside.Round.{wide}
 use Rattle.elementary.specs.Inside.MulAdd.{ProductDigits}
 use Rattle.elementary.proofs.mul_add.Carry as carry
 use borrow.Author.Needs.{needs}
-use Rattle.elementary.proofs.mul_add.mul_add_nonzero.Statement.{statement}
-use Rattle.elementary.proofs.mul_add.mul_add_nonzero.Tie as tie
+use Rattle.elementary.proofs.mul_add.fma_nonzero.Statement.{statement}
+use Rattle.elementary.proofs.mul_add.fma_nonzero.Tie as tie
 
 two-words : (c : ℕ) → wide (c / 2 ^ 12) (c * 2 ^ 52 % 2 ^ 64) ≡ c * 2 ^ 52
 two-words c = ap (λ (z : ℕ). wide z (c * 2 ^ 52 % 2 ^ 64)) (sym (mul-div-mul-right c (2 ^ 12) (pow-pos 52))) ∙ div-add-mod' (c * 2 ^ 52) (2 ^ 64)
@@ -61,8 +61,8 @@ returns c =
     ∙ ap (λ (z : ℕ). sum binary64 (a .args .n) (z * 2 ^ n) (a .args .cn) (wide (a .args .cm / 2 ^ 12) (a .args .cm * 2 ^ 52 % 2 ^ 64) * 2 ^ k) (2 ^ 2404)) (c .before .product .ensures)
     ∙ ap (λ (z : ℕ). sum binary64 (a .args .n) (a .args .am * a .args .bm * 2 ^ n) (a .args .cn) (z * 2 ^ k) (2 ^ 2404)) (two-words (a .args .cm))
 
-pub mul-add-nonzero-spec : {M : Type 1} → statement M
-mul-add-nonzero-spec =
+pub fma-nonzero-spec : {M : Type 1} → statement M
+fma-nonzero-spec =
     tie.close
     (tie.spec
     product-requires

@@ -1,4 +1,4 @@
--- `mul_add::mul_add_by_errors` meets its contract: `rounds_alike` rounds the exact sum (ByErrors). Assumes nothing.
+-- `mul_add::fma_by_errors` meets its contract: `rounds_alike` rounds the exact sum (ByErrors). Assumes nothing.
 use mathlib.Core.Path.{sym, subst}
 use mathlib.Core.Bool.{false≢true}
 use lib.Dec.{T}
@@ -6,8 +6,8 @@ use lib.Ieee.{binary64, fits, toBits}
 use borrow.Author.Needs.{needs}
 use Rattle.elementary.specs.Inside.MulAdd.{OperandsInRange}
 use Rattle.elementary.proofs.mul_add.ByErrors.{high-number, middle-number, sum-number, by-errors-is}
-use Rattle.elementary.proofs.mul_add.mul_add_by_errors.Statement.{statement}
-use Rattle.elementary.proofs.mul_add.mul_add_by_errors.Tie as tie
+use Rattle.elementary.proofs.mul_add.fma_by_errors.Statement.{statement}
+use Rattle.elementary.proofs.mul_add.fma_by_errors.Tie as tie
 
 module _ (d : tie.Start) where
   first : T (fits binary64 (d .args .a))
@@ -62,8 +62,8 @@ returns c e =
 returns-2 : tie.Need-returns-2
 returns-2 c e = absurd (false≢true e)
 
-pub mul-add-by-errors-spec : {M : Type 1} → statement M
-mul-add-by-errors-spec =
+pub fma-by-errors-spec : {M : Type 1} → statement M
+fma-by-errors-spec =
     tie.close
     (tie.spec
     float-to-bits-x

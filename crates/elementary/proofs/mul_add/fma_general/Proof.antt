@@ -1,4 +1,4 @@
--- `mul_add::mul_add_general` meets its contract: infinite and NaN operands by the cases of `fma` (Exactly). Assumes nothing.
+-- `mul_add::fma_general` meets its contract: infinite and NaN operands by the cases of `fma` (Exactly). Assumes nothing.
 use mathlib.Core.Path.{_≡_, sym, ap, _∙_, subst}
 use mathlib.Core.Bool.{Bool, _&&_}
 use lib.Dec.{T}
@@ -7,8 +7,8 @@ use lib.Ieee.Fits.{and-l, and-r}
 use lib.Ieee.Scale as scale
 use Rattle.elementary.proofs.mul_add.Exactly as exactly
 use borrow.Author.Needs.{needs}
-use Rattle.elementary.proofs.mul_add.mul_add_general.Statement.{statement}
-use Rattle.elementary.proofs.mul_add.mul_add_general.Tie as tie
+use Rattle.elementary.proofs.mul_add.fma_general.Statement.{statement}
+use Rattle.elementary.proofs.mul_add.fma_general.Tie as tie
 
 factors : (d : tie.After-both) → (scale.finite (d .before .before .before .args .a) && scale.finite (d .before .before .before .args .b)) ≡ d .both .result
 factors d =
@@ -28,8 +28,8 @@ both-requires c κs = search needs
 is-finite-requires-3 : tie.Need-is-finite-requires-3
 is-finite-requires-3 c κs = search needs
 
-mul-add-finite-requires : tie.Need-mul-add-finite-requires
-mul-add-finite-requires c κs =
+fma-finite-requires : tie.Need-fma-finite-requires
+fma-finite-requires c κs =
     let d = c .before .before .before in
     let a = d .before .before .before in
     let t : T (scale.finite (a .args .a) && scale.finite (a .args .b)) = subst T (sym (factors d ∙ c .before .before .if1 .taken)) tt in
@@ -49,15 +49,15 @@ returns-3 c =
     let a = c .before .before .before .before in
     exactly.plain binary64 (a .args .a) (a .args .b) (a .args .c) (factors (c .before) ∙ c .if1 .left)
 
-pub mul-add-general-spec : {M : Type 1} → statement M
-mul-add-general-spec =
+pub fma-general-spec : {M : Type 1} → statement M
+fma-general-spec =
     tie.close
     (tie.spec
     is-finite-requires
     is-finite-requires-2
     both-requires
     is-finite-requires-3
-    mul-add-finite-requires
+    fma-finite-requires
     returns
     returns-2
     returns-3)

@@ -1,4 +1,4 @@
--- `mul_add::mul_add_quick` meets its contract: the three values give `fma` as one sum of fractions (Machine), which `quick_near` or `quick_far` rounds. Assumes nothing.
+-- `mul_add::fma_quick` meets its contract: the three values give `fma` as one sum of fractions (Machine), which `quick_near` or `quick_far` rounds. Assumes nothing.
 use mathlib.Core.Path.{_≡_, sym, _∙_, subst}
 use mathlib.Core.Bool.{false≢true}
 use Prim.Native.Nat.{ℕ, _+_, _-_, _*_, _^_, _≤_, _<_}
@@ -11,8 +11,8 @@ use Rattle.elementary.specs.Inside.MulAdd.{ProductDigits, ExponentSumInR
 use Rattle.elementary.proofs.mul_add.Carry as carry
 use Rattle.elementary.proofs.mul_add.Machine as machine
 use borrow.Author.Needs.{needs}
-use Rattle.elementary.proofs.mul_add.mul_add_quick.Statement.{statement}
-use Rattle.elementary.proofs.mul_add.mul_add_quick.Tie as tie
+use Rattle.elementary.proofs.mul_add.fma_quick.Statement.{statement}
+use Rattle.elementary.proofs.mul_add.fma_quick.Tie as tie
 
 some : (e : ℕ) → 768 ≤ e → 0 < e
 some e h = omega arith
@@ -157,8 +157,8 @@ returns-5 c e = absurd (false≢true e)
 returns-6 : tie.Need-returns-6
 returns-6 c e = absurd (false≢true e)
 
-pub mul-add-quick-spec : {M : Type 1} → statement M
-mul-add-quick-spec =
+pub fma-quick-spec : {M : Type 1} → statement M
+fma-quick-spec =
     tie.close
     (tie.spec
     fields-of-requires
