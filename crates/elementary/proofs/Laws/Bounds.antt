@@ -169,13 +169,13 @@ sum-at-most s t A B C a b c P E l h k =
     let top : A + B ≤ c * C = le-trans (le-trans (omega arith) (le-of-eq (sym (add-mul a b C)))) (mul-le-mul-right C l) in
     go top (Bool·beq s t) (ltb A B)
   where
-    rounded : (u : Bool) (n : ℕ) → n ≤ c * C → AtMost (round binary64 u n C) c
-    rounded u n l = unsigned (round-side n C c P E l u)
+    in-bound : (u : Bool) (n : ℕ) → n ≤ c * C → AtMost (round binary64 u n C) c
+    in-bound u n l = unsigned (round-side n C c P E l u)
 
     go : A + B ≤ c * C → (p q : Bool) → AtMost (cond p (round binary64 s (A + B) C) (cond q (round binary64 t (B - A) C) (round binary64 (s && ltb B A) (A - B) C))) c
-    go l true q = rounded s (A + B) l
-    go l false true = rounded t (B - A) (omega arith)
-    go l false false = rounded (s && ltb B A) (A - B) (omega arith)
+    go l true q = in-bound s (A + B) l
+    go l false true = in-bound t (B - A) (omega arith)
+    go l false false = in-bound (s && ltb B A) (A - B) (omega arith)
 
 -- a fraction over the denominators of both operands
 share : (a c d x : ℕ) → x ≤ a * c → x * d ≤ a * (c * d)

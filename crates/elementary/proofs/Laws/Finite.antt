@@ -243,9 +243,9 @@ in-units (pos k) h = (k + 1074, rw (mul-one, pow-add 2 k 1074))
 in-units (negsuc k) h = (1074 - suc k, rw one-mul (sym (pow-split (suc k) 1074 (pow-le-back (suc k) 1074 h))))
 
 -- 2 ^ i times a value of the format is one, unless it overflows
-shifted-exact : (i m : ℕ) (e : ℤ) → T (fits binary64 (fin false m e)) → m * up e * 2 ^ i < 2 ^ 1024 * down e
+shift-exact : (i m : ℕ) (e : ℤ) → T (fits binary64 (fin false m e)) → m * up e * 2 ^ i < 2 ^ 1024 * down e
     → HasValue (round binary64 false (m * up e * 2 ^ i) (down e)) false (m * up e * 2 ^ i) (down e)
-shifted-exact i m e f l =
+shift-exact i m e f l =
     let d = digits-in-format m e f in
     let j = in-units e (d .1) in
     let same : m * up e * 2 ^ i * 2 ^ 1074 ≡ m * 2 ^ (j .0 + i) * down e =
@@ -338,7 +338,7 @@ below-y : (m : ℕ) (e : ℤ) (n : ℕ) → T (fits binary64 (fin false m e)) �
 below-y m e n f l h =
     let small : n ≤ 39 * 16 = le-of-mul-le-mul-right {k = down e} (le-trans h (le-trans (mul-le-mul-right 16 l) (le-of-eq (mul-right-comm 39 (down e) 16)))) (down-pos e) in
     let g = no-overflow n 16 39 (lit< tt) (small-exact 39 (lit≤ tt)) small in
-    let y = rw (mul-one (m * up e)) at (shifted-exact 0 m e f (room (m * up e) (down e) 0 (down-pos e) (lit≤ tt) l)) in
+    let y = rw (mul-one (m * up e)) at (shift-exact 0 m e f (room (m * up e) (down e) 0 (down-pos e) (lit≤ tt) l)) in
     record {
       size = grid binary64 n 16;
       value = round-val binary64 n 16 g;
@@ -352,7 +352,7 @@ unfolding tildeOf
 tilde-below m e f l =
     let k : CutTo (dIntOf (fin false m e ⊗ sixteen)) (m * up e * 16) (down e) =
     cut-value (fin false m e ⊗ sixteen) (m * up e * 16) (down e) 624 (down-pos e) (lit≤ tt)
-    (rw (times-16 m e) (shifted-exact 4 m e f (room (m * up e) (down e) 4 (down-pos e) (lit≤ tt) l)))
+    (rw (times-16 m e) (shift-exact 4 m e f (room (m * up e) (down e) 4 (down-pos e) (lit≤ tt) l)))
     (omega arith) in
     rw (sixteenth (dIntOf (fin false m e ⊗ sixteen)) (k .whole-part) (k .value)) (below-y m e (k .whole-part) f l (k .not-above))
 

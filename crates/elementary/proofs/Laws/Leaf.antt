@@ -175,10 +175,10 @@ module _ {m x e k d y q : ℕ} (S : Steps m x e k d y q) where
   half-lt = half-below m e k d (S .fits) (S .drop) (S .down)
 
   pub kept-le : q ≤ 2 ^ 53
-  kept-le = elim (eq-zero-or-pos y) [ inl z ↦ tied (m / 2 ^ d) half-lt (S .half .tie z) | inr p ↦ upper (m / 2 ^ d) half-lt (S .half .more p) ]
+  kept-le = elim (eq-zero-or-pos y) [ inl z ↦ at-tie (m / 2 ^ d) half-lt (S .half .tie z) | inr p ↦ upper (m / 2 ^ d) half-lt (S .half .more p) ]
     where
-      tied : (h : ℕ) → h < 2 ^ 54 → q ≡ (h + h / 2 % 2) / 2 → q ≤ 2 ^ 53
-      tied h l e = omega arith
+      at-tie : (h : ℕ) → h < 2 ^ 54 → q ≡ (h + h / 2 % 2) / 2 → q ≤ 2 ^ 53
+      at-tie h l e = omega arith
 
       upper : (h : ℕ) → h < 2 ^ 54 → q ≡ (h + 1) / 2 → q ≤ 2 ^ 53
       upper h l e = omega arith
@@ -187,13 +187,13 @@ module _ {m x e k d y q : ℕ} (S : Steps m x e k d y q) where
   kept-ge P =
       let ten : d ≡ 10 = go (S .drop) (S .down) in
       let l : 2 ^ 53 ≤ m / 2 ^ d = subst (λ (z : ℕ). 2 ^ 53 ≤ m / 2 ^ z) (sym ten) (le-div-iff-mul-le (pow-pos 10) .1 (S .big)) in
-      elim (eq-zero-or-pos y) [ inl z ↦ tied (m / 2 ^ d) l (S .half .tie z) | inr p ↦ upper (m / 2 ^ d) l (S .half .more p) ]
+      elim (eq-zero-or-pos y) [ inl z ↦ at-tie (m / 2 ^ d) l (S .half .tie z) | inr p ↦ upper (m / 2 ^ d) l (S .half .more p) ]
     where
       go : k ≡ e + 11 - 1330 → d ≡ 1329 + k - e → d ≡ 10
       go a b = omega arith
 
-      tied : (h : ℕ) → 2 ^ 53 ≤ h → q ≡ (h + h / 2 % 2) / 2 → 2 ^ 52 ≤ q
-      tied h l e = omega arith
+      at-tie : (h : ℕ) → 2 ^ 53 ≤ h → q ≡ (h + h / 2 % 2) / 2 → 2 ^ 52 ≤ q
+      at-tie h l e = omega arith
 
       upper : (h : ℕ) → 2 ^ 53 ≤ h → q ≡ (h + 1) / 2 → 2 ^ 52 ≤ q
       upper h l e = omega arith

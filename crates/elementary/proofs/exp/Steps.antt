@@ -16,11 +16,11 @@ unfolding expSum
 sum-step r p zero l h = absurd (omega arith)
 sum-step r p (suc i) l h = let e : suc i - 1 ≡ i = omega arith in rw e h
 
-pub done : (r p : Float) (i : ℕ) → i ≤ 0 → Left r p i → p ≡ expSum 13 r one
+pub no-steps-left : (r p : Float) (i : ℕ) → i ≤ 0 → Left r p i → p ≡ expSum 13 r one
 unfolding expSum
-done r p zero l h = sym h
-done r p (suc i) l h = absurd (omega arith)
+no-steps-left r p zero l h = sym h
+no-steps-left r p (suc i) l h = absurd (omega arith)
 
-pub fits : (i : ℕ) → i ≤ 13 → T (inFloat binary64 (pos i))
+pub in-float : (i : ℕ) → i ≤ 13 → T (inFloat binary64 (pos i))
 unfolding inFloat
-fits i l = le→leb i (2 ^ 53) (omega arith)
+in-float i l = le→leb i (2 ^ 53) (omega arith)

@@ -47,9 +47,9 @@ after-up {set} p lo hi i h l t = record { bound = omega arith; under = t; over =
 pub after-down : {set : RuleSet} (p lo hi : Float) (i : ℕ) → AfterSteps set p lo hi i → i < 64 → lt (cdfOf set (midOf lo hi)) p ≡ false → AfterSteps set p lo (midOf lo hi) (i + 1)
 after-down {set} p lo hi i h l t = record { bound = omega arith; under = h .under; over = t; rest = h .rest ∙ rw (one-less i l) (step-down (cdfOf set) (64 - (i + 1)) p lo hi t) }
 
-pub done : {set : RuleSet} (p lo hi : Float) (i : ℕ) → AfterSteps set p lo hi i → 64 ≤ i → hi ≡ endsOf set p .hi
+pub no-steps-left : {set : RuleSet} (p lo hi : Float) (i : ℕ) → AfterSteps set p lo hi i → 64 ≤ i → hi ≡ endsOf set p .hi
 unfolding bisected
-done {set} p lo hi i h l = let z : 64 - i ≡ 0 = omega arith in sym (ap (λ e. e .hi) (rw z at (h .rest)))
+no-steps-left {set} p lo hi i h l = let z : 64 - i ≡ 0 = omega arith in sym (ap (λ e. e .hi) (rw z at (h .rest)))
 
 -- ---- what a test on a computed value says of the definition
 pub test-of-cdf : (set : RuleSet) (v x p : Float) (b : Bool) → v ≡ cdfOf set x → lt v p ≡ b → lt (cdfOf set x) p ≡ b

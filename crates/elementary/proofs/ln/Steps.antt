@@ -12,9 +12,9 @@ use Rattle.elementary.specs.Ln.{lnSum}
 use Rattle.elementary.proofs.Laws.Values.{whole-value}
 use Rattle.elementary.proofs.Laws.Adding.{sub-at}
 
-pub counted : (n : ℕ) → n ≤ 2 ^ 53 → T (inFloat binary64 (pos n))
+pub in-float : (n : ℕ) → n ≤ 2 ^ 53 → T (inFloat binary64 (pos n))
 unfolding inFloat
-counted n h = le→leb n (2 ^ 53) h
+in-float n h = le→leb n (2 ^ 53) h
 
 -- ---- the series
 pub first : one ⊘ ofBits binary64 0x4037_0000_0000_0000 ≡ one ⊘ float 23
@@ -30,10 +30,10 @@ unfolding lnSum
 horner-step zero z q l h = absurd (omega arith)
 horner-step (suc i) z q l h = let e : suc i - 1 ≡ i = omega arith in rw e h
 
-pub done : (i : ℕ) (z q : Float) → i ≤ 0 → Down i z q → q ≡ lnSum 11 z (one ⊘ float 23)
+pub no-steps-left : (i : ℕ) (z q : Float) → i ≤ 0 → Down i z q → q ≡ lnSum 11 z (one ⊘ float 23)
 unfolding lnSum
-done zero z q l h = sym h
-done (suc i) z q l h = absurd (omega arith)
+no-steps-left zero z q l h = sym h
+no-steps-left (suc i) z q l h = absurd (omega arith)
 
 -- ---- the difference of two whole numbers
 apart : (a b : ℕ) → sum binary64 false a true b 1 ≡ ofInt binary64 (minus a b)

@@ -57,10 +57,10 @@ module _ (g i w : ℕ) where
   unit : 2 ^ 1074 * 2 ^ k ≡ 2 ^ (g + i) * scale
   unit =
       ap (λ (z : ℕ). 2 ^ 1074 * z) (pow-succ' 2 (i + g + w) ∙ ap (λ (z : ℕ). 2 * z) (pow-add 2 (i + g) w ∙ ap (λ (z : ℕ). 2 ^ z * 2 ^ w) (omega arith)))
-      ∙ turn (2 ^ 1074) (2 ^ (g + i)) (2 ^ w)
+      ∙ rearrange (2 ^ 1074) (2 ^ (g + i)) (2 ^ w)
     where
-      turn : (x y z : ℕ) → x * (2 * (y * z)) ≡ y * (z * x * 2)
-      turn x y z = simp (mul-assoc, mul-comm, mul-left-comm)
+      rearrange : (x y z : ℕ) → x * (2 * (y * z)) ≡ y * (z * x * 2)
+      rearrange x y z = simp (mul-assoc, mul-comm, mul-left-comm)
 
   scale-pos : 0 < scale
   scale-pos = mul-pos (mul-pos (pow-pos w) (pow-pos 1074)) (two)
@@ -113,10 +113,10 @@ module _ (g i w : ℕ) where
 coarse : (s : Bool) (a w : ℕ) → round binary64 s (a * 2 ^ (w + 1330)) (2 ^ 2404) ≡ round binary64 s (a * 2 ^ w) (2 ^ 1074)
 coarse s a w =
     round-same binary64 s (a * 2 ^ (w + 1330)) (2 ^ 2404) (a * 2 ^ w) (2 ^ 1074) (pow-pos 2404) (pow-pos 1074)
-    (ap (λ (z : ℕ). a * z * 2 ^ 1074) (pow-add 2 w 1330) ∙ turn a (2 ^ w) (2 ^ 1330) (2 ^ 1074) ∙ ap (λ (z : ℕ). a * 2 ^ w * z) (sym (pow-add 2 1330 1074)))
+    (ap (λ (z : ℕ). a * z * 2 ^ 1074) (pow-add 2 w 1330) ∙ rearrange a (2 ^ w) (2 ^ 1330) (2 ^ 1074) ∙ ap (λ (z : ℕ). a * 2 ^ w * z) (sym (pow-add 2 1330 1074)))
   where
-    turn : (a x y z : ℕ) → a * (x * y) * z ≡ a * x * (y * z)
-    turn a x y z = simp (mul-assoc, mul-comm, mul-left-comm)
+    rearrange : (a x y z : ℕ) → a * (x * y) * z ≡ a * x * (y * z)
+    rearrange a x y z = simp (mul-assoc, mul-comm, mul-left-comm)
 
 pub round-alike : (s : Bool) (g a b u : ℕ) → 1330 ≤ u → Alike g a b → round binary64 s (a * 2 ^ u) (2 ^ 2404) ≡ round binary64 s (b * 2 ^ u) (2 ^ 2404)
 round-alike s g a b u U L =

@@ -25,7 +25,7 @@ use Rattle.elementary.proofs.mul_add.Pairs.{bound, Is, NearPair, sum-is
 use Rattle.elementary.proofs.mul_add.TwoSum as two-sum
 use Rattle.elementary.proofs.mul_add.TwoProduct as two-product
 use Rattle.elementary.proofs.mul_add.TwoProduct.{Rel, plain, Cuts}
-use Rattle.elementary.proofs.mul_add.Between.{from-below, from-above, squeezed, equal-values}
+use Rattle.elementary.proofs.mul_add.Between.{from-below, from-above, between, equal-values}
 
 -- ---- a finite float as a whole number of units
 record AsUnits (x : Float) (e : ℕ) : Type 0 where
@@ -264,7 +264,7 @@ module _ (n v : Bool) {p e c : Float} (x y k : ℕ) (P : Rel n p y 0 1) (Y : Sho
 
     pub rounds-alike-is : r ≡ f
     rounds-alike-is =
-        squeezed (subst (λ (z : Float). NearPair z (q + cond (L .sign) 0 (L .size)) (q' + cond (L .sign) (L .size) 0)) (sym (R .low)) (add-rounds s-is (as-units-is L))) (add-rounds s-is (as-units-is H)) G
+        between (subst (λ (z : Float). NearPair z (q + cond (L .sign) 0 (L .size)) (q' + cond (L .sign) (L .size) 0)) (sym (R .low)) (add-rounds s-is (as-units-is L))) (add-rounds s-is (as-units-is H)) G
         (low n (cond (L .sign) 0 (L .size)) (cond (L .sign) (L .size) 0) (cond v 0 k) (cond v k 0) q q' (from-below (a + q' + cond n y x) (b' + q + cond n x y) (as-units-is L) (as-units-short L) w-is (R .above)))
         (high n (cond (H .sign) 0 (H .size)) (cond (H .sign) (H .size) 0) (cond v 0 k) (cond v k 0) q q' (from-above (a + q' + cond n y x) (b' + q + cond n x y) (as-units-is H) (as-units-short H) w-is (R .under)))
         (R .high) (r-nonzero r r-fits (R .some) (R .finite))
@@ -392,14 +392,14 @@ module _ (x y z : Float) (FX : T (fits binary64 x)) (FY : T (fits binary64 y)) (
       ∙ sum-value binary64 (X * Y * 1) (K * (1 * U)) (1 * (U * U)) prod K U (mul-pos (zero-lt-suc 0) (mul-pos (pow-pos 1074) (pow-pos 1074))) (pow-pos 1074) (first (xh * 2 ^ 27 + (xl * 2 ^ 14 + xm)) (yh * 2 ^ 27 + yl)) (second K U) v (Z .sign)))
       (sum-is v (Z .sign) prod K (cond v 0 prod) (cond v prod 0) (cond (Z .sign) 0 K) (cond (Z .sign) K 0) (pair-is v prod) (pair-is (Z .sign) K))
     where
-      turn : (a b p q u : ℕ) → a * p * (b * q) * 1 * u ≡ a * b * (p * q * u)
-      turn a b p q u = simp (mul-assoc, mul-comm, mul-left-comm, mul-one, one-mul)
+      rearrange : (a b p q u : ℕ) → a * p * (b * q) * 1 * u ≡ a * b * (p * q * u)
+      rearrange a b p q u = simp (mul-assoc, mul-comm, mul-left-comm, mul-one, one-mul)
 
-      turn' : (a p u : ℕ) → a * (p * u * u) ≡ a * p * (1 * (u * u))
-      turn' a p u = simp (mul-assoc, mul-comm, mul-left-comm, mul-one, one-mul)
+      rearrange' : (a p u : ℕ) → a * (p * u * u) ≡ a * p * (1 * (u * u))
+      rearrange' a p u = simp (mul-assoc, mul-comm, mul-left-comm, mul-one, one-mul)
 
       first : (a b : ℕ) → a * 2 ^ xi * (b * 2 ^ yi) * 1 * 2 ^ 1074 ≡ a * b * 2 ^ unit * (1 * (2 ^ 1074 * 2 ^ 1074))
-      first a b = turn a b (2 ^ xi) (2 ^ yi) (2 ^ 1074) ∙ ap (λ (f : ℕ). a * b * (f * 2 ^ 1074)) (sym (pow-add 2 xi yi) ∙ ap (λ (f : ℕ). 2 ^ f) units-is ∙ pow-add 2 unit 1074) ∙ turn' (a * b) (2 ^ unit) (2 ^ 1074)
+      first a b = rearrange a b (2 ^ xi) (2 ^ yi) (2 ^ 1074) ∙ ap (λ (f : ℕ). a * b * (f * 2 ^ 1074)) (sym (pow-add 2 xi yi) ∙ ap (λ (f : ℕ). 2 ^ f) units-is ∙ pow-add 2 unit 1074) ∙ rearrange' (a * b) (2 ^ unit) (2 ^ 1074)
 
       second : (k u : ℕ) → k * (1 * u) * u ≡ k * (1 * (u * u))
       second k u = simp (mul-assoc, mul-comm, mul-left-comm, mul-one, one-mul)

@@ -5,7 +5,7 @@ use native.Mathlib.Omega.{arith}
 use borrow.Author.Needs.{needs}
 use Rattle.elementary.specs.NormalDistribution.{endsOf}
 use Rattle.elementary.specs.Inside.Bisection.{AfterSteps}
-use Rattle.elementary.proofs.inverse.Laws.{ends-low, ends-high, done}
+use Rattle.elementary.proofs.inverse.Laws.{ends-low, ends-high, no-steps-left}
 use Rattle.elementary.proofs.inverse.bisect.Statement.{statement}
 use Rattle.elementary.proofs.inverse.bisect.Tie as tie
 
@@ -62,7 +62,7 @@ loop-again : tie.Need-loop-again Inv-loop μ-loop
 loop-again c = c .bisection-batch .ensures .0
 
 returns-3 : tie.Need-returns-3 Inv-loop μ-loop
-returns-3 c = done _ _ _ _ (c .before .before .loop .inv) (c .if1 .left)
+returns-3 c = no-steps-left _ _ _ _ (c .before .before .loop .inv) (c .if1 .left)
 
 pub bisect-spec : {M : Type 1} → statement M
 bisect-spec =

@@ -13,8 +13,8 @@ use borrow.Author.Needs.{needs}
 use Rattle.elementary.proofs.round.round_exact.Statement.{statement}
 use Rattle.elementary.proofs.round.round_exact.Tie as tie
 
-turn : (v E T : ℕ) → v * E * T ≡ v * (T * E)
-turn v E T = mul-assoc v E T ∙ ap (λ (z : ℕ). v * z) (mul-comm E T)
+rearrange : (v E T : ℕ) → v * E * T ≡ v * (T * E)
+rearrange v E T = mul-assoc v E T ∙ ap (λ (z : ℕ). v * z) (mul-comm E T)
 
 none : (v : ℕ) → v ≤ 0 → v ≡ 0
 none v h = omega arith
@@ -35,7 +35,7 @@ returns c =
     let a = c .before .before .before in
     let v = wide (a .args .hi) (a .args .lo) in
     c .round-signed .ensures (v * 2 ^ a .args .e) (2 ^ 2404) (pow-pos 2404)
-    (words.exact-cut (v * 2 ^ a .args .e * 2 ^ 2404) (2 ^ 2404 * 2 ^ a .args .e) v (mul-pos (pow-pos 2404) (pow-pos (a .args .e))) (turn v (2 ^ a .args .e) (2 ^ 2404)))
+    (words.exact-cut (v * 2 ^ a .args .e * 2 ^ 2404) (2 ^ 2404 * 2 ^ a .args .e) v (mul-pos (pow-pos 2404) (pow-pos (a .args .e))) (rearrange v (2 ^ a .args .e) (2 ^ 2404)))
 
 returns-2 : tie.Need-returns-2
 returns-2 c =

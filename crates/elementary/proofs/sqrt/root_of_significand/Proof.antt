@@ -3,7 +3,7 @@ use Prim.Native.Nat.{_≤_}
 use native.Mathlib.Omega.{arith}
 use borrow.Author.Needs.{needs}
 use lib.Count.{leadingZeros}
-use Rattle.elementary.proofs.sqrt.Laws.{z-in, shifted-lo, root-in, made, made-no-nan}
+use Rattle.elementary.proofs.sqrt.Laws.{z-in, shift-low, root-in, made, made-no-nan}
 use Rattle.elementary.proofs.sqrt.root_of_significand.Statement.{statement}
 use Rattle.elementary.proofs.sqrt.root_of_significand.Tie as tie
 
@@ -26,7 +26,7 @@ shl-root-digits : tie.Need-shl-root-digits
 shl-root-digits c = omega (arith, range c)
 
 root-digits-requires : tie.Need-root-digits-requires
-root-digits-requires c κs = shifted-lo (c .args .m) (c .args .e) (c .pre .0) (c .pre .1) (c .pre .2) (c .pre .3)
+root-digits-requires c κs = shift-low (c .args .m) (c .args .e) (c .pre .0) (c .pre .1) (c .pre .2) (c .pre .3)
 
 add-result : tie.Need-add-result
 add-result c = search needs
