@@ -148,7 +148,7 @@ pub fn erfcx_above_threshold(y: f64) -> f64
     }
 }
 
-// erfc of |x| above the threshold.
+// erfc of y = |x| above the threshold. A rule set decides whether the factor multiplies the far arm.
 fn erfc_abs(set: RuleSet, y: f64, factor: f64) -> f64
     requires { ⌜ factor ≡ smoothenedExponentialOfNegativeSquare y ⌝ }
     ensures { λ r. ⌜ r ≡ erfcAbs set y ⌝ }
@@ -160,7 +160,7 @@ fn erfc_abs(set: RuleSet, y: f64, factor: f64) -> f64
     }
 }
 
-// erfc of x above the threshold, y = |x|.
+// erfc of x, whose size y is above the threshold.
 fn erfc_outside(set: RuleSet, x: f64, y: f64, factor: f64) -> f64
     requires { ⌜ factor ≡ smoothenedExponentialOfNegativeSquare y ⌝ }
     ensures { λ r. ⌜ r ≡ cond (lt x +0) (two ⊖ erfcAbs set y) (erfcAbs set y) ⌝ }
@@ -173,6 +173,7 @@ fn erfc_outside(set: RuleSet, x: f64, y: f64, factor: f64) -> f64
     }
 }
 
+// erfc under any rule set.
 pub fn erfc_under(set: RuleSet, x: f64) -> f64
     ensures { λ r. ⌜ r ≡ erfcOf set x ⌝ }
 {
@@ -189,7 +190,7 @@ pub fn erfc(x: f64) -> f64
     erfc_under(RULE_SET_0, x)
 }
 
-// erfc where the exponential factor is known.
+// erfc from its exponential factor.
 pub(crate) fn erfc_with_factor(set: RuleSet, x: f64, factor: f64) -> f64
     requires { ⌜ factor ≡ smoothenedExponentialOfNegativeSquare (absOf x) ⌝ }
     ensures { λ r. ⌜ r ≡ erfcOf set x ⌝ }

@@ -230,7 +230,7 @@ fn fma_nonzero(n: bool, am: u64, ae: u64, bm: u64, be: u64, cn: bool, cm: u64, c
     )
 }
 
-// `mul_add` for finite operands. With a zero among them the plain operations round once or not at all.
+// `mul_add` for finite operands. With a zero among them the plain operations round at most once.
 fn fma_finite(a: f64, b: f64, c: f64) -> f64
     requires { ⌜ T (Scale.finite a) ⌝ ∗ ⌜ T (Scale.finite b) ⌝ ∗ ⌜ T (Scale.finite c) ⌝ }
     ensures { λ r. ⌜ r ≡ fma binary64 a b c ⌝ }

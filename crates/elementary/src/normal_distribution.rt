@@ -15,6 +15,7 @@ ghost use Rattle.elementary.specs.NormalDistribution.{sizeOf, cdfOf, inv
 
 pub(crate) const FRAC_1_SQRT_2: f64 = 0.7071067811865476;
 
+// The cdf under any rule set.
 pub fn standard_normal_cdf_under(set: RuleSet, y: f64) -> f64
     ensures { λ r. ⌜ r ≡ cdfOf set y ⌝ }
 {
@@ -81,6 +82,7 @@ pub(crate) fn cdfs(set: RuleSet, x: [f64; 8], a: f64, e: f64) -> [f64; 8]
     }
 }
 
+// The inverse cdf under any rule set.
 pub fn inverse_normal_cdf_under(set: RuleSet, p: f64) -> f64
     ensures { λ r. ⌜ r ≡ inverseOf set p ⌝ }
 {
@@ -102,6 +104,7 @@ pub fn inverse_normal_cdf(p: f64) -> f64
     inverse_normal_cdf_under(RULE_SET_0, p)
 }
 
+// inverse_f_upper_map under any rule set.
 pub fn inverse_f_upper_map_under(set: RuleSet, f: f64) -> f64
     ensures { λ r. ⌜ r ≡ inverseFUpperMapOf set f ⌝ }
 {

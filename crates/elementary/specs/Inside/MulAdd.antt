@@ -7,12 +7,12 @@ use lib.Dec.{T}
 use lib.Ieee.{Float, binary64, toBits, isNan, fits, add, lt, eq}
 use Rattle.elementary.specs.Inside.Round.{wide, PartsOf}
 
--- It has 105 or 106 digits.
+-- a number of two words that has 105 or 106 digits, as the product of two significands does
 pub record ProductDigits (hi lo : ℕ) : Type 0 where
   pub low : 2 ^ 104 ≤ wide hi lo
   pub high : wide hi lo < 2 ^ 106
 
--- l * 2 ^ (e + d) and s * 2 ^ e for a small d, and l * 2 ^ e and s * 2 ^ (e - d) for another
+-- what `sum_near` adds: l * 2 ^ (e + d) and s * 2 ^ e, for a d of at most 20
 pub record SumNear (lh ll sh sl d e : ℕ) : Type 0 where
   pub large : ProductDigits lh ll
   pub small : ProductDigits sh sl
@@ -20,7 +20,7 @@ pub record SumNear (lh ll sh sl d e : ℕ) : Type 0 where
   pub low : 64 ≤ e
   pub high : e < 2 ^ 30
 
--- the same for a d above 20, up to e
+-- what `sum_far` adds: l * 2 ^ e and s * 2 ^ (e - d), for a d above 20 and up to e
 pub record SumFar (lh ll sh sl d e : ℕ) : Type 0 where
   pub large : ProductDigits lh ll
   pub small : ProductDigits sh sl
@@ -29,7 +29,7 @@ pub record SumFar (lh ll sh sl d e : ℕ) : Type 0 where
   pub low : 64 ≤ e
   pub high : e < 2 ^ 30
 
--- l * 2 ^ le and s * 2 ^ se, the second's exponent not above the first's
+-- what `sum_ordered` adds: l * 2 ^ le and s * 2 ^ se, the second's exponent not above the first's
 pub record SumOrdered (lh ll le sh sl se : ℕ) : Type 0 where
   pub large : ProductDigits lh ll
   pub small : ProductDigits sh sl
@@ -37,7 +37,7 @@ pub record SumOrdered (lh ll le sh sl se : ℕ) : Type 0 where
   pub low : 64 ≤ se
   pub high : le < 2 ^ 30
 
--- the same with the exponents in any order
+-- what `sum_wide` adds: the same with the exponents in any order
 pub record SumWide (lh ll le sh sl se : ℕ) : Type 0 where
   pub first : ProductDigits lh ll
   pub second : ProductDigits sh sl
@@ -48,7 +48,7 @@ pub record SumWide (lh ll le sh sl se : ℕ) : Type 0 where
 
 -- ---- the quick way
 
--- r is v / 2 ^ g with one more digit, which is 0 just where nothing was cut off
+-- r is v / 2 ^ g with one more digit, the sticky one, which is 0 just where nothing is cut off
 pub record CutWithSticky (g v r : ℕ) : Type 0 where
   pub whole : r / 2 ≡ v / 2 ^ g
   pub to : r % 2 ≡ 0 → v % 2 ^ g ≡ 0
@@ -63,18 +63,18 @@ pub record ExponentSumInRange (k : ℕ) : Type 0 where
   pub low : 1536 ≤ k
   pub high : k < 2559
 
--- the high word and the exponents leave room
+-- the high word and the exponents leave room for a sum in floats
 pub record LeavesRoom (hi k : ℕ) : Type 0 where
   pub top : hi < 2 ^ 52
   pub apart : FarFromZero hi
   pub room : ExponentSumInRange k
 
--- v is 2 ^ 115 + p, or 2 ^ 115 - p - 1
+-- v is 2 ^ 115 + p, or 2 ^ 115 - p - 1 for a minus
 pub record SignedOffset (neg : Bool) (p v : ℕ) : Type 0 where
   pub plus : neg ≡ false → v ≡ 2 ^ 115 + p
   pub minus : neg ≡ true → v + p + 1 ≡ 2 ^ 115
 
--- a product, and a significand that is shifted by d
+-- a product, and a significand to be shifted by d
 pub record QuickOperands (ph pl m d k : ℕ) : Type 0 where
   pub large : ProductDigits ph pl
   pub lead : 2 ^ 52 ≤ m

@@ -1,11 +1,11 @@
--- What the contracts of the rounding leaf say of numbers, and a finite float taken apart. Assumes nothing.
+-- What the contracts of the rounding leaf say of numbers, and the parts of a finite float. Assumes nothing.
 use mathlib.Core.Path.{_≡_}
 use mathlib.Core.Bool.{Bool}
 use Prim.Native.Nat.{ℕ, _+_, _*_, _^_, _/_, _%_, _<_, _≤_}
 use lib.Ieee.{Float, binary64, round}
 use lib.Ieee.Exact.{HasValue}
 
--- m is the fraction N / E cut to a whole number, and x is 0 just where nothing was cut off.
+-- m is the fraction N / E cut to a whole number, and x is 0 just where nothing is cut off.
 pub record Cut (N E m x : ℕ) : Type 0 where
   pub whole : N / E ≡ m
   pub none : x ≡ 0 → N % E ≡ 0
@@ -15,7 +15,7 @@ pub record Cut (N E m x : ℕ) : Type 0 where
 abbrev pub Rounds : Float → Bool → ℕ → ℕ → ℕ → Type 0
 Rounds r s m x e = (num den : ℕ) → 0 < den → Cut (num * 2 ^ 2404) (den * 2 ^ e) m x → r ≡ round binary64 s num den
 
--- r is h / 2 to the nearest whole number, where h is itself cut, x being 0 just where nothing was cut off, and at a tie to the even one.
+-- r is h / 2 to the nearest whole number, where h is itself cut, x being 0 just where nothing is cut off, and at a tie to the even one.
 pub record HalfToEven (h x r : ℕ) : Type 0 where
   pub tie : x ≡ 0 → r ≡ (h + h / 2 % 2) / 2
   pub more : 0 < x → r ≡ (h + 1) / 2
