@@ -2,4 +2,4 @@
 mod Power
 mod Bias
 mod Range
-mod Turns
+mod Steps

@@ -1,4 +1,4 @@
 -- Laws that the proofs of ln use.
-mod Turns
+mod Steps
 mod Place
 mod Ends

@@ -153,9 +153,9 @@ unfoldable pub erfcOf : RuleSet → Float → Float
 erfcOf set x =
     let y = absOf x in
     let centre = one ⊖ x ⊗ abOf (y ⊗ y) in
-    let outside = erfcAbs set y in
-    let turned = two ⊖ outside in
-    cond (le y THRESHOLD) centre (cond (lt x +0) turned outside)
+    let right = erfcAbs set y in
+    let left = two ⊖ right in
+    cond (le y THRESHOLD) centre (cond (lt x +0) left right)
 
 -- erfcx
 unfoldable pub erfcxOf : Float → Float

@@ -1,8 +1,8 @@
--- Words that only the contracts of private functions use; no promise leans on them.
+-- Definitions that only the contracts of private functions use. No promise depends on them.
 pub mod Round
 pub mod Bounds
 pub mod Sqrt
 pub mod MulAdd
 pub mod Exp
 pub mod Each
-pub mod Turns
+pub mod Bisection

@@ -11,5 +11,5 @@ pub mod Cody
 pub mod NormalDistribution
 -- Promises: statements alone, no proof.
 pub mod Promises
--- Words of private contracts: what functions inside the crate say of each other.
+-- Definitions that only private contracts use: what functions inside the crate say of each other.
 pub mod Inside

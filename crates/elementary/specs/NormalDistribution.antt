@@ -45,7 +45,7 @@ lowest = neg (bits 0x4043_8000_0000_0000)  -- −39
 abbrev pub highest : Float
 highest = bits 0x4043_8000_0000_0000  -- 39
 
--- the ends after the 64 turns
+-- the ends after the 64 steps
 unfoldable pub endsOf : RuleSet → Float → Ends
 endsOf set p = bisected (cdfOf set) 64 p lowest highest
 

@@ -145,6 +145,6 @@ pub record Brackets (set : RuleSet) (p lo hi : Float) : Type 0 where
   pub over : le p (cdfOf set hi) ≡ true
   pub inverse : inverseOf set p ≡ hi
 
--- For every p between 0 and 1 the 64 turns of the bisection end so, under every rule set.
+-- For every p between 0 and 1 the 64 steps of the bisection end so, under every rule set.
 abbrev pub Inverse-brackets : Type 0
 Inverse-brackets = (set : RuleSet) (p : Float) → lt +0 p ≡ true → lt p one ≡ true → Brackets set p (endsOf set p .lo) (endsOf set p .hi)

@@ -148,27 +148,20 @@ pub fn erfcx_above_threshold(y: f64) -> f64
     }
 }
 
-// erfc's far arm.
-fn far_arm(set: RuleSet, factor: f64) -> f64
-    ensures { λ r. ⌜ r ≡ cond (set .«far_factor») (+0 ⊗ factor) +0 ⌝ }
-{
-    if set.far_factor { 0.0 * factor } else { 0.0 }
-}
-
-// erfc of |x| above the threshold.
+// erfc of y = |x| above the threshold. A rule set decides whether the factor multiplies the far arm.
 fn erfc_abs(set: RuleSet, y: f64, factor: f64) -> f64
     requires { ⌜ factor ≡ smoothenedExponentialOfNegativeSquare y ⌝ }
     ensures { λ r. ⌜ r ≡ erfcAbs set y ⌝ }
 {
     if y >= XBIG {
-        far_arm(set, factor)
+        if set.far_factor { 0.0 * factor } else { 0.0 }
     } else {
         erfcx_above_threshold(y) * factor
     }
 }
 
-// erfc of x above the threshold, y = |x|.
-fn outside(set: RuleSet, x: f64, y: f64, factor: f64) -> f64
+// erfc of x, whose size y is above the threshold.
+fn erfc_outside(set: RuleSet, x: f64, y: f64, factor: f64) -> f64
     requires { ⌜ factor ≡ smoothenedExponentialOfNegativeSquare y ⌝ }
     ensures { λ r. ⌜ r ≡ cond (lt x +0) (two ⊖ erfcAbs set y) (erfcAbs set y) ⌝ }
 {
@@ -180,6 +173,7 @@ fn outside(set: RuleSet, x: f64, y: f64, factor: f64) -> f64
     }
 }
 
+// erfc under any rule set.
 pub fn erfc_under(set: RuleSet, x: f64) -> f64
     ensures { λ r. ⌜ r ≡ erfcOf set x ⌝ }
 {
@@ -187,7 +181,7 @@ pub fn erfc_under(set: RuleSet, x: f64) -> f64
     if y <= THRESHOLD {
         return 1.0 - x * ab(y * y);
     }
-    outside(set, x, y, smoothened_exponential_of_negative_square(y))
+    erfc_outside(set, x, y, smoothened_exponential_of_negative_square(y))
 }
 
 pub fn erfc(x: f64) -> f64
@@ -196,8 +190,8 @@ pub fn erfc(x: f64) -> f64
     erfc_under(RULE_SET_0, x)
 }
 
-// erfc where the exponential factor is known.
-pub(crate) fn erfc_with(set: RuleSet, x: f64, factor: f64) -> f64
+// erfc from its exponential factor.
+pub(crate) fn erfc_with_factor(set: RuleSet, x: f64, factor: f64) -> f64
     requires { ⌜ factor ≡ smoothenedExponentialOfNegativeSquare (absOf x) ⌝ }
     ensures { λ r. ⌜ r ≡ erfcOf set x ⌝ }
 {
@@ -205,7 +199,7 @@ pub(crate) fn erfc_with(set: RuleSet, x: f64, factor: f64) -> f64
     if y <= THRESHOLD {
         return 1.0 - x * ab(y * y);
     }
-    outside(set, x, y, factor)
+    erfc_outside(set, x, y, factor)
 }
 
 pub fn erfcx(x: f64) -> f64
@@ -268,7 +262,7 @@ fn negative_rests(y: [f64; 8], t: [f64; 8]) -> [f64; 8]
 }
 
 // Whether all are a.
-fn alike(t: [f64; 8], a: f64) -> bool
+fn all_same(t: [f64; 8], a: f64) -> bool
     ensures { λ r. ⌜ (r ≡ true → UpTo (λ k. a) t 8) ⌝ }
 {
     let mut j: usize = 0;
@@ -287,7 +281,7 @@ fn exps_of_negative_squares(t: [f64; 8], a: f64, e: f64) -> [f64; 8]
     requires { ⌜ e ≡ expOf (negativeSquare a) ⌝ }
     ensures { λ r. ⌜ Each (λ b. expOf (negativeSquare b)) t r ⌝ }
 {
-    if alike(t, a) {
+    if all_same(t, a) {
         [e, e, e, e, e, e, e, e]
     } else {
         exps(negative_squares(t))

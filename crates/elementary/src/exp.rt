@@ -1,43 +1,43 @@
 // Document 01's exp: the argument reduced by multiples of ln 2, a Taylor sum, and one rounding.
 use crate::floor::floor;
-use crate::round::assembled;
-use crate::round::finite;
-use crate::round::rounded_exact;
-use crate::round::taken_apart;
+use crate::round::float_of_fields;
+use crate::round::is_finite;
+use crate::round::parts_of;
+use crate::round::round_exact;
 ghost use mathlib.Core.Path.{_≡_};
 ghost use Prim.Native.Nat.{_≤_};
 ghost use lib.Ieee.{binary64, minus};
 ghost use Rattle.elementary.specs.Ops.{one};
 ghost use Rattle.elementary.specs.Inside.Each.{Each};
 ghost use Rattle.elementary.specs.Exp as Exp;
-ghost use Rattle.elementary.specs.Inside.Exp.{Whole, Biased};
+ghost use Rattle.elementary.specs.Inside.Exp.{Whole, BiasedExponent};
 ghost use Rattle.elementary.specs.Inside.Bounds.{AtMost};
 
-// `scaled` for any power of two: p is taken apart and its digits are rounded at their new place.
-fn far(p: f64, e: u64) -> f64
+// `scale_by_power` for any power of two: the digits of p are rounded at their new place.
+fn scale_by_any_power(p: f64, e: u64) -> f64
     requires { ⌜ 960 ≤ e ⌝ ∗ ⌜ e ≤ 3136 ⌝ }
     ensures { λ r. ⌜ r ≡ Exp.scaled binary64 p (minus e 2048) ⌝ }
 {
-    if finite(p) {
-        let t = taken_apart(p);
-        rounded_exact(t.neg, 0, t.m, t.e + e - 782)
+    if is_finite(p) {
+        let t = parts_of(p);
+        round_exact(t.neg, 0, t.m, t.e + e - 782)
     } else {
         p
     }
 }
 
 // p × 2^(e − 2048), rounded once. Where that power of two is a normal float, a product does it.
-pub(crate) fn scaled(p: f64, e: u64) -> f64
+pub(crate) fn scale_by_power(p: f64, e: u64) -> f64
     requires { ⌜ 960 ≤ e ⌝ ∗ ⌜ e ≤ 3136 ⌝ }
     ensures { λ r. ⌜ r ≡ Exp.scaled binary64 p (minus e 2048) ⌝ }
 {
     if e < 1026 {
-        return far(p, e);
+        return scale_by_any_power(p, e);
     }
     if e > 3071 {
-        return far(p, e);
+        return scale_by_any_power(p, e);
     }
-    p * assembled(false, e - 1025, 0)
+    p * float_of_fields(false, e - 1025, 0)
 }
 
 // p becomes 1 + (r × p) / i, for i from 13 down to 1.
@@ -110,23 +110,23 @@ fn remainder(y: f64, k: f64) -> f64
 }
 
 // The whole number k as k + 2048, which is not negative.
-fn biased(k: f64) -> u64
+fn biased_exponent(k: f64) -> u64
     requires { ⌜ Whole k ⌝ }
-    ensures { λ e. ⌜ Biased k e ⌝ }
+    ensures { λ e. ⌜ BiasedExponent k e ⌝ }
 {
     (k + 2048.0) as u64
 }
 
 // exp between its two ends, from the sum q.
-fn inner(y: f64, k: f64, q: f64) -> f64
+fn exp_inner(y: f64, k: f64, q: f64) -> f64
     requires { ⌜ AtMost y 746 ⌝ ∗ ⌜ k ≡ Exp.expK y ⌝ ∗ ⌜ q ≡ Exp.expSum 13 (Exp.expR y) one ⌝ }
     ensures { λ r. ⌜ r ≡ Exp.expInner y ⌝ }
 {
-    scaled(q, biased(k))
+    scale_by_power(q, biased_exponent(k))
 }
 
 // exp from the sum q.
-fn finished(y: f64, k: f64, q: f64) -> f64
+fn exp_from_sum(y: f64, k: f64, q: f64) -> f64
     requires { ⌜ k ≡ Exp.expK y ⌝ ∗ ⌜ q ≡ Exp.expSum 13 (Exp.expR y) one ⌝ }
     ensures { λ r. ⌜ r ≡ Exp.expOf y ⌝ }
 {
@@ -139,7 +139,7 @@ fn finished(y: f64, k: f64, q: f64) -> f64
     if y < -746.0 {
         return 0.0;
     }
-    inner(y, k, q)
+    exp_inner(y, k, q)
 }
 
 pub fn exp(y: f64) -> f64
@@ -147,7 +147,7 @@ pub fn exp(y: f64) -> f64
 {
     let k = multiple(y);
     let r = remainder(y, k);
-    finished(y, k, sum(r))
+    exp_from_sum(y, k, sum(r))
 }
 
 // ---- eight side by side
@@ -185,7 +185,7 @@ pub(crate) fn exps(y: [f64; 8]) -> [f64; 8]
     let mut r = [0.0; 8];
     let mut j: usize = 0;
     while j < 8 {
-        r[j] = finished(y[j], k[j], q[j]);
+        r[j] = exp_from_sum(y[j], k[j], q[j]);
         j += 1;
     }
     r

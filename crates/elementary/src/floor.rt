@@ -5,7 +5,7 @@ ghost use lib.Ieee.{binary64, ofBits};
 ghost use Rattle.elementary.specs.Floor.{floorOf};
 
 // The floor of the number with the bits b, below 1 in size.
-fn small(b: u64) -> f64
+fn floor_below_one(b: u64) -> f64
     requires { ⌜ b % 2 ^ 63 < 0x3ff0_0000_0000_0000 ⌝ }
     ensures { λ r. ⌜ r ≡ floorOf binary64 (ofBits binary64 b) ⌝ }
 {
@@ -21,7 +21,7 @@ fn small(b: u64) -> f64
 // The floor of the number with the bits b, whose last d digits stand below the point: they are cut
 // off. A number below 0 grows in size, so it first gets all but the last of a unit; a carry runs into
 // the exponent by itself.
-fn cut(b: u64, d: u64) -> f64
+fn floor_from_one(b: u64, d: u64) -> f64
     requires { ⌜ (1 ≤ d) × (d ≤ 52) × (b % 2 ^ 63 / 2 ^ 52 + d ≡ 1075) ⌝ }
     ensures { λ r. ⌜ r ≡ floorOf binary64 (ofBits binary64 b) ⌝ }
 {
@@ -46,7 +46,7 @@ pub fn floor(x: f64) -> f64
         return x;
     }
     if e < 1023 {
-        return small(b);
+        return floor_below_one(b);
     }
-    cut(b, 1075 - e)
+    floor_from_one(b, 1075 - e)
 }

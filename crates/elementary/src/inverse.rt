@@ -1,5 +1,5 @@
-// The bisection of the inverse normal cdf. The middles of the next eight turns are guessed and their
-// cdf values computed side by side. A turn takes a value only where its own middle is the guessed
+// The bisection of the inverse normal cdf. The middles of the next eight steps are guessed and their
+// cdf values computed side by side. A step takes a value only where its own middle is the guessed
 // point, so nothing has to be known of a guess: a wrong one costs time only.
 use crate::cody::tilde;
 use crate::exp::exp;
@@ -19,15 +19,15 @@ ghost use Rattle.elementary.specs.Inside.Each.{Each};
 ghost use Rattle.elementary.specs.Exp.{expOf};
 ghost use Rattle.elementary.specs.Cody.{negativeSquare};
 ghost use Rattle.elementary.specs.NormalDistribution.{cdfOf, midOf, lowest, highest, endsOf};
-ghost use Rattle.elementary.specs.Inside.Turns.{After};
+ghost use Rattle.elementary.specs.Inside.Bisection.{AfterSteps};
 
-// The ends after i turns, and the cdf's values there.
-struct Ends {
+// The two ends around the result after some steps, and the cdf's values there.
+struct Bracket {
     lo: f64,
     hi: f64,
-    flo: f64,
-    fhi: f64,
-    i: u64,
+    cdf_lo: f64,
+    cdf_hi: f64,
+    steps: u64,
 }
 
 // ---- guesses
@@ -77,16 +77,16 @@ fn approximation(p: f64) -> f64 {
 }
 
 // Where the ends are close, a line through the cdf's values there meets p nearer to the result.
-fn aim(p: f64, at: Ends, guess: f64) -> f64 {
+fn refine_guess(p: f64, at: Bracket, guess: f64) -> f64 {
     if at.hi - at.lo < 1e-6 {
-        at.lo + (p - at.flo) / (at.fhi - at.flo) * (at.hi - at.lo)
+        at.lo + (p - at.cdf_lo) / (at.cdf_hi - at.cdf_lo) * (at.hi - at.lo)
     } else {
         guess
     }
 }
 
-// The next eight middles, if the result is near the guess: turn by turn.
-fn middles_in_turn(a: f64, b: f64, guess: f64) -> [f64; 8] {
+// The next eight middles, if the result is near the guess: step by step.
+fn middles_one_by_one(a: f64, b: f64, guess: f64) -> [f64; 8] {
     let mut x = [0.0; 8];
     let mut lo = a;
     let mut hi = b;
@@ -111,7 +111,7 @@ fn middle_of(a: f64, w: f64, u: f64, n: f64, share: f64) -> f64 {
     a + (u * n - 0.5 + 6755399441055744.0 - 6755399441055744.0 + 0.5) * (w * share)
 }
 
-// The same as `middles_in_turn` for a guess at u of the width w: no middle waits for another.
+// The same as `middles_one_by_one` for a guess at u of the width w: no middle waits for another.
 fn middles_at_once(a: f64, w: f64, u: f64) -> [f64; 8] {
     [
         middle_of(a, w, u, 1.0, 1.0),
@@ -135,13 +135,13 @@ fn middles(a: f64, b: f64, guess: f64) -> [f64; 8] {
             }
         }
     }
-    middles_in_turn(a, b, guess)
+    middles_one_by_one(a, b, guess)
 }
 
-// ---- turns
+// ---- steps
 
 // The cdf at mid, which is f if mid is x.
-fn known(set: RuleSet, mid: f64, x: f64, f: f64) -> f64
+fn cdf_at(set: RuleSet, mid: f64, x: f64, f: f64) -> f64
     requires { ⌜ f ≡ cdfOf set x ⌝ }
     ensures { λ r. ⌜ r ≡ cdfOf set mid ⌝ }
 {
@@ -152,39 +152,39 @@ fn known(set: RuleSet, mid: f64, x: f64, f: f64) -> f64
     }
 }
 
-// One turn, whose middle has the cdf's value v.
-fn bisection_step(set: RuleSet, p: f64, from: Ends, mid: f64, v: f64) -> Ends
-    requires { ⌜ After set p (from .lo) (from .hi) (from .i) ⌝ ∗ ⌜ from .i < 64 ⌝ ∗ ⌜ mid ≡ midOf (from .lo) (from .hi) ⌝ ∗ ⌜ v ≡ cdfOf set mid ⌝ }
-    ensures { λ r. ⌜ After set p (r .lo) (r .hi) (r .i) ⌝ ∗ ⌜ from .i < r .i ⌝ }
+// One step, whose middle has the cdf's value v.
+fn bisection_step(set: RuleSet, p: f64, from: Bracket, mid: f64, v: f64) -> Bracket
+    requires { ⌜ AfterSteps set p (from .lo) (from .hi) (from .steps) ⌝ ∗ ⌜ from .steps < 64 ⌝ ∗ ⌜ mid ≡ midOf (from .lo) (from .hi) ⌝ ∗ ⌜ v ≡ cdfOf set mid ⌝ }
+    ensures { λ r. ⌜ AfterSteps set p (r .lo) (r .hi) (r .steps) ⌝ ∗ ⌜ from .steps < r .steps ⌝ }
 {
     if v < p {
-        Ends {
+        Bracket {
             lo: mid,
             hi: from.hi,
-            flo: v,
-            fhi: from.fhi,
-            i: from.i + 1,
+            cdf_lo: v,
+            cdf_hi: from.cdf_hi,
+            steps: from.steps + 1,
         }
     } else {
-        Ends {
+        Bracket {
             lo: from.lo,
             hi: mid,
-            flo: from.flo,
-            fhi: v,
-            i: from.i + 1,
+            cdf_lo: from.cdf_lo,
+            cdf_hi: v,
+            steps: from.steps + 1,
         }
     }
 }
 
-// The turns after the first whose middles were guessed.
-fn apply_guessed_steps(set: RuleSet, p: f64, from: Ends, x: [f64; 8], f: [f64; 8]) -> Ends
-    requires { ⌜ After set p (from .lo) (from .hi) (from .i) ⌝ ∗ ⌜ Each (cdfOf set) x f ⌝ }
-    ensures { λ r. ⌜ After set p (r .lo) (r .hi) (r .i) ⌝ ∗ ⌜ from .i ≤ r .i ⌝ }
+// The steps after the first whose middles were guessed.
+fn apply_guessed_steps(set: RuleSet, p: f64, from: Bracket, x: [f64; 8], f: [f64; 8]) -> Bracket
+    requires { ⌜ AfterSteps set p (from .lo) (from .hi) (from .steps) ⌝ ∗ ⌜ Each (cdfOf set) x f ⌝ }
+    ensures { λ r. ⌜ AfterSteps set p (r .lo) (r .hi) (r .steps) ⌝ ∗ ⌜ from .steps ≤ r .steps ⌝ }
 {
     let mut at = from;
     let mut j: usize = 1;
     while j < 8 {
-        if 64 <= at.i {
+        if 64 <= at.steps {
             return at;
         }
         let mid = 0.5 * (at.lo + at.hi);
@@ -198,35 +198,35 @@ fn apply_guessed_steps(set: RuleSet, p: f64, from: Ends, x: [f64; 8], f: [f64; 8
     at
 }
 
-// One turn and up to seven more.
-fn batch(set: RuleSet, p: f64, from: Ends, guess: f64, a: f64, e: f64) -> Ends
-    requires { ⌜ After set p (from .lo) (from .hi) (from .i) ⌝ ∗ ⌜ from .i < 64 ⌝ ∗ ⌜ e ≡ expOf (negativeSquare a) ⌝ }
-    ensures { λ r. ⌜ After set p (r .lo) (r .hi) (r .i) ⌝ ∗ ⌜ from .i < r .i ⌝ }
+// One step and up to seven more.
+fn bisection_batch(set: RuleSet, p: f64, from: Bracket, guess: f64, a: f64, e: f64) -> Bracket
+    requires { ⌜ AfterSteps set p (from .lo) (from .hi) (from .steps) ⌝ ∗ ⌜ from .steps < 64 ⌝ ∗ ⌜ e ≡ expOf (negativeSquare a) ⌝ }
+    ensures { λ r. ⌜ AfterSteps set p (r .lo) (r .hi) (r .steps) ⌝ ∗ ⌜ from .steps < r .steps ⌝ }
 {
     let mid = 0.5 * (from.lo + from.hi);
     let x = middles(from.lo, from.hi, guess);
     let f = cdfs(set, x, a, e);
-    let v = known(set, mid, x[0], f[0]);
+    let v = cdf_at(set, mid, x[0], f[0]);
     apply_guessed_steps(set, p, bisection_step(set, p, from, mid, v), x, f)
 }
 
-// The 64 turns: the middle becomes lo if its cdf is below p, else hi. Where the middle is an end, no
-// later turn changes anything.
-pub(crate) fn bisected(set: RuleSet, p: f64) -> f64
+// The 64 steps: the middle becomes lo if its cdf is below p, else hi. Where the middle is an end, no
+// later step changes anything.
+pub(crate) fn bisect(set: RuleSet, p: f64) -> f64
     requires { ⌜ lt (cdfOf set lowest) p ≡ true ⌝ ∗ ⌜ lt (cdfOf set highest) p ≡ false ⌝ }
     ensures { λ r. ⌜ r ≡ endsOf set p .hi ⌝ }
 {
     let guess = approximation(p);
     let a = tilde(abs(guess * FRAC_1_SQRT_2));
     let e = exp(-a * a);
-    let mut at = Ends {
+    let mut at = Bracket {
         lo: -39.0,
         hi: 39.0,
-        flo: 0.0,
-        fhi: 1.0,
-        i: 0,
+        cdf_lo: 0.0,
+        cdf_hi: 1.0,
+        steps: 0,
     };
-    while at.i < 64 {
+    while at.steps < 64 {
         let mid = 0.5 * (at.lo + at.hi);
         if same(mid, at.lo) {
             return at.hi;
@@ -234,7 +234,7 @@ pub(crate) fn bisected(set: RuleSet, p: f64) -> f64
         if same(mid, at.hi) {
             return at.hi;
         }
-        at = batch(set, p, at, aim(p, at, guess), a, e);
+        at = bisection_batch(set, p, at, refine_guess(p, at, guess), a, e);
     }
     at.hi
 }

@@ -11,4 +11,4 @@ pub mod mul_add;
 pub mod ln; // ln and powf(1/3)
 pub mod cody; // cody/optimized.rs
 pub mod normal_distribution; // normal_distribution.rs
-mod inverse; // the bisection of the inverse normal cdf, eight turns at a time
+mod inverse; // the bisection of the inverse normal cdf, eight steps at a time

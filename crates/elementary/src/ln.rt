@@ -3,8 +3,8 @@ use crate::exp::H;
 use crate::exp::L;
 use crate::exp::exp;
 use crate::methods::is_zero;
-use crate::round::assembled;
-use crate::round::taken_apart;
+use crate::round::float_of_fields;
+use crate::round::parts_of;
 ghost use mathlib.Core.Path.{_≡_};
 ghost use Prim.Native.Nat.{_≤_, _<_, _^_};
 ghost use lib.Dec.{T};
@@ -28,7 +28,7 @@ fn series(z: f64) -> f64
 }
 
 // ln of m × 2^e, for an m near 1.
-fn near_one(m: f64, e: f64) -> f64
+fn ln_near_one(m: f64, e: f64) -> f64
     ensures { λ r. ⌜ r ≡ lnAt m e ⌝ }
 {
     let f = m - 1.0;
@@ -46,18 +46,18 @@ fn exponent(place: u64) -> f64
 }
 
 // ln of a positive finite y. Its significand is halved where it is above √2.
-fn positive(y: f64) -> f64
+fn ln_inner(y: f64) -> f64
     requires { ⌜ T (Positive.positive y) ⌝ }
     ensures { λ r. ⌜ r ≡ lnInner y ⌝ }
 {
-    let t = taken_apart(y);
-    let mut m = assembled(false, 1023, t.m - 0x10_0000_0000_0000);
+    let t = parts_of(y);
+    let mut m = float_of_fields(false, 1023, t.m - 0x10_0000_0000_0000);
     let mut place = t.e - 12;
     if m > SQRT_2 {
         m = 0.5 * m;
         place += 1;
     }
-    near_one(m, exponent(place))
+    ln_near_one(m, exponent(place))
 }
 
 // ln, with document 01's tests in their order.
@@ -76,7 +76,7 @@ pub fn ln(y: f64) -> f64
     if y == 1.0 / 0.0 {
         return 1.0 / 0.0;
     }
-    positive(y)
+    ln_inner(y)
 }
 
 // powf(1/3): +0 for a zero.

@@ -1,8 +1,8 @@
 // The normal distribution: normal_distribution.rs over document 01's rules.
 use crate::cody::erfc_under;
-use crate::cody::erfc_with;
+use crate::cody::erfc_with_factor;
 use crate::cody::smoothened_exponentials_of_negative_squares;
-use crate::inverse::bisected;
+use crate::inverse::bisect;
 use crate::methods::abs;
 use crate::rule_set::RULE_SET_0;
 use crate::rule_set::RuleSet;
@@ -15,6 +15,7 @@ ghost use Rattle.elementary.specs.NormalDistribution.{sizeOf, cdfOf, inv
 
 pub(crate) const FRAC_1_SQRT_2: f64 = 0.7071067811865476;
 
+// The cdf under any rule set.
 pub fn standard_normal_cdf_under(set: RuleSet, y: f64) -> f64
     ensures { λ r. ⌜ r ≡ cdfOf set y ⌝ }
 {
@@ -50,7 +51,7 @@ fn outer_cdfs(set: RuleSet, x: [f64; 8], a: f64, e: f64) -> [f64; 8]
     let mut r = [0.0; 8];
     let mut j: usize = 0;
     while j < 8 {
-        r[j] = 0.5 * erfc_with(set, -x[j] * FRAC_1_SQRT_2, f[j]);
+        r[j] = 0.5 * erfc_with_factor(set, -x[j] * FRAC_1_SQRT_2, f[j]);
         j += 1;
     }
     r
@@ -81,6 +82,7 @@ pub(crate) fn cdfs(set: RuleSet, x: [f64; 8], a: f64, e: f64) -> [f64; 8]
     }
 }
 
+// The inverse cdf under any rule set.
 pub fn inverse_normal_cdf_under(set: RuleSet, p: f64) -> f64
     ensures { λ r. ⌜ r ≡ inverseOf set p ⌝ }
 {
@@ -93,7 +95,7 @@ pub fn inverse_normal_cdf_under(set: RuleSet, p: f64) -> f64
     if p >= 1.0 {
         return 1.0 / 0.0;
     }
-    bisected(set, p)
+    bisect(set, p)
 }
 
 pub fn inverse_normal_cdf(p: f64) -> f64
@@ -102,6 +104,7 @@ pub fn inverse_normal_cdf(p: f64) -> f64
     inverse_normal_cdf_under(RULE_SET_0, p)
 }
 
+// inverse_f_upper_map under any rule set.
 pub fn inverse_f_upper_map_under(set: RuleSet, f: f64) -> f64
     ensures { λ r. ⌜ r ≡ inverseFUpperMapOf set f ⌝ }
 {

@@ -1,7 +1,7 @@
-// What a rule set (document 02's term) decides, carried by value through everything that it reaches.
+// What a rule set (document 02's term) decides. Every function that it concerns takes it by value.
 pub struct RuleSet {
-    // From which price on solve looks for no volatility. By the textbook it is the forward for a Call
-    // and the strike for a Put; in the Rust the strike for a Call and the forward for a Put.
+    // From which price on solve looks for no volatility: the textbook's forward for a Call and strike
+    // for a Put, or the Rust's strike for a Call and forward for a Put.
     pub textbook_cap: bool,
     // Whether erfc's exponential factor multiplies the 0 of its far arm too, which is NaN at infinity.
     pub far_factor: bool,

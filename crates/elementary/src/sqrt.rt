@@ -21,7 +21,7 @@ fn extend(g: u64, u: u64, l: u64, base: u64) -> u64
 }
 
 // The root of n, with twice the digits of g, the root of its first half.
-fn twice(n: u64, g: u64, base: u64) -> u64
+fn double_digits(n: u64, g: u64, base: u64) -> u64
     requires { ⌜ Root (n / base / base) g × (0 < base) × (base ≤ 2 * g) × (g < 2 ^ 16) ⌝ }
     ensures { λ r. ⌜ Root n r ⌝ }
 {
@@ -30,7 +30,7 @@ fn twice(n: u64, g: u64, base: u64) -> u64
 
 // The whole part of √(a * 2^44), for an a of 63 or 64 digits: 2 digits of the root, then 4, 8, 16,
 // 32 and 54.
-fn digits(a: u64) -> u64
+fn root_digits(a: u64) -> u64
     requires { ⌜ 2 ^ 62 ≤ a ⌝ }
     ensures { λ r. ⌜ Root (a * 2 ^ 44) r ⌝ }
 {
@@ -38,36 +38,36 @@ fn digits(a: u64) -> u64
     if a >= 0x9000_0000_0000_0000 {
         first = 3;
     }
-    let g4 = twice(a / 0x100_0000_0000_0000, first, 4);
-    let g8 = twice(a / 0x1_0000_0000_0000, g4, 16);
-    let g16 = twice(a / 0x1_0000_0000, g8, 256);
-    let g = twice(a, g16, 65536);
+    let g4 = double_digits(a / 0x100_0000_0000_0000, first, 4);
+    let g8 = double_digits(a / 0x1_0000_0000_0000, g4, 16);
+    let g16 = double_digits(a / 0x1_0000_0000, g8, 256);
+    let g = double_digits(a, g16, 65536);
     extend(g, (a - g * g) * 0x40_0000, 0, 0x40_0000)
 }
 
 // The root of m * 2^(e - 1) of the smallest values of an `f64`, for an m above 0. m is shifted up by
 // s so that its leading digit is the first or the second of 64 and the exponent left is even. The
 // root of that has 54 digits, one more than an `f64` holds, and is no tie.
-fn scaled(m: u64, e: u64) -> f64
+fn root_of_significand(m: u64, e: u64) -> f64
     requires { ⌜ (0 < m) × (m < 2 ^ 53) × (1 ≤ e) × (e < 2047) ⌝ }
     ensures { λ r. ⌜ r ≡ roundRoot binary64 (m * 2 ^ (e + 1073)) ⌝ }
 {
     let z = u64::leading_zeros(m) as u64;
     let s = z - (e + 1 + z) % 2;
-    let w = digits(m << s);
+    let w = root_digits(m << s);
     f64::from_bits((e + 1031 - s) / 2 * 0x10_0000_0000_0000 + (w + 1) / 2)
 }
 
 // The root of the finite positive number whose bits are b.
-fn positive(b: u64) -> f64
+fn sqrt_of_positive(b: u64) -> f64
     requires { ⌜ (0 < b) × (b < 0x7ff0_0000_0000_0000) ⌝ }
     ensures { λ r. ⌜ r ≡ sqrtOf binary64 (ofBits binary64 b) ⌝ }
 {
     let e = b / 0x10_0000_0000_0000;
     if e == 0 {
-        return scaled(b, 1);
+        return root_of_significand(b, 1);
     }
-    scaled(b % 0x10_0000_0000_0000 + 0x10_0000_0000_0000, e)
+    root_of_significand(b % 0x10_0000_0000_0000 + 0x10_0000_0000_0000, e)
 }
 
 // IEEE 754's squareRoot: a zero stays itself, a NaN and whatever is below 0 give NaN.
@@ -77,7 +77,7 @@ pub fn sqrt(x: f64) -> f64
     if x > 0.0 {
         let b = f64::to_bits(x);
         if b < 0x7ff0_0000_0000_0000 {
-            return positive(b);
+            return sqrt_of_positive(b);
         }
         return x;
     }

@@ -2,7 +2,7 @@
 use mathlib.Core.Bool.{Bool, cond, _&&_, _||_}
 use Prim.Native.Nat.{ℕ, zero, suc}
 use lib.Ieee.{Float, binary64, neg, lt, le}
-use Rattle.elementary.specs.Ops.{_⊕_, _⊖_, _⊗_, _⊘_, bits, float, +0, half, one, two, SQRT-2PI, mulAdd, MIN-POSITIVE, MAX}
+use Rattle.elementary.specs.Ops.{_⊕_, _⊖_, _⊗_, _⊘_, bits, float, +0, half, one, two, SQRT-2PI, mulAdd, MIN-POSITIVE, MAX, MIN}
 use Rattle.elementary.specs.declared.rule_set.RuleSet.{RuleSet}
 use Rattle.elementary.specs.Methods.{absOf, maxOf}
 use Rattle.elementary.specs.Sqrt.{sqrtOf}
@@ -55,33 +55,33 @@ codysOf set x s =
 
 -- The terms of the Taylor sum: each is a Horner sum in h² with coefficients a × p − q, all fused.
 
--- the innermost of a sum: a × (h² + c) − 1
-abbrev pub first : Float → Float → ℕ → Float
-first a h2 c = mulAdd a (h2 ⊕ float c) (neg one)
+-- the innermost bracket of a sum: a × (h² + c) − 1
+abbrev pub innermost : Float → Float → ℕ → Float
+innermost a h2 c = mulAdd a (h2 ⊕ float c) (neg one)
 
--- one turn further out: h² × sum + (a × p − q)
-abbrev pub turn : Float → Float → Float → ℕ → ℕ → Float
-turn a h2 sum p q = mulAdd h2 sum (mulAdd a (float p) (neg (float q)))
+-- one step further out: h² × sum + (a × p − q)
+abbrev pub hornerStep : Float → Float → Float → ℕ → ℕ → Float
+hornerStep a h2 sum p q = mulAdd h2 sum (mulAdd a (float p) (neg (float q)))
 
 -- term1 to term6, with which t², t⁴ .. t¹² are multiplied
 unfoldable pub term1 : Float → Float → Float
-term1 a h2 = first a h2 3 ⊘ float 6
+term1 a h2 = innermost a h2 3 ⊘ float 6
 
 unfoldable pub term2 : Float → Float → Float
-term2 a h2 = turn a h2 (first a h2 10) 15 7 ⊘ float 120
+term2 a h2 = hornerStep a h2 (innermost a h2 10) 15 7 ⊘ float 120
 
 unfoldable pub term3 : Float → Float → Float
-term3 a h2 = turn a h2 (turn a h2 (first a h2 21) 105 18) 105 57 ⊘ float 5040
+term3 a h2 = hornerStep a h2 (hornerStep a h2 (innermost a h2 21) 105 18) 105 57 ⊘ float 5040
 
 unfoldable pub term4 : Float → Float → Float
-term4 a h2 = turn a h2 (turn a h2 (turn a h2 (first a h2 36) 378 33) 1260 285) 945 561 ⊘ float 362880
+term4 a h2 = hornerStep a h2 (hornerStep a h2 (hornerStep a h2 (innermost a h2 36) 378 33) 1260 285) 945 561 ⊘ float 362880
 
 unfoldable pub term5 : Float → Float → Float
-term5 a h2 = turn a h2 (turn a h2 (turn a h2 (turn a h2 (first a h2 55) 990 52) 6930 840) 17325 4680) 10395 6555 ⊘ float 39916800
+term5 a h2 = hornerStep a h2 (hornerStep a h2 (hornerStep a h2 (hornerStep a h2 (innermost a h2 55) 990 52) 6930 840) 17325 4680) 10395 6555 ⊘ float 39916800
 
 unfoldable pub term6 : Float → Float → Float
 term6 a h2 =
-    turn a h2 (turn a h2 (turn a h2 (turn a h2 (turn a h2 (first a h2 78) 2145 75) 25740 1926) 135135 20370) 270270 82845) 135135 89055 ⊘ float 6227020800
+    hornerStep a h2 (hornerStep a h2 (hornerStep a h2 (hornerStep a h2 (hornerStep a h2 (innermost a h2 78) 2145 75) 25740 1926) 135135 20370) 270270 82845) 135135 89055 ⊘ float 6227020800
 
 -- the sum over the powers of t², from the smallest term
 unfoldable pub taylorOf : Float → Float → Float → Float
@@ -108,13 +108,13 @@ smallTInner h t =
 unfoldable pub smallTOf : Float → Float → Answer
 smallTOf h t = let inner = smallTInner h t in cond (le SMALL-T t) (Refused 8) (Value inner)
 
--- y after n turns from i, with the sign of the next term: the sum gets ± the term, which is then multiplied by z² over (2 i + 2) (2 i + 3).
--- The Rust also carries a factorial through the turns, which nothing reads.
-unfoldable pub seriesTurns : ℕ → ℕ → Float → Float → Float → Float → Float
-seriesTurns zero i z2 y sign term = y
-seriesTurns (suc n) i z2 y sign term =
+-- y after n more terms from i on, with the sign of the next term: the sum gets ± the term, which is then multiplied by z² over (2 i + 2) (2 i + 3).
+-- The Rust also carries a factorial along, which nothing reads.
+unfoldable pub seriesTerms : ℕ → ℕ → Float → Float → Float → Float → Float
+seriesTerms zero i z2 y sign term = y
+seriesTerms (suc n) i z2 y sign term =
     let factor = (two ⊗ float i ⊕ two) ⊗ (two ⊗ float i ⊕ float 3) in
-    seriesTurns n (suc i) z2 (y ⊕ sign ⊗ term) (neg sign) (term ⊗ (z2 ⊘ factor))
+    seriesTerms n (suc i) z2 (y ⊕ sign ⊗ term) (neg sign) (term ⊗ (z2 ⊘ factor))
 
 -- Y(z): 1/z − 1/z³ + 3/z⁵ and the 15 terms of i from 3 to 17
 unfoldable pub seriesOf : Float → Float
@@ -122,7 +122,7 @@ seriesOf z =
     let z2 = z ⊗ z in
     let y = one ⊘ z ⊖ one ⊘ (z2 ⊗ z) ⊕ float 3 ⊘ (z2 ⊗ z2 ⊗ z) in
     let term = one ⊘ (float 15 ⊗ z2 ⊗ z2 ⊗ z) in
-    seriesTurns 15 3 z2 y (neg one) term
+    seriesTerms 15 3 z2 y (neg one) term
 
 -- the asymptotic expansion, with no test of its region
 unfoldable pub asymptoticInner : Float → Float → Float
@@ -130,13 +130,13 @@ asymptoticInner h t =
     let exp-term = expOf (mulAdd (neg half) (h ⊗ h) (neg half ⊗ t ⊗ t)) in
     absOf (exp-term ⊗ (seriesOf (h ⊕ t) ⊖ seriesOf (h ⊖ t)) ⊘ SQRT-2PI)
 
--- outside of the expansion's region
-abbrev pub isOutside : Float → Float → Bool
-isOutside h t = lt H-LARGE h || le (absOf h ⊖ absOf H-LARGE ⊕ SMALL-T) t
+-- outside of the asymptotic expansion's region
+abbrev pub isOutsideAsymptoticRegion : Float → Float → Bool
+isOutsideAsymptoticRegion h t = lt H-LARGE h || le (absOf h ⊖ absOf H-LARGE ⊕ SMALL-T) t
 
 -- asymptotic_expansion_of_normalised_black_call: 7 outside of its region
 unfoldable pub asymptoticOf : Float → Float → Answer
-asymptoticOf h t = let inner = asymptoticInner h t in cond (isOutside h t) (Refused 7) (Value inner)
+asymptoticOf h t = let inner = asymptoticInner h t in cond (isOutsideAsymptoticRegion h t) (Refused 7) (Value inner)
 
 -- normalised_black_call_using_erfcx
 unfoldable pub usingErfcxOf : Float → Float → Float
@@ -163,16 +163,16 @@ outOfTheMoney set x s =
     let region = regionOf set x s in
     cond (le s (absOf x ⊗ +0)) intrinsic region
 
--- a value with an amount added; a refusal passes up
-abbrev pub added : Float → Answer → Answer
-added amount (Value b) = Value (amount ⊕ b)
-added amount (Refused n) = Refused n
+-- the sum of an amount and a value; a refusal passes up
+abbrev pub plus : Float → Answer → Answer
+plus amount (Value b) = Value (amount ⊕ b)
+plus amount (Refused n) = Refused n
 
 -- In the money the price is the intrinsic value and the price at −x, which is out of the money: the rule calls itself once, and the depth falls.
 unfoldable pub callAt : ℕ → RuleSet → Float → Float → Answer
 callAt zero set x s = outOfTheMoney set x s
 callAt (suc depth) set x s =
-    let mapped = added (intrinsicOf x Call) (callAt depth set (neg x) s) in
+    let mapped = plus (intrinsicOf x Call) (callAt depth set (neg x) s) in
     let direct = outOfTheMoney set x s in
     cond (lt +0 x) mapped direct
 
@@ -192,26 +192,26 @@ isPositiveNormal x = le MIN-POSITIVE x && le x MAX
 
 -- neither infinite nor NaN
 abbrev pub isFinite : Float → Bool
-isFinite x = le (neg MAX) x && le x MAX
+isFinite x = le MIN x && le x MAX
 
--- the greater of an amount and a multiple of a value; a refusal passes up
-abbrev pub scaledUp : Float → Float → Answer → Answer
-scaledUp amount factor (Value b) = Value (maxOf amount (factor ⊗ b))
-scaledUp amount factor (Refused n) = Refused n
+-- the price is the factor times the normalised one, and not below the intrinsic value; a refusal passes up
+abbrev pub priceFromNormalised : Float → Float → Answer → Answer
+priceFromNormalised intrinsic factor (Value b) = Value (maxOf intrinsic (factor ⊗ b))
+priceFromNormalised intrinsic factor (Refused n) = Refused n
 
 -- black's price out of the money, of an accepted input
 unfoldable pub priceOf : RuleSet → Float → Float → Float → Float → OptionType → Answer
 priceOf set forward strike sigma expiry kind =
     let intrinsic = maxOf (times kind (forward ⊖ strike)) +0 in
     let factor = sqrtOf binary64 forward ⊗ sqrtOf binary64 strike in
-    scaledUp intrinsic factor (normalisedBlackOf set (lnOf (forward ⊘ strike)) (sigma ⊗ sqrtOf binary64 expiry) kind)
+    priceFromNormalised intrinsic factor (normalisedBlackOf set (lnOf (forward ⊘ strike)) (sigma ⊗ sqrtOf binary64 expiry) kind)
 
 -- black's price of an accepted input: in the money mapped to out of the money, once
 unfoldable pub blackAt : ℕ → RuleSet → Float → Float → Float → Float → OptionType → Answer
 blackAt zero set forward strike sigma expiry kind = priceOf set forward strike sigma expiry kind
 blackAt (suc depth) set forward strike sigma expiry kind =
     let signed-diff = times kind (forward ⊖ strike) in
-    let mapped = added (maxOf signed-diff +0) (blackAt depth set forward strike sigma expiry (negated kind)) in
+    let mapped = plus (maxOf signed-diff +0) (blackAt depth set forward strike sigma expiry (negated kind)) in
     let direct = priceOf set forward strike sigma expiry kind in
     cond (lt +0 signed-diff) mapped direct
 

@@ -13,7 +13,7 @@ use Rattle.prices.specs.declared.inputs.OptionType.the-variants.{Call}
 use Rattle.prices.specs.Inputs.{negated, times}
 use Rattle.prices.specs.Answers.{numberOf, isValue}
 use Rattle.prices.specs.Intrinsic.{intrinsicOf}
-use Rattle.prices.specs.Black.{SMALL-T, smallTOf, isOutside, asymptoticOf, outOfTheMoney, added, callOf, isPositiveNormal, isFinite, priceOf, blackOf}
+use Rattle.prices.specs.Black.{SMALL-T, smallTOf, isOutsideAsymptoticRegion, asymptoticOf, outOfTheMoney, plus, callOf, isPositiveNormal, isFinite, priceOf, blackOf}
 use Rattle.prices.specs.RationalCubic.{isInfinite, interpolationOf}
 
 -- ---- which number comes out
@@ -24,7 +24,7 @@ Small-t-number = (h t : Float) → numberOf (smallTOf h t) ≡ cond (le SMALL-T 
 
 -- The asymptotic expansion gives 7 exactly outside of its region, and a price elsewhere.
 abbrev pub Asymptotic-number : Type 0
-Asymptotic-number = (h t : Float) → numberOf (asymptoticOf h t) ≡ cond (isOutside h t) 7 0
+Asymptotic-number = (h t : Float) → numberOf (asymptoticOf h t) ≡ cond (isOutsideAsymptoticRegion h t) 7 0
 
 -- The cubic gives 6 exactly for an infinite x, x_l or x_r, and a value elsewhere.
 abbrev pub Cubic-number : Type 0
@@ -69,14 +69,14 @@ pub record Black-order : Type 0 where
   pub then-expiry : (set : RuleSet) (forward strike sigma expiry : Float) (kind : OptionType) → isPositiveNormal forward ≡ true → isPositiveNormal strike ≡ true
       → isFinite sigma ≡ true → isPositiveNormal expiry ≡ false → numberOf (blackOf set forward strike sigma expiry kind) ≡ 4
   -- else a price or 7
-  pub else-priced : (set : RuleSet) (forward strike sigma expiry : Float) (kind : OptionType) → isPositiveNormal forward ≡ true → isPositiveNormal strike ≡ true
+  pub else-price : (set : RuleSet) (forward strike sigma expiry : Float) (kind : OptionType) → isPositiveNormal forward ≡ true → isPositiveNormal strike ≡ true
       → isFinite sigma ≡ true → isPositiveNormal expiry ≡ true → Is-0-or-7 (numberOf (blackOf set forward strike sigma expiry kind))
 
 -- ---- the Rust's recursion
 
 -- In the money normalised_black_call is the intrinsic value and its own price at −x; elsewhere it is the price out of the money.
 abbrev pub Call-recursion : Type 0
-Call-recursion = (set : RuleSet) (x s : Float) → callOf set x s ≡ cond (lt +0 x) (added (intrinsicOf x Call) (callOf set (neg x) s)) (outOfTheMoney set x s)
+Call-recursion = (set : RuleSet) (x s : Float) → callOf set x s ≡ cond (lt +0 x) (plus (intrinsicOf x Call) (callOf set (neg x) s)) (outOfTheMoney set x s)
 
 -- Call or Put times the difference of forward and strike, as black computes it
 abbrev pub signedDiff : Float → Float → OptionType → Float
@@ -86,7 +86,7 @@ signedDiff forward strike kind = times kind (forward ⊖ strike)
 pub record Black-recursion : Type 0 where
   -- in the money it is the intrinsic amount and its own price of the other kind, or that one's refusal
   pub in-the-money : (set : RuleSet) (forward strike sigma expiry : Float) (kind : OptionType) → lt +0 (signedDiff forward strike kind) ≡ true
-      → blackOf set forward strike sigma expiry kind ≡ added (maxOf (signedDiff forward strike kind) +0) (blackOf set forward strike sigma expiry (negated kind))
+      → blackOf set forward strike sigma expiry kind ≡ plus (maxOf (signedDiff forward strike kind) +0) (blackOf set forward strike sigma expiry (negated kind))
   -- the other kind is not in the money, so that the recursion ends there
   pub ends : (forward strike : Float) (kind : OptionType) → lt +0 (signedDiff forward strike kind) ≡ true → lt +0 (signedDiff forward strike (negated kind)) ≡ false
   -- elsewhere an accepted input has the price out of the money

@@ -74,16 +74,16 @@ minimumParameterOf d-l d-r s prefer =
     cond (monotonic || curved) (maxOf MINIMUM (maxOf (monotonicParameter monotonic d-l d-r s prefer) (shapeParameter curved monotonic d-l d-r s prefer))) MINIMUM
 
 -- what the second derivative is divided by, at either side
-abbrev pub sideOf : Side → Float → Float → Float → Float
-sideOf Left slope d-l d-r = slope ⊖ d-l
-sideOf Right slope d-l d-r = d-r ⊖ slope
+abbrev pub denominatorAt : Side → Float → Float → Float → Float
+denominatorAt Left slope d-l d-r = slope ⊖ d-l
+denominatorAt Right slope d-l d-r = d-r ⊖ slope
 
 -- rational_cubic_control_parameter: the parameter that fits the second derivative at one side
 unfoldable pub controlParameterOf : Float → Float → Float → Float → Float → Float → Float → Side → Float
 controlParameterOf x-l x-r y-l y-r d-l d-r second-derivative side =
     let h = x-r ⊖ x-l in
     let numerator = half ⊗ mulAdd second-derivative h (d-r ⊖ d-l) in
-    let denominator = sideOf side ((y-r ⊖ y-l) ⊘ h) d-l d-r in
+    let denominator = denominatorAt side ((y-r ⊖ y-l) ⊘ h) d-l d-r in
     cond (isZero numerator) +0
     (cond (isZero denominator || isInfinite denominator) (cond (lt +0 numerator) MAXIMUM MINIMUM) (numerator ⊘ denominator))
 

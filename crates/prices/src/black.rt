@@ -1,10 +1,15 @@
-// The normalised Black price: black.rs, line by line, and `black` of mod.rs.
+// The normalised Black price: black.rs, line by line, and `black` of mod.rs. A function whose name ends
+// in `_under` takes the rule set; the Rust's own names stand for rule set 0.
 use crate::answer::Answer;
 use crate::inputs::OptionType;
 use crate::intrinsic::normalised_intrinsic;
+use crate::refusals;
 use elementary::cody::erfc_under;
 use elementary::cody::erfcx;
 use elementary::exp::exp;
+use elementary::limits::MAX;
+use elementary::limits::MIN;
+use elementary::limits::MIN_POSITIVE;
 use elementary::ln::ln;
 use elementary::methods::abs;
 use elementary::methods::max;
@@ -20,7 +25,7 @@ ghost use Rattle.elementary.specs.RuleSets.{rule-set-0};
 ghost use Rattle.elementary.specs.Ops.{_⊕_, _⊗_, +0, half, one, mulAdd};
 ghost use Rattle.elementary.specs.Methods.{maxOf};
 ghost use Rattle.elementary.specs.Exp.{expOf};
-ghost use Rattle.prices.specs.Black.{bell as bellOf, turn as turnOf, term1 as term1Of, term2 as term2Of, term3 as term3Of, term4 as term4Of, term5 as term5Of, term6 as term6Of, taylorOf, smallTInner, smallTOf, seriesTurns, seriesOf, asymptoticInner, asymptoticOf, usingErfcxOf, codysOf, isOutside, isAsymptotic, regionOf, outOfTheMoney, added, callAt, callOf, normalisedBlackOf, isPositiveNormal, isFinite, scaledUp, priceOf, blackAt, blackOf};
+ghost use Rattle.prices.specs.Black.{bell as bellOf, hornerStep, term1 as term1Of, term2 as term2Of, term3 as term3Of, term4 as term4Of, term5 as term5Of, term6 as term6Of, taylorOf, smallTInner, smallTOf, seriesTerms, seriesOf, asymptoticInner, asymptoticOf, usingErfcxOf, codysOf, isOutsideAsymptoticRegion, isAsymptotic, regionOf, outOfTheMoney, plus as plusOf, callAt, callOf, normalisedBlackOf, isPositiveNormal, isFinite, priceFromNormalised, priceOf, blackAt, blackOf};
 ghost use Rattle.prices.specs.Inside.Exponentials.{twoBWith};
 
 // The threshold of the asymptotic expansion, and H_LARGE.
@@ -63,17 +68,17 @@ fn two_b(set: RuleSet, up: f64, down: f64, exp_term: f64, q1: f64, q2: f64) -> f
 }
 
 // Cody's price, from the same exponentials.
-pub(crate) fn codys(set: RuleSet, up: f64, down: f64, exp_term: f64, q1: f64, q2: f64) -> f64
+pub(crate) fn codys_price(set: RuleSet, up: f64, down: f64, exp_term: f64, q1: f64, q2: f64) -> f64
     ensures { λ r. ⌜ r ≡ maxOf (half ⊗ twoBWith set up down «exp_term» q1 q2) +0 ⌝ }
 {
     max(0.5 * two_b(set, up, down, exp_term, q1, q2), 0.0)
 }
 
-// exp(y) where it is asked for.
-fn exp_where(asked: bool, y: f64) -> f64
-    ensures { λ r. ⌜ r ≡ cond asked (expOf y) +0 ⌝ }
+// exp(y) where the condition holds, else 0, which nobody reads.
+fn exp_if(condition: bool, y: f64) -> f64
+    ensures { λ r. ⌜ r ≡ cond condition (expOf y) +0 ⌝ }
 {
-    if asked { exp(y) } else { 0.0 }
+    if condition { exp(y) } else { 0.0 }
 }
 
 // exp(−(h² + t²) / 2) is read where not both terms have erfc.
@@ -97,10 +102,10 @@ pub fn normalised_black_call_with_optimal_use_of_codys_functions_under(
     let q2 = MINUS_FRAC_1_SQRT_2 * (h - t);
     let first_erfc = q1 < CODYS_THRESHOLD;
     let second_erfc = q2 < CODYS_THRESHOLD;
-    let up = exp_where(first_erfc, 0.5 * x);
-    let down = exp_where(second_erfc, -0.5 * x);
-    let exp_term = exp_where(not_both(first_erfc, second_erfc), -0.5 * (h * h + t * t));
-    codys(set, up, down, exp_term, q1, q2)
+    let up = exp_if(first_erfc, 0.5 * x);
+    let down = exp_if(second_erfc, -0.5 * x);
+    let exp_term = exp_if(not_both(first_erfc, second_erfc), -0.5 * (h * h + t * t));
+    codys_price(set, up, down, exp_term, q1, q2)
 }
 
 pub fn normalised_black_call_with_optimal_use_of_codys_functions(x: f64, s: f64) -> f64
@@ -111,14 +116,16 @@ pub fn normalised_black_call_with_optimal_use_of_codys_functions(x: f64, s: f64)
 
 // ---- the Taylor sum for a small t
 
-fn first(a: f64, h2: f64, c: f64) -> f64
+// The innermost bracket of a Horner sum in h².
+fn innermost(a: f64, h2: f64, c: f64) -> f64
     ensures { λ r. ⌜ r ≡ mulAdd a (h2 ⊕ c) (neg one) ⌝ }
 {
     mul_add(a, h2 + c, -1.0)
 }
 
-fn turn(a: f64, h2: f64, sum: f64, p: u32, q: u32) -> f64
-    ensures { λ r. ⌜ r ≡ turnOf a h2 sum p q ⌝ }
+// One step further out.
+fn horner_step(a: f64, h2: f64, sum: f64, p: u32, q: u32) -> f64
+    ensures { λ r. ⌜ r ≡ hornerStep a h2 sum p q ⌝ }
 {
     mul_add(h2, sum, mul_add_whole(a, p, q))
 }
@@ -126,47 +133,47 @@ fn turn(a: f64, h2: f64, sum: f64, p: u32, q: u32) -> f64
 fn term1(a: f64, h2: f64) -> f64
     ensures { λ r. ⌜ r ≡ term1Of a h2 ⌝ }
 {
-    first(a, h2, 3.0) / 6.0
+    innermost(a, h2, 3.0) / 6.0
 }
 
 fn term2(a: f64, h2: f64) -> f64
     ensures { λ r. ⌜ r ≡ term2Of a h2 ⌝ }
 {
-    turn(a, h2, first(a, h2, 10.0), 15, 7) / 120.0
+    horner_step(a, h2, innermost(a, h2, 10.0), 15, 7) / 120.0
 }
 
 fn term3(a: f64, h2: f64) -> f64
     ensures { λ r. ⌜ r ≡ term3Of a h2 ⌝ }
 {
-    let sum = turn(a, h2, first(a, h2, 21.0), 105, 18);
-    turn(a, h2, sum, 105, 57) / 5040.0
+    let sum = horner_step(a, h2, innermost(a, h2, 21.0), 105, 18);
+    horner_step(a, h2, sum, 105, 57) / 5040.0
 }
 
 fn term4(a: f64, h2: f64) -> f64
     ensures { λ r. ⌜ r ≡ term4Of a h2 ⌝ }
 {
-    let sum = turn(a, h2, first(a, h2, 36.0), 378, 33);
-    let sum = turn(a, h2, sum, 1260, 285);
-    turn(a, h2, sum, 945, 561) / 362880.0
+    let sum = horner_step(a, h2, innermost(a, h2, 36.0), 378, 33);
+    let sum = horner_step(a, h2, sum, 1260, 285);
+    horner_step(a, h2, sum, 945, 561) / 362880.0
 }
 
 fn term5(a: f64, h2: f64) -> f64
     ensures { λ r. ⌜ r ≡ term5Of a h2 ⌝ }
 {
-    let sum = turn(a, h2, first(a, h2, 55.0), 990, 52);
-    let sum = turn(a, h2, sum, 6930, 840);
-    let sum = turn(a, h2, sum, 17325, 4680);
-    turn(a, h2, sum, 10395, 6555) / 39916800.0
+    let sum = horner_step(a, h2, innermost(a, h2, 55.0), 990, 52);
+    let sum = horner_step(a, h2, sum, 6930, 840);
+    let sum = horner_step(a, h2, sum, 17325, 4680);
+    horner_step(a, h2, sum, 10395, 6555) / 39916800.0
 }
 
 fn term6(a: f64, h2: f64) -> f64
     ensures { λ r. ⌜ r ≡ term6Of a h2 ⌝ }
 {
-    let sum = turn(a, h2, first(a, h2, 78.0), 2145, 75);
-    let sum = turn(a, h2, sum, 25740, 1926);
-    let sum = turn(a, h2, sum, 135135, 20370);
-    let sum = turn(a, h2, sum, 270270, 82845);
-    turn(a, h2, sum, 135135, 89055) / 6227020800.0
+    let sum = horner_step(a, h2, innermost(a, h2, 78.0), 2145, 75);
+    let sum = horner_step(a, h2, sum, 25740, 1926);
+    let sum = horner_step(a, h2, sum, 135135, 20370);
+    let sum = horner_step(a, h2, sum, 270270, 82845);
+    horner_step(a, h2, sum, 135135, 89055) / 6227020800.0
 }
 
 // The terms by the powers of t², from the smallest.
@@ -202,7 +209,7 @@ pub fn small_t_expansion_of_normalised_black_call(h: f64, t: f64) -> Answer
     ensures { λ r. ⌜ r ≡ smallTOf h t ⌝ }
 {
     if t >= SMALL_T {
-        return Answer::Refused(8);
+        return Answer::Refused(refusals::T_TOO_LARGE);
     }
     Answer::Value(small_t(h, t, bell(h, t)))
 }
@@ -210,8 +217,8 @@ pub fn small_t_expansion_of_normalised_black_call(h: f64, t: f64) -> Answer
 // ---- the asymptotic sum
 
 // The 15 terms after 3/z⁵, which are not the paper's.
-fn series_turns(z2: f64, start: f64, first: f64) -> f64
-    ensures { λ r. ⌜ r ≡ seriesTurns 15 3 z2 start (neg one) first ⌝ }
+fn series_terms(z2: f64, start: f64, first: f64) -> f64
+    ensures { λ r. ⌜ r ≡ seriesTerms 15 3 z2 start (neg one) first ⌝ }
 {
     let mut y = start;
     let mut sign = -1.0;
@@ -233,7 +240,7 @@ fn series(z: f64) -> f64
 {
     let z2 = z * z;
     let y = 1.0 / z - 1.0 / (z2 * z) + 3.0 / (z2 * z2 * z);
-    series_turns(z2, y, 1.0 / (15.0 * z2 * z2 * z))
+    series_terms(z2, y, 1.0 / (15.0 * z2 * z2 * z))
 }
 
 pub(crate) fn asymptotic(h: f64, t: f64) -> f64
@@ -244,22 +251,18 @@ pub(crate) fn asymptotic(h: f64, t: f64) -> f64
     abs(exp_term * diff_y / SQRT_2PI)
 }
 
-// Whether document 01's 7 is met.
-pub(crate) fn is_outside(h: f64, t: f64) -> bool
-    ensures { λ r. ⌜ r ≡ isOutside h t ⌝ }
+// Whether the asymptotic expansion answers document 01's 7.
+pub(crate) fn is_outside_asymptotic_region(h: f64, t: f64) -> bool
+    ensures { λ r. ⌜ r ≡ isOutsideAsymptoticRegion h t ⌝ }
 {
-    if h > H_LARGE {
-        true
-    } else {
-        t >= abs(h) - abs(H_LARGE) + SMALL_T
-    }
+    h > H_LARGE || t >= abs(h) - abs(H_LARGE) + SMALL_T
 }
 
 pub fn asymptotic_expansion_of_normalised_black_call(h: f64, t: f64) -> Answer
     ensures { λ r. ⌜ r ≡ asymptoticOf h t ⌝ }
 {
-    if is_outside(h, t) {
-        return Answer::Refused(7);
+    if is_outside_asymptotic_region(h, t) {
+        return Answer::Refused(refusals::OUTSIDE_ASYMPTOTIC_REGION);
     }
     Answer::Value(asymptotic(h, t))
 }
@@ -273,17 +276,14 @@ pub fn normalised_black_call_using_erfcx(h: f64, t: f64) -> f64
 
 // ---- the price
 
-// Whether the asymptotic expansion serves: h below −10 and t small, told without a division by s.
+// Whether the asymptotic expansion serves: h below −10 and t small, by a test without a division by s.
 pub(crate) fn is_asymptotic(x: f64, s: f64) -> bool
     ensures { λ r. ⌜ r ≡ isAsymptotic x s ⌝ }
 {
-    if x < s * H_LARGE {
-        0.5 * s * s + x < s * (SMALL_T + H_LARGE)
-    } else {
-        false
-    }
+    x < s * H_LARGE && 0.5 * s * s + x < s * (SMALL_T + H_LARGE)
 }
 
+// The price by the formula of the region that x and s lie in.
 fn region(set: RuleSet, x: f64, s: f64) -> Answer
     ensures { λ r. ⌜ r ≡ regionOf set x s ⌝ }
 {
@@ -307,9 +307,9 @@ fn out_of_the_money(set: RuleSet, x: f64, s: f64) -> Answer
     region(set, x, s)
 }
 
-// A value with an amount added; a refusal passes up.
+// The sum of an amount and a value; a refusal passes up.
 fn plus(amount: f64, price: Answer) -> Answer
-    ensures { λ r. ⌜ r ≡ added amount price ⌝ }
+    ensures { λ r. ⌜ r ≡ plusOf amount price ⌝ }
 {
     match price {
         Answer::Value(b) => Answer::Value(amount + b),
@@ -361,30 +361,23 @@ pub fn normalised_black(x: f64, s: f64, option_type: OptionType) -> Answer
 pub fn is_positive_normal(x: f64) -> bool
     ensures { λ r. ⌜ r ≡ isPositiveNormal x ⌝ }
 {
-    if x >= 2.2250738585072014e-308 {
-        x <= 1.7976931348623157e308
-    } else {
-        false
-    }
+    x >= MIN_POSITIVE && x <= MAX
 }
 
 // Not so for document 01's 1 and 5.
 pub fn is_finite(x: f64) -> bool
     ensures { λ r. ⌜ r ≡ isFinite x ⌝ }
 {
-    if x >= -1.7976931348623157e308 {
-        x <= 1.7976931348623157e308
-    } else {
-        false
-    }
+    x >= MIN && x <= MAX
 }
 
-// The greater of an amount and a multiple of a value; a refusal passes up.
-fn at_least(amount: f64, factor: f64, price: Answer) -> Answer
-    ensures { λ r. ⌜ r ≡ scaledUp amount factor price ⌝ }
+// The price is the factor times the normalised one, and not below the intrinsic value; a refusal
+// passes up.
+fn price_from_normalised(intrinsic: f64, factor: f64, price: Answer) -> Answer
+    ensures { λ r. ⌜ r ≡ priceFromNormalised intrinsic factor price ⌝ }
 {
     match price {
-        Answer::Value(b) => Answer::Value(max(amount, factor * b)),
+        Answer::Value(b) => Answer::Value(max(intrinsic, factor * b)),
         Answer::Refused(n) => Answer::Refused(n),
     }
 }
@@ -402,11 +395,8 @@ fn price(
     let intrinsic = max(option_type.times(forward - strike), 0.0);
     let factor = sqrt(forward) * sqrt(strike);
     let x = ln(forward / strike);
-    at_least(
-        intrinsic,
-        factor,
-        normalised_black_under(set, x, sigma * sqrt(expiry), option_type),
-    )
+    let b = normalised_black_under(set, x, sigma * sqrt(expiry), option_type);
+    price_from_normalised(intrinsic, factor, b)
 }
 
 // In the money is mapped to out of the money, once.
@@ -426,19 +416,9 @@ fn black_at(
     }
     let signed_diff = option_type.times(forward - strike);
     if signed_diff > 0.0 {
-        let intrinsic = max(signed_diff, 0.0);
-        return plus(
-            intrinsic,
-            black_at(
-                set,
-                depth - 1,
-                forward,
-                strike,
-                sigma,
-                expiry,
-                option_type.neg(),
-            ),
-        );
+        let other = option_type.neg();
+        let mapped = black_at(set, depth - 1, forward, strike, sigma, expiry, other);
+        return plus(max(signed_diff, 0.0), mapped);
     }
     price(set, forward, strike, sigma, expiry, option_type)
 }
@@ -447,35 +427,27 @@ fn black_at(
 // asymptotic region's edge disagree.
 pub fn black_under(
     set: RuleSet,
-    forward_price: f64,
-    strike_price: f64,
+    forward: f64,
+    strike: f64,
     sigma: f64,
-    time_to_maturity: f64,
+    expiry: f64,
     option_type: OptionType,
 ) -> Answer
-    ensures { λ r. ⌜ r ≡ blackOf set «forward_price» «strike_price» sigma «time_to_maturity» «option_type» ⌝ }
+    ensures { λ r. ⌜ r ≡ blackOf set forward strike sigma expiry «option_type» ⌝ }
 {
-    if is_positive_normal(forward_price) {
-        if is_positive_normal(strike_price) {
-            if is_finite(sigma) {
-                if is_positive_normal(time_to_maturity) {
-                    return black_at(
-                        set,
-                        1,
-                        forward_price,
-                        strike_price,
-                        sigma,
-                        time_to_maturity,
-                        option_type,
-                    );
-                }
-                return Answer::Refused(4);
-            }
-            return Answer::Refused(5);
-        }
-        return Answer::Refused(3);
+    if !is_positive_normal(forward) {
+        return Answer::Refused(refusals::FORWARD);
     }
-    Answer::Refused(2)
+    if !is_positive_normal(strike) {
+        return Answer::Refused(refusals::STRIKE);
+    }
+    if !is_finite(sigma) {
+        return Answer::Refused(refusals::SIGMA);
+    }
+    if !is_positive_normal(expiry) {
+        return Answer::Refused(refusals::EXPIRY);
+    }
+    black_at(set, 1, forward, strike, sigma, expiry, option_type)
 }
 
 pub fn black(

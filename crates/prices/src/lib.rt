@@ -2,6 +2,7 @@
 // its definition in specs/.
 pub mod inputs; // `OptionType` of inputs.rs
 pub mod answer; // what may be refused
+pub mod refusals; // document 01's numbers
 pub mod intrinsic; // intrinsic.rs
 pub mod vega; // `normalised_vega` of so_rational.rs
 pub mod black; // black.rs, and `black` of mod.rs

@@ -5,23 +5,23 @@ use crate::black::MINUS_FRAC_1_SQRT_2;
 use crate::black::SMALL_T;
 use crate::black::asymptotic;
 use crate::black::bell;
-use crate::black::codys;
+use crate::black::codys_price;
 use crate::black::is_asymptotic;
-use crate::black::is_outside;
+use crate::black::is_outside_asymptotic_region;
 use crate::black::normalised_black_call_under;
 use crate::black::small_t;
 use crate::inputs::OptionType;
 use crate::intrinsic::normalised_intrinsic;
+use crate::refusals;
 use crate::vega::normalised_vega;
 use crate::vega::vega_with;
 use elementary::methods::abs;
 use elementary::rule_set::RuleSet;
 ghost use mathlib.Core.Path.{_≡_};
-ghost use Rattle.elementary.specs.Ops.{_⊗_, _⊘_, half};
 ghost use Rattle.prices.specs.declared.answer.Answer.the-variants.{Value};
 ghost use Rattle.prices.specs.Vega.{vegaOf};
-ghost use Rattle.prices.specs.Black.{bell as bellOf, asymptoticOf};
-ghost use Rattle.prices.specs.Inside.Exponentials.{regionWith, outOfTheMoneyWith, callWith};
+ghost use Rattle.prices.specs.Black.{asymptoticOf};
+ghost use Rattle.prices.specs.Inside.Exponentials.{outOfTheMoneyWith, callWith};
 ghost use Rattle.prices.specs.Inside.Point.{priceAndVega};
 
 // Document 01's number, 0 where there is a price.
@@ -32,7 +32,7 @@ pub struct PriceAndVega {
 }
 
 // A price, with no number.
-fn priced(price: f64, vega: f64) -> PriceAndVega
+fn with_price(price: f64, vega: f64) -> PriceAndVega
     ensures { λ r. ⌜ r ≡ priceAndVega (Value price) vega ⌝ }
 {
     PriceAndVega {
@@ -42,12 +42,12 @@ fn priced(price: f64, vega: f64) -> PriceAndVega
     }
 }
 
-// What an answer says, beside a vega.
-fn told(answer: Answer, vega: f64) -> PriceAndVega
+// The price or the number of an answer, beside a vega.
+fn price_and_vega_from(answer: Answer, vega: f64) -> PriceAndVega
     ensures { λ r. ⌜ r ≡ priceAndVega answer vega ⌝ }
 {
     match answer {
-        Answer::Value(b) => priced(b, vega),
+        Answer::Value(b) => with_price(b, vega),
         Answer::Refused(n) => PriceAndVega {
             number: n,
             price: 0.0,
@@ -60,60 +60,37 @@ fn told(answer: Answer, vega: f64) -> PriceAndVega
 fn in_asymptotic_region(h: f64, t: f64, vega: f64) -> PriceAndVega
     ensures { λ r. ⌜ r ≡ priceAndVega (asymptoticOf h t) vega ⌝ }
 {
-    if is_outside(h, t) {
+    if is_outside_asymptotic_region(h, t) {
         return PriceAndVega {
-            number: 7,
+            number: refusals::OUTSIDE_ASYMPTOTIC_REGION,
             price: 0.0,
             vega,
         };
     }
-    priced(asymptotic(h, t), vega)
+    with_price(asymptotic(h, t), vega)
 }
 
-// The three regions of normalised_black_call.
-fn in_region(
-    set: RuleSet,
-    x: f64,
-    s: f64,
-    up: f64,
-    down: f64,
-    exp_term: f64,
-    vega: f64,
-) -> PriceAndVega
-    requires { ⌜ «exp_term» ≡ bellOf (x ⊘ s) (half ⊗ s) ⌝ }
-    ensures { λ r. ⌜ r ≡ priceAndVega (regionWith set up down x s) vega ⌝ }
+// The three regions of normalised_black_call, after the test that makes the price intrinsic: s is 0 or
+// below and x is finite. At an infinite x the product is NaN and the test fails.
+fn out_of_the_money(set: RuleSet, x: f64, s: f64, up: f64, down: f64) -> PriceAndVega
+    ensures { λ r. ⌜ r ≡ priceAndVega (outOfTheMoneyWith set up down x s) (vegaOf x s) ⌝ }
 {
     let h = x / s;
     let t = 0.5 * s;
+    let exp_term = bell(h, t);
+    let vega = vega_with(x, s, exp_term);
+    if s <= abs(x) * 0.0 {
+        return with_price(normalised_intrinsic(x, OptionType::Call), vega);
+    }
     if is_asymptotic(x, s) {
         return in_asymptotic_region(h, t, vega);
     }
     if t < SMALL_T {
-        return priced(small_t(h, t, exp_term), vega);
+        return with_price(small_t(h, t, exp_term), vega);
     }
     let q1 = MINUS_FRAC_1_SQRT_2 * (h + t);
     let q2 = MINUS_FRAC_1_SQRT_2 * (h - t);
-    priced(codys(set, up, down, exp_term, q1, q2), vega)
-}
-
-// Where s is 0 or below and x is finite, the intrinsic value; at an infinite x the product is NaN and
-// the test fails.
-fn out_of_the_money(
-    set: RuleSet,
-    x: f64,
-    s: f64,
-    up: f64,
-    down: f64,
-    exp_term: f64,
-    vega: f64,
-) -> PriceAndVega
-    requires { ⌜ «exp_term» ≡ bellOf (x ⊘ s) (half ⊗ s) ⌝ }
-    ensures { λ r. ⌜ r ≡ priceAndVega (outOfTheMoneyWith set up down x s) vega ⌝ }
-{
-    if s <= abs(x) * 0.0 {
-        return priced(normalised_intrinsic(x, OptionType::Call), vega);
-    }
-    in_region(set, x, s, up, down, exp_term, vega)
+    with_price(codys_price(set, up, down, exp_term, q1, q2), vega)
 }
 
 // `up` is exp(x / 2) and `down` exp(−x / 2), which the caller has for every s.
@@ -121,12 +98,8 @@ pub fn price_and_vega(set: RuleSet, x: f64, s: f64, up: f64, down: f64) -> Price
     ensures { λ r. ⌜ r ≡ priceAndVega (callWith set up down x s) (vegaOf x s) ⌝ }
 {
     if x > 0.0 {
-        return told(
-            normalised_black_call_under(set, x, s),
-            normalised_vega(x, s),
-        );
+        let call = normalised_black_call_under(set, x, s);
+        return price_and_vega_from(call, normalised_vega(x, s));
     }
-    let exp_term = bell(x / s, 0.5 * s);
-    let vega = vega_with(x, s, exp_term);
-    out_of_the_money(set, x, s, up, down, exp_term, vega)
+    out_of_the_money(set, x, s, up, down)
 }

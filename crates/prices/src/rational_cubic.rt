@@ -1,5 +1,8 @@
 // The rational cubic: rational_cubic.rs, line by line.
 use crate::answer::Answer;
+use crate::refusals;
+use elementary::limits::EPSILON;
+use elementary::limits::MIN;
 use elementary::methods::abs;
 use elementary::methods::is_zero;
 use elementary::methods::max;
@@ -7,15 +10,11 @@ use elementary::mul_add::mul_add;
 ghost use mathlib.Core.Path.{_≡_};
 ghost use mathlib.Core.Bool.{not, _&&_, _||_};
 ghost use Rattle.elementary.specs.Methods.{isZero};
-ghost use Rattle.prices.specs.RationalCubic.{isInfinite, curveOf, interpolationOf, isMonotonic, isConvex, isConcave, monotonicParameter, shapeParameter, minimumParameterOf, sideOf, controlParameterOf, convexParameterOf};
-
-const EPSILON: f64 = 2.220446049250313e-16;
+ghost use Rattle.prices.specs.RationalCubic.{isInfinite, curveOf, interpolationOf, isMonotonic, isConvex, isConcave, monotonicParameter, shapeParameter, minimumParameterOf, denominatorAt, controlParameterOf, convexParameterOf};
 
 const MINIMUM_RATIONAL_CUBIC_CONTROL_PARAMETER_VALUE: f64 = -(1.0 - 1.4901161193847656e-8);
 
 const MAXIMUM_RATIONAL_CUBIC_CONTROL_PARAMETER_VALUE: f64 = 2.0 / (EPSILON * EPSILON);
-// f64::MIN, which is the largest number with its sign turned.
-const MIN: f64 = -1.7976931348623157e308;
 
 pub enum Side {
     Left,
@@ -33,13 +32,7 @@ fn is_infinite(x: f64) -> bool
 fn any_infinite(x: f64, x_l: f64, x_r: f64) -> bool
     ensures { λ r. ⌜ r ≡ (isInfinite x || (isInfinite «x_l» || isInfinite «x_r»)) ⌝ }
 {
-    if is_infinite(x) {
-        return true;
-    }
-    if is_infinite(x_l) {
-        return true;
-    }
-    is_infinite(x_r)
+    is_infinite(x) || (is_infinite(x_l) || is_infinite(x_r))
 }
 
 // Formula (2.4) divided by formula (2.5); a straight line unless r is below the maximum.
@@ -73,7 +66,7 @@ pub fn rational_cubic_interpolation(
     ensures { λ y. ⌜ y ≡ interpolationOf x «x_l» «x_r» «y_l» «y_r» «d_l» «d_r» r ⌝ }
 {
     if any_infinite(x, x_l, x_r) {
-        return Answer::Refused(6);
+        return Answer::Refused(refusals::INFINITE_PLACE);
     }
     let h = x_r - x_l;
     if abs(h) <= EPSILON {
@@ -87,37 +80,25 @@ pub fn rational_cubic_interpolation(
 fn is_monotonic(d_l: f64, d_r: f64, s: f64) -> bool
     ensures { λ r. ⌜ r ≡ isMonotonic «d_l» «d_r» s ⌝ }
 {
-    if d_l * s >= 0.0 {
-        return d_r * s >= 0.0;
-    }
-    false
+    d_l * s >= 0.0 && d_r * s >= 0.0
 }
 
 fn is_convex(d_l: f64, d_r: f64, s: f64) -> bool
     ensures { λ r. ⌜ r ≡ isConvex «d_l» «d_r» s ⌝ }
 {
-    if d_l <= s {
-        return s <= d_r;
-    }
-    false
+    d_l <= s && s <= d_r
 }
 
 fn is_concave(d_l: f64, d_r: f64, s: f64) -> bool
     ensures { λ r. ⌜ r ≡ isConcave «d_l» «d_r» s ⌝ }
 {
-    if d_l >= s {
-        return s >= d_r;
-    }
-    false
+    d_l >= s && s >= d_r
 }
 
 fn is_convex_or_concave(d_l: f64, d_r: f64, s: f64) -> bool
     ensures { λ r. ⌜ r ≡ (isConvex «d_l» «d_r» s || isConcave «d_l» «d_r» s) ⌝ }
 {
-    if is_convex(d_l, d_r, s) {
-        return true;
-    }
-    is_concave(d_l, d_r, s)
+    is_convex(d_l, d_r, s) || is_concave(d_l, d_r, s)
 }
 
 // r1: satisfies the monotonicity condition (3.8) where monotonicity is possible.
@@ -136,17 +117,11 @@ fn monotonic_parameter(monotonic: bool, d_l: f64, d_r: f64, s: f64, prefer: bool
     MIN
 }
 
-// Whether both quotients of r2 have a divisor.
-fn divides(curved: bool, s_m_d_l: f64, d_r_m_s: f64) -> bool
+// Whether r2 has quotients: the curve is convex or concave, and neither divisor is 0.
+fn has_nonzero_divisors(curved: bool, s_m_d_l: f64, d_r_m_s: f64) -> bool
     ensures { λ r. ⌜ r ≡ (curved && (not (isZero «s_m_d_l») && not (isZero «d_r_m_s»))) ⌝ }
 {
-    if curved {
-        if is_zero(s_m_d_l) {
-            return false;
-        }
-        return !is_zero(d_r_m_s);
-    }
-    false
+    curved && (!is_zero(s_m_d_l) && !is_zero(d_r_m_s))
 }
 
 // r2, for a convex or a concave curve.
@@ -156,13 +131,11 @@ fn shape_parameter(curved: bool, monotonic: bool, d_l: f64, d_r: f64, s: f64, pr
     let d_r_m_d_l = d_r - d_l;
     let d_r_m_s = d_r - s;
     let s_m_d_l = s - d_l;
-    if divides(curved, s_m_d_l, d_r_m_s) {
+    if has_nonzero_divisors(curved, s_m_d_l, d_r_m_s) {
         return max(abs(d_r_m_d_l / d_r_m_s), abs(d_r_m_d_l / s_m_d_l));
     }
-    if monotonic {
-        if prefer {
-            return MAXIMUM_RATIONAL_CUBIC_CONTROL_PARAMETER_VALUE;
-        }
+    if monotonic && prefer {
+        return MAXIMUM_RATIONAL_CUBIC_CONTROL_PARAMETER_VALUE;
     }
     MIN
 }
@@ -178,10 +151,8 @@ pub fn minimum_rational_cubic_control_parameter(
     let prefer = prefer_shape_preservation_over_smoothness;
     let monotonic = is_monotonic(d_l, d_r, s);
     let curved = is_convex_or_concave(d_l, d_r, s);
-    if !monotonic {
-        if !curved {
-            return MINIMUM_RATIONAL_CUBIC_CONTROL_PARAMETER_VALUE;
-        }
+    if !monotonic && !curved {
+        return MINIMUM_RATIONAL_CUBIC_CONTROL_PARAMETER_VALUE;
     }
     let r1 = monotonic_parameter(monotonic, d_l, d_r, s, prefer);
     let r2 = shape_parameter(curved, monotonic, d_l, d_r, s, prefer);
@@ -189,7 +160,7 @@ pub fn minimum_rational_cubic_control_parameter(
 }
 
 fn denominator_at(side: Side, slope: f64, d_l: f64, d_r: f64) -> f64
-    ensures { λ r. ⌜ r ≡ sideOf side slope «d_l» «d_r» ⌝ }
+    ensures { λ r. ⌜ r ≡ denominatorAt side slope «d_l» «d_r» ⌝ }
 {
     match side {
         Side::Left => slope - d_l,
@@ -200,10 +171,7 @@ fn denominator_at(side: Side, slope: f64, d_l: f64, d_r: f64) -> f64
 fn is_zero_or_infinite(x: f64) -> bool
     ensures { λ r. ⌜ r ≡ (isZero x || isInfinite x) ⌝ }
 {
-    if is_zero(x) {
-        return true;
-    }
-    is_infinite(x)
+    is_zero(x) || is_infinite(x)
 }
 
 pub fn rational_cubic_control_parameter(

@@ -22,11 +22,7 @@ fn at_the_money(s: f64) -> f64
 fn vega_vanishes(ax: f64, s: f64) -> bool
     ensures { λ r. ⌜ r ≡ vegaVanishes ax s ⌝ }
 {
-    if s <= 0.0 {
-        true
-    } else {
-        s <= ax * SQRT_DBL_MIN
-    }
+    s <= 0.0 || s <= ax * SQRT_DBL_MIN
 }
 
 pub fn normalised_vega(x: f64, s: f64) -> f64

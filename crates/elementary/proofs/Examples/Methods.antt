@@ -22,9 +22,9 @@ max-zeros : maxOf +0 (bits 0x8000_0000_0000_0000) ≡ +0
 unfolding maxOf ofBits ne lt
 max-zeros = refl
 
-max-zeros-turned : maxOf (bits 0x8000_0000_0000_0000) +0 ≡ +0
+max-zeros-swapped : maxOf (bits 0x8000_0000_0000_0000) +0 ≡ +0
 unfolding maxOf ofBits ne lt
-max-zeros-turned = refl
+max-zeros-swapped = refl
 
 max-minus-zeros : maxOf (bits 0x8000_0000_0000_0000) (bits 0x8000_0000_0000_0000) ≡ bits 0x8000_0000_0000_0000
 unfolding maxOf ofBits ne lt

@@ -32,9 +32,9 @@ differs x h = differs-from-itself x (rw h tt)
 pub no-nan : (x : Float) → ne x x ≡ false → T (not (isNan x))
 no-nan x h = rw (← ne-self x, h) tt
 
-pub nan-made : div binary64 (ofBits binary64 0) (ofBits binary64 0) ≡ nan
+pub nan-quotient : div binary64 (ofBits binary64 0) (ofBits binary64 0) ≡ nan
 unfolding div ofBits
-nan-made = refl
+nan-quotient = refl
 
 pub nan-pattern : (b : ℕ) → 2047 * 2 ^ 52 < b % 2 ^ 63 → ofBits binary64 b ≡ nan
 nan-pattern b h = is-nan _ (rw (← nanBits-is binary64 b, nanBits-above binary64 b) (lt→ltb (2047 * 2 ^ 52) (b % 2 ^ 63) h))

@@ -16,7 +16,7 @@ use lib.Ieee.Exact.{HasValue, round-exact, units-val}
 use lib.Ieee.Back.{round-whole}
 use lib.Ieee.Order.{round-mono, kept, drop}
 use lib.Ieee.Scale.{finite, grid, overflow, round-val, round-under}
-use Rattle.elementary.specs.Inside.Bounds.{Sized, Large, Side, AtMost, Over}
+use Rattle.elementary.specs.Inside.Bounds.{SizeAtMost, Large, Side, AtMost, Over}
 use Rattle.elementary.specs.Ops.{_⊕_, _⊖_, _⊗_, _⊘_, half}
 use Rattle.elementary.proofs.Laws.Order.{le→fractions}
 use Rattle.elementary.specs.Floor.{floorSize, floorOf}
@@ -38,17 +38,17 @@ pub unsigned : {x : Float} {s : Bool} {b : ℕ} → Side x s b → AtMost x b
 unsigned {x} {s} {b} h = record { sign = s; side = h }
 
 pub wider : {x : Float} {s : Bool} {b : ℕ} (c : ℕ) → b ≤ c → Side x s b → Side x s c
-wider {x = nan} c l h = absurd (h .sized)
-wider {x = inf t} c l h = absurd (h .sized)
-wider {x = fin t m e} c l h = record { sized = (h .sized .0, le-trans (h .sized .1) (mul-le-mul-right (down e) l)) }
+wider {x = nan} c l h = absurd (h .bound)
+wider {x = inf t} c l h = absurd (h .bound)
+wider {x = fin t m e} c l h = record { bound = (h .bound .0, le-trans (h .bound .1) (mul-le-mul-right (down e) l)) }
 
 pub side-finite : {x : Float} {s : Bool} {b : ℕ} → Side x s b → T (finite x)
-side-finite {x = nan} h = absurd (h .sized)
-side-finite {x = inf t} h = absurd (h .sized)
+side-finite {x = nan} h = absurd (h .bound)
+side-finite {x = inf t} h = absurd (h .bound)
 side-finite {x = fin t m e} h = tt
 
 -- ---- values and fractions
-side-of-value : (x : Float) (s : Bool) (v c b : ℕ) → 0 < c → HasValue x s v c → v ≤ b * c → Sized x s b
+side-of-value : (x : Float) (s : Bool) (v c b : ℕ) → 0 < c → HasValue x s v c → v ≤ b * c → SizeAtMost x s b
 side-of-value nan s v c b p h l = h
 side-of-value (inf t) s v c b p h l = h
 side-of-value (fin t m e) s v c b p h l = (
@@ -68,7 +68,7 @@ over-value (fin t m e) v c j p h l = (
     spread = mul-right-comm v (2 ^ j) (down e) ∙ ap (λ z. z * 2 ^ j) (sym (h .1)) ∙ mul-right-comm (m * up e) c (2 ^ j)
 
 pub value-side : {x : Float} {s : Bool} (v c b : ℕ) → 0 < c → HasValue x s v c → v ≤ b * c → Side x s b
-value-side {x} {s} v c b p h l = record { sized = side-of-value x s v c b p h l }
+value-side {x} {s} v c b p h l = record { bound = side-of-value x s v c b p h l }
 
 pub value-over : {x : Float} (v c j : ℕ) → 0 < c → HasValue x false v c → c ≤ v * 2 ^ j → Over x j
 value-over {x} v c j p h l = record { large = over-value x v c j p h l }
@@ -119,20 +119,20 @@ round-over a c j C J h f =
 -- ---- the operations
 pub neg-side : {x : Float} {s : Bool} {b : ℕ} → Side x s b → Side (neg x) (not s) b
 unfolding neg
-neg-side {x = nan} h = absurd (h .sized)
-neg-side {x = inf t} h = absurd (h .sized)
-neg-side {x = fin t m e} h = record { sized = (ap not (h .sized .0), h .sized .1) }
+neg-side {x = nan} h = absurd (h .bound)
+neg-side {x = inf t} h = absurd (h .bound)
+neg-side {x = fin t m e} h = record { bound = (ap not (h .bound .0), h .bound .1) }
 
 pub mul-side : {x y : Float} {s t : Bool} {a b : ℕ} (c : ℕ) → Exact c → a * b ≤ c → Side x s a → Side y t b → Side (x ⊗ y) (unlike s t) c
 unfolding mul
-mul-side {x = nan} c C l h k = absurd (h .sized)
-mul-side {x = inf u} c C l h k = absurd (h .sized)
-mul-side {x = fin u m e} {y = nan} c C l h k = absurd (k .sized)
-mul-side {x = fin u m e} {y = inf v} c C l h k = absurd (k .sized)
+mul-side {x = nan} c C l h k = absurd (h .bound)
+mul-side {x = inf u} c C l h k = absurd (h .bound)
+mul-side {x = fin u m e} {y = nan} c C l h k = absurd (k .bound)
+mul-side {x = fin u m e} {y = inf v} c C l h k = absurd (k .bound)
 mul-side {x = fin u m e} {y = fin v n d} {s} {t} {a} {b} c C l h k =
-    rw (h .sized .0, k .sized .0)
+    rw (h .bound .0, k .bound .0)
     (round-side (m * up e * (n * up d)) (down e * down d) c (mul-pos (down-pos e) (down-pos d)) C
-    (le-trans (mul-le-mul (h .sized .1) (k .sized .1)) (le-trans (le-of-eq (mul-mul-mul-comm a (down e) b (down d))) (mul-le-mul-right (down e * down d) l)))
+    (le-trans (mul-le-mul (h .bound .1) (k .bound .1)) (le-trans (le-of-eq (mul-mul-mul-comm a (down e) b (down d))) (mul-le-mul-right (down e * down d) l)))
     (unlike s t))
 
 pub mul-at-most : {x y : Float} {a b : ℕ} (c : ℕ) → Exact c → a * b ≤ c → AtMost x a → AtMost y b → AtMost (x ⊗ y) c
@@ -141,8 +141,8 @@ mul-at-most c C l h k = unsigned (mul-side c C l (h .side) (k .side))
 -- by a constant that is the fraction v / d
 pub mul-by : {x : Float} {a : ℕ} (c : Float) (v d b : ℕ) → 0 < d → HasValue c false v d → Exact b → a * v ≤ b * d → AtMost x a → AtMost (x ⊗ c) b
 unfolding mul
-mul-by {x = nan} c v d b D k B l h = absurd (h .side .sized)
-mul-by {x = inf u} c v d b D k B l h = absurd (h .side .sized)
+mul-by {x = nan} c v d b D k B l h = absurd (h .side .bound)
+mul-by {x = inf u} c v d b D k B l h = absurd (h .side .bound)
 mul-by {x = fin u m e} nan v d b D k B l h = absurd k
 mul-by {x = fin u m e} (inf t) v d b D k B l h = absurd k
 mul-by {x = fin u m e} {a} (fin t n g) v d b D k B l h =
@@ -151,16 +151,16 @@ mul-by {x = fin u m e} {a} (fin t n g) v d b D k B l h =
     top : m * up e * (n * up g) * d ≤ b * (down e * down g) * d
     top =
         le-trans (le-of-eq (mul-assoc (m * up e) (n * up g) d ∙ ap (λ z. m * up e * z) (k .1)))
-        (le-trans (mul-le-mul-right (v * down g) (h .side .sized .1))
+        (le-trans (mul-le-mul-right (v * down g) (h .side .bound .1))
         (le-trans (le-of-eq (mul-mul-mul-comm a (down e) v (down g)))
         (le-trans (mul-le-mul-right (down e * down g) l) (le-of-eq (mul-right-comm b d (down e * down g))))))
 
 pub half-at-most : {x : Float} (b : ℕ) → Exact b → AtMost x (b * 2) → AtMost (half ⊗ x) b
 unfolding mul ofBits
-half-at-most {x = nan} b B h = absurd (h .side .sized)
-half-at-most {x = inf t} b B h = absurd (h .side .sized)
+half-at-most {x = nan} b B h = absurd (h .side .bound)
+half-at-most {x = inf t} b B h = absurd (h .side .bound)
 half-at-most {x = fin t m e} b B h =
-    unsigned (round-side (1 * (m * up e)) (2 * down e) b (mul-pos (lit< {m = 0} {n = 2} tt) (down-pos e)) B (rw one-mul (le-trans (h .side .sized .1) (le-of-eq (mul-assoc b 2 (down e))))) (unlike false t))
+    unsigned (round-side (1 * (m * up e)) (2 * down e) b (mul-pos (lit< {m = 0} {n = 2} tt) (down-pos e)) B (rw one-mul (le-trans (h .side .bound .1) (le-of-eq (mul-assoc b 2 (down e))))) (unlike false t))
 
 -- ±A / C ± B / C, whatever the signs
 sum-at-most : (s t : Bool) (A B C a b c : ℕ) → 0 < C → Exact c → a + b ≤ c → A ≤ a * C → B ≤ b * C → AtMost (sum binary64 s A t B C) c
@@ -169,13 +169,13 @@ sum-at-most s t A B C a b c P E l h k =
     let top : A + B ≤ c * C = le-trans (le-trans (omega arith) (le-of-eq (sym (add-mul a b C)))) (mul-le-mul-right C l) in
     go top (Bool·beq s t) (ltb A B)
   where
-    rounded : (u : Bool) (n : ℕ) → n ≤ c * C → AtMost (round binary64 u n C) c
-    rounded u n l = unsigned (round-side n C c P E l u)
+    in-bound : (u : Bool) (n : ℕ) → n ≤ c * C → AtMost (round binary64 u n C) c
+    in-bound u n l = unsigned (round-side n C c P E l u)
 
     go : A + B ≤ c * C → (p q : Bool) → AtMost (cond p (round binary64 s (A + B) C) (cond q (round binary64 t (B - A) C) (round binary64 (s && ltb B A) (A - B) C))) c
-    go l true q = rounded s (A + B) l
-    go l false true = rounded t (B - A) (omega arith)
-    go l false false = rounded (s && ltb B A) (A - B) (omega arith)
+    go l true q = in-bound s (A + B) l
+    go l false true = in-bound t (B - A) (omega arith)
+    go l false false = in-bound (s && ltb B A) (A - B) (omega arith)
 
 -- a fraction over the denominators of both operands
 share : (a c d x : ℕ) → x ≤ a * c → x * d ≤ a * (c * d)
@@ -186,14 +186,14 @@ share' a c d x h = le-trans (share a d c x h) (le-of-eq (ap (λ z. a * z) (mul-c
 
 pub add-at-most : {x y : Float} {a b : ℕ} (c : ℕ) → Exact c → a + b ≤ c → AtMost x a → AtMost y b → AtMost (x ⊕ y) c
 unfolding add
-add-at-most {x = nan} c C l h k = absurd (h .side .sized)
-add-at-most {x = inf u} c C l h k = absurd (h .side .sized)
-add-at-most {x = fin u m e} {y = nan} c C l h k = absurd (k .side .sized)
-add-at-most {x = fin u m e} {y = inf v} c C l h k = absurd (k .side .sized)
+add-at-most {x = nan} c C l h k = absurd (h .side .bound)
+add-at-most {x = inf u} c C l h k = absurd (h .side .bound)
+add-at-most {x = fin u m e} {y = nan} c C l h k = absurd (k .side .bound)
+add-at-most {x = fin u m e} {y = inf v} c C l h k = absurd (k .side .bound)
 add-at-most {x = fin u m e} {y = fin v n d} {a} {b} c C l h k =
     sum-at-most u v (m * up e * down d) (n * up d * down e) (down e * down d) a b c (mul-pos (down-pos e) (down-pos d)) C l
-    (share a (down e) (down d) (m * up e) (h .side .sized .1))
-    (share' b (down e) (down d) (n * up d) (k .side .sized .1))
+    (share a (down e) (down d) (m * up e) (h .side .bound .1))
+    (share' b (down e) (down d) (n * up d) (k .side .bound .1))
 
 pub sub-at-most : {x y : Float} {a b : ℕ} (c : ℕ) → Exact c → a + b ≤ c → AtMost x a → AtMost y b → AtMost (x ⊖ y) c
 unfolding sub
@@ -202,14 +202,14 @@ sub-at-most c C l h k = add-at-most c C l h (unsigned (neg-side (k .side)))
 -- two that are not negative
 pub add-side : {x y : Float} {a b : ℕ} (c : ℕ) → Exact c → a + b ≤ c → Side x false a → Side y false b → Side (x ⊕ y) false c
 unfolding add sum
-add-side {x = nan} c C l h k = absurd (h .sized)
-add-side {x = inf u} c C l h k = absurd (h .sized)
-add-side {x = fin u m e} {y = nan} c C l h k = absurd (k .sized)
-add-side {x = fin u m e} {y = inf v} c C l h k = absurd (k .sized)
+add-side {x = nan} c C l h k = absurd (h .bound)
+add-side {x = inf u} c C l h k = absurd (h .bound)
+add-side {x = fin u m e} {y = nan} c C l h k = absurd (k .bound)
+add-side {x = fin u m e} {y = inf v} c C l h k = absurd (k .bound)
 add-side {x = fin u m e} {y = fin v n d} {a} {b} c C l h k =
-    rw (h .sized .0, k .sized .0)
+    rw (h .bound .0, k .bound .0)
     (round-side (m * up e * down d + n * up d * down e) (down e * down d) c (mul-pos (down-pos e) (down-pos d)) C
-    (le-trans (add-le (share a (down e) (down d) (m * up e) (h .sized .1)) (share' b (down e) (down d) (n * up d) (k .sized .1)))
+    (le-trans (add-le (share a (down e) (down d) (m * up e) (h .bound .1)) (share' b (down e) (down d) (n * up d) (k .bound .1)))
     (le-trans (le-of-eq (sym (add-mul a b (down e * down d)))) (mul-le-mul-right (down e * down d) l)))
     false)
   where
@@ -219,45 +219,45 @@ add-side {x = fin u m e} {y = fin v n d} {a} {b} c C l h k =
 -- a sum of two that are not negative is no less than the second
 pub add-over : {x y : Float} {a b j : ℕ} → j ≤ 1074 → Side x false a → Over y j → Side (x ⊕ y) false b → Over (x ⊕ y) j
 unfolding add sum
-add-over {x = nan} J h k f = absurd (h .sized)
-add-over {x = inf u} J h k f = absurd (h .sized)
+add-over {x = nan} J h k f = absurd (h .bound)
+add-over {x = inf u} J h k f = absurd (h .bound)
 add-over {x = fin u m e} {y = nan} J h k f = absurd (k .large)
 add-over {x = fin u m e} {y = inf v} J h k f = absurd (k .large)
 add-over {x = fin u m e} {y = fin v n d} {a} {b} {j} J h k f =
-    rw (h .sized .0, k .large .0)
+    rw (h .bound .0, k .large .0)
     (round-over (m * up e * down d + n * up d * down e) (down e * down d) j (mul-pos (down-pos e) (down-pos d)) J
     (le-trans (le-of-eq (mul-comm (down e) (down d)))
     (le-trans (mul-le-mul-right (down e) (k .large .1))
     (le-trans (le-of-eq (mul-right-comm (n * up d) (2 ^ j) (down e))) (mul-le-mul-right (2 ^ j) (omega arith)))))
-    (side-finite (rw (h .sized .0, k .large .0) at f)))
+    (side-finite (rw (h .bound .0, k .large .0) at f)))
 
 -- a product of two numbers of 1 at least
 pub square-over : {y : Float} {b : ℕ} → Over y 0 → Exact (b * b) → Side y false b → Over (y ⊗ y) 0
 unfolding mul
-square-over {y = nan} k B h = absurd (h .sized)
-square-over {y = inf u} k B h = absurd (h .sized)
+square-over {y = nan} k B h = absurd (h .bound)
+square-over {y = inf u} k B h = absurd (h .bound)
 square-over {y = fin u m e} {b} k B h =
     let P = mul-pos (down-pos e) (down-pos e) in
-    rw (h .sized .0)
+    rw (h .bound .0)
     (round-over (m * up e * (m * up e)) (down e * down e) 0 P (lit≤ tt)
     (rw mul-one (mul-le-mul (rw mul-one at (k .large .1)) (rw mul-one at (k .large .1))))
     (side-finite
-    (round-side (m * up e * (m * up e)) (down e * down e) (b * b) P B (le-trans (mul-le-mul (h .sized .1) (h .sized .1)) (le-of-eq (mul-mul-mul-comm b (down e) b (down e)))) false)))
+    (round-side (m * up e * (m * up e)) (down e * down e) (b * b) P B (le-trans (mul-le-mul (h .bound .1) (h .bound .1)) (le-of-eq (mul-mul-mul-comm b (down e) b (down e)))) false)))
 
 none : {n : ℕ} → 0 < n → n ≤ 0 → ⊥
 none p q = omega arith
 
 pub div-side : {x y : Float} {s : Bool} {a j : ℕ} (c : ℕ) → Exact c → a * 2 ^ j ≤ c → Side x s a → Over y j → Side (x ⊘ y) s c
 unfolding div
-div-side {x = nan} c C l h k = absurd (h .sized)
-div-side {x = inf u} c C l h k = absurd (h .sized)
+div-side {x = nan} c C l h k = absurd (h .bound)
+div-side {x = inf u} c C l h k = absurd (h .bound)
 div-side {x = fin u m e} {y = nan} c C l h k = absurd (k .large)
 div-side {x = fin u m e} {y = inf v} c C l h k = absurd (k .large)
 div-side {x = fin u m e} {y = fin v zero d} c C l h k = absurd (none (down-pos d) (rw (zero-mul, zero-mul) at (k .large .1)))
 div-side {x = fin u m e} {y = fin v (suc n) d} {s} {a} {j} c C l h k =
-    rw (h .sized .0, k .large .0, plain s, eqb·suc-zero n)
+    rw (h .bound .0, k .large .0, plain s, eqb·suc-zero n)
     (round-side (m * up e * down d) (suc n * up d * down e) c (mul-pos (mul-pos (suc-pos n) (up-pos d)) (down-pos e)) C
-    (le-trans (mul-le-mul (h .sized .1) (k .large .1)) (le-trans (le-of-eq around) (mul-le-mul-right (suc n * up d * down e) l))) s)
+    (le-trans (mul-le-mul (h .bound .1) (k .large .1)) (le-trans (le-of-eq around) (mul-le-mul-right (suc n * up d * down e) l))) s)
   where
     suc-pos : (n : ℕ) → 0 < suc n
     suc-pos n = omega arith
@@ -282,30 +282,30 @@ floor-size true a c b C h = less (div-lt-iff-lt-mul C .1 (lt-of-lt-of-le (one-le
 
 pub floor-side : {x : Float} {s : Bool} {b : ℕ} → Exact b → Side x s b → Side (floorOf binary64 x) s b
 unfolding floorOf
-floor-side {x = nan} B h = absurd (h .sized)
-floor-side {x = inf t} B h = absurd (h .sized)
+floor-side {x = nan} B h = absurd (h .bound)
+floor-side {x = inf t} B h = absurd (h .bound)
 floor-side {x = fin t m e} {s} {b} B h =
-    rw (h .sized .0) (round-side (floorSize s (m * up e) (down e)) 1 b (lit< tt) B (rw mul-one (floor-size s (m * up e) (down e) b (down-pos e) (h .sized .1))) s)
+    rw (h .bound .0) (round-side (floorSize s (m * up e) (down e)) 1 b (lit< tt) B (rw mul-one (floor-size s (m * up e) (down e) b (down-pos e) (h .bound .1))) s)
 
 -- it is a whole number
 pub floor-whole : {x : Float} {b : ℕ} → b ≤ 2 ^ 53 → AtMost x b → (s : Bool) × (n : ℕ) × HasValue (floorOf binary64 x) s n 1 × (n ≤ b)
 unfolding floorOf
-floor-whole {x = nan} l h = absurd (h .side .sized)
-floor-whole {x = inf t} l h = absurd (h .side .sized)
+floor-whole {x = nan} l h = absurd (h .side .bound)
+floor-whole {x = inf t} l h = absurd (h .side .bound)
 floor-whole {x = fin t m e} {b} l h =
     let n = floorSize t (m * up e) (down e) in
-    let k = floor-size t (m * up e) (down e) b (down-pos e) (h .side .sized .1) in
+    let k = floor-size t (m * up e) (down e) b (down-pos e) (h .side .bound .1) in
     (t, n, round-whole binary64 t n (le-trans k l), k)
 
 -- ---- a number that is not above 0, and one from 0 to 1: their sum is not above 1
 pub sum-low : {x y : Float} {a : ℕ} → Exact a → Side x true a → Side y false 1 → Side (x ⊕ y) true a ⊎ Side (x ⊕ y) false 1
 unfolding add sum
-sum-low {x = nan} C h k = absurd (h .sized)
-sum-low {x = inf u} C h k = absurd (h .sized)
-sum-low {x = fin u m e} {y = nan} C h k = absurd (k .sized)
-sum-low {x = fin u m e} {y = inf v} C h k = absurd (k .sized)
+sum-low {x = nan} C h k = absurd (h .bound)
+sum-low {x = inf u} C h k = absurd (h .bound)
+sum-low {x = fin u m e} {y = nan} C h k = absurd (k .bound)
+sum-low {x = fin u m e} {y = inf v} C h k = absurd (k .bound)
 sum-low {x = fin u m e} {y = fin v n d} {a} C h k =
-    rw (h .sized .0, k .sized .0) (go (ltb A B) (ltb B A) (ltb-false A B) (ltb-false B A))
+    rw (h .bound .0, k .bound .0) (go (ltb A B) (ltb B A) (ltb-false A B) (ltb-false B A))
   where
     A : ℕ
     A = m * up e * down d
@@ -324,8 +324,8 @@ sum-low {x = fin u m e} {y = fin v n d} {a} C h k =
 
     go : (p q : Bool) → (p ≡ false → B ≤ A) → (q ≡ false → A ≤ B)
         → Side (cond p (round binary64 false (B - A) P) (round binary64 (true && q) (A - B) P)) true a ⊎ Side (cond p (round binary64 false (B - A) P) (round binary64 (true && q) (A - B) P)) false 1
-    go true q f g = inr (low (B - A) (le-trans (omega arith) (share' 1 (down e) (down d) (n * up d) (k .sized .1))))
-    go false true f g = inl (round-side (A - B) P a positive C (le-trans (omega arith) (share a (down e) (down d) (m * up e) (h .sized .1))) true)
+    go true q f g = inr (low (B - A) (le-trans (omega arith) (share' 1 (down e) (down d) (n * up d) (k .bound .1))))
+    go false true f g = inl (round-side (A - B) P a positive C (le-trans (omega arith) (share a (down e) (down d) (m * up e) (h .bound .1))) true)
     go false false f g = inr (low (A - B) (nothing (f refl) (g refl)))
       where
         nothing : B ≤ A → A ≤ B → A - B ≤ 1 * P

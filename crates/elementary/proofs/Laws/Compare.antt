@@ -56,23 +56,23 @@ not-level true a false b h = let l = ltb-true 0 (a + b) h in go l (eqb b a) (eqb
 not-level true a true b h = let l = ltb-true b a h in apart b a true (λ e. omega arith)
 
 -- ---- of two numbers, where one is not below the other, the other is at most it
-turned : (s : Bool) (a : ℕ) (t : Bool) (b : ℕ) → below s a t b ≡ false → (below t b s a || level t b s a) ≡ true
-turned false a false b h = ordered (eq-or-lt-of-le (ltb-false a b h))
+not-below : (s : Bool) (a : ℕ) (t : Bool) (b : ℕ) → below s a t b ≡ false → (below t b s a || level t b s a) ≡ true
+not-below false a false b h = by-order (eq-or-lt-of-le (ltb-false a b h))
   where
-    ordered : (b ≡ a) ⊎ (b < a) → (ltb b a || (eqb b a && true)) ≡ true
-    ordered (inl e) = rw (le-ltb b a (omega arith), eq-eqb b a e)
-    ordered (inr l) = rw (lt-ltb b a l)
-turned false a true b h = by-size (eq-or-lt-of-le {n = 0} {m = b + a} (omega arith))
+    by-order : (b ≡ a) ⊎ (b < a) → (ltb b a || (eqb b a && true)) ≡ true
+    by-order (inl e) = rw (le-ltb b a (omega arith), eq-eqb b a e)
+    by-order (inr l) = rw (lt-ltb b a l)
+not-below false a true b h = by-size (eq-or-lt-of-le {n = 0} {m = b + a} (omega arith))
   where
     by-size : (0 ≡ b + a) ⊎ (0 < b + a) → (ltb 0 (b + a) || (eqb b a && eqb b 0)) ≡ true
     by-size (inl e) = rw (le-ltb 0 (b + a) (omega arith), eq-eqb b a (omega arith), eq-eqb b 0 (omega arith))
     by-size (inr l) = rw (lt-ltb 0 (b + a) l)
-turned true a false b h = let z = ltb-false 0 (a + b) h in rw (eq-eqb b a (omega arith), eq-eqb b 0 (omega arith))
-turned true a true b h = ordered (eq-or-lt-of-le (ltb-false b a h))
+not-below true a false b h = let z = ltb-false 0 (a + b) h in rw (eq-eqb b a (omega arith), eq-eqb b 0 (omega arith))
+not-below true a true b h = by-order (eq-or-lt-of-le (ltb-false b a h))
   where
-    ordered : (a ≡ b) ⊎ (a < b) → (ltb a b || (eqb b a && true)) ≡ true
-    ordered (inl e) = rw (le-ltb a b (omega arith), eq-eqb b a (sym e))
-    ordered (inr l) = rw (lt-ltb a b l)
+    by-order : (a ≡ b) ⊎ (a < b) → (ltb a b || (eqb b a && true)) ≡ true
+    by-order (inl e) = rw (le-ltb a b (omega arith), eq-eqb b a (sym e))
+    by-order (inr l) = rw (lt-ltb a b l)
 
 pub le-of-not-lt : (x y : Float) → T (finite x) → T (finite y) → lt x y ≡ false → le y x ≡ true
 unfolding le lt eq
@@ -80,7 +80,7 @@ le-of-not-lt nan y f g h = absurd f
 le-of-not-lt (inf s) y f g h = absurd f
 le-of-not-lt (fin s m e) nan f g h = absurd g
 le-of-not-lt (fin s m e) (inf t) f g h = absurd g
-le-of-not-lt (fin s m e) (fin t n d) f g h = turned s (m * up e * down d) t (n * up d * down e) h
+le-of-not-lt (fin s m e) (fin t n d) f g h = not-below s (m * up e * down d) t (n * up d * down e) h
 
 or-false : {a b : Bool} → a ≡ false → b ≡ false → (a || b) ≡ false
 or-false h k = rw (h, k)

@@ -11,7 +11,7 @@ use lib.Ieee.{Float, nan, inf, fin, binary64, ofBits, toBits, fits, isNan, lt, n
 use lib.Ieee.Exact.{HasValue}
 use lib.Ieee.Bits.{ofBits-toBits}
 use lib.Ieee.Scale.{finite}
-use Rattle.elementary.specs.Inside.Round.{Lead, Decoded, Lifted}
+use Rattle.elementary.specs.Inside.Round.{LeadingZeros, PartsOf, SubnormalParts}
 use Rattle.elementary.proofs.Laws.Bits.{nan-pattern}
 use Rattle.elementary.proofs.Laws.Values.{revalue, value-low, value-mid, value-inf}
 
@@ -57,7 +57,7 @@ module _ (x : Float) (F : T (fits binary64 x)) where
   abbrev t : ℕ
   t = b % 2 ^ 52
 
-  pub low-value : f ≡ 0 → (m e : ℕ) → Lifted t m e → Decoded x s m e
+  pub low-value : f ≡ 0 → (m e : ℕ) → SubnormalParts t m e → PartsOf x s m e
   low-value z m e L =
       let v : HasValue x s (b % 2 ^ 63) (2 ^ 1074) = rw (ofBits-toBits binary64 x F) at (value-low b (omega arith)) in
       record {
@@ -68,7 +68,7 @@ module _ (x : Float) (F : T (fits binary64 x)) where
         digits = L .digits;
       }
 
-  pub normal-value : 0 < f → f < 2047 → Decoded x s (2 ^ 52 + t) (f + 63)
+  pub normal-value : 0 < f → f < 2047 → PartsOf x s (2 ^ 52 + t) (f + 63)
   normal-value p h =
       let v : HasValue x s ((2 ^ 52 + t) * 2 ^ (f - 1)) (2 ^ 1074) = rw (ofBits-toBits binary64 x F) at (value-mid b (f - 1) (omega arith) (omega arith)) in
       record {
@@ -86,13 +86,13 @@ module _ (x : Float) (F : T (fits binary64 x)) where
   ])
 
 -- ---- the digits of a subnormal value
-pub far-up : (t z : ℕ) → t < 2 ^ 52 → Lead t z → 12 ≤ z
+pub far-up : (t z : ℕ) → t < 2 ^ 52 → LeadingZeros t z → 12 ≤ z
 far-up t z h L = le-of-suc-le-suc (lt-of-not-le (λ (g : suc z ≤ 12). not-le-of-lt (lt-of-lt-of-le (shl-lt 52 z h) (pow-mono (room z g))) (L .low)))
   where
     room : (z : ℕ) → suc z ≤ 12 → 52 + z ≤ 63
     room z g = omega arith
 
-module _ (t z : ℕ) (h : t < 2 ^ 52) (L : Lead t z) where
+module _ (t z : ℕ) (h : t < 2 ^ 52) (L : LeadingZeros t z) where
   split : t * 2 ^ z ≡ t * 2 ^ (z - 11) * 2 ^ 11
   split = split-power t z (z - 11) 11 (omega (arith, far-up t z h L))
 
@@ -102,15 +102,15 @@ module _ (t z : ℕ) (h : t < 2 ^ 52) (L : Lead t z) where
   pub up-top : t * 2 ^ (z - 11) < 2 ^ 53
   up-top = lt-of-mul-lt-mul-right (2 ^ 11) (subst (λ (w : ℕ). w < 2 ^ 64) split (L .high))
 
-  pub up-lifted : (m : ℕ) → m ≡ t * 2 ^ (z - 11) → Lifted t m (64 - (z - 11))
-  up-lifted m e = record {
+  pub subnormal-shift : (m : ℕ) → m ≡ t * 2 ^ (z - 11) → SubnormalParts t m (64 - (z - 11))
+  subnormal-shift m e = record {
     same = ap (λ (w : ℕ). w * 2 ^ (64 - (z - 11))) e ∙ sym (split-power t 64 (z - 11) (64 - (z - 11)) (omega arith));
     room = omega arith;
     digits = λ _. record { lead = rw e up-lead; top = rw e up-top; least = omega arith; room = omega arith };
   }
 
-pub zero-lifted : (t : ℕ) → t ≡ 0 → Lifted t 0 64
-zero-lifted t e = record {
+pub subnormal-zero : (t : ℕ) → t ≡ 0 → SubnormalParts t 0 64
+subnormal-zero t e = record {
   same = sym (ap (λ (w : ℕ). w * 2 ^ 64) e);
   room = lit< tt;
   digits = λ p. absurd (lt-irrefl 0 p);

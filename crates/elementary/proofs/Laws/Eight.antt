@@ -11,13 +11,13 @@ use lib.Seq.{getD-set-same, getD-set-other}
 use lib.Ieee.{Float, nan}
 use Rattle.elementary.specs.Inside.Each.{at, Of, UpTo, Each}
 
-pub record Filled (g : ℕ → Float) (r : List Float) (j : ℕ) : Type 0 where
+pub record Prefix (g : ℕ → Float) (r : List Float) (j : ℕ) : Type 0 where
   pub bound : j ≤ 8
   pub long : length r ≡ 8
   pub first : UpTo g r j
 
-pub begun : (g : ℕ → Float) (r : List Float) → length r ≡ 8 → Filled g r 0
-begun g r l = record { bound = omega arith; long = l; first = λ k p. absurd (omega arith) }
+pub prefix-none : (g : ℕ → Float) (r : List Float) → length r ≡ 8 → Prefix g r 0
+prefix-none g r l = record { bound = omega arith; long = l; first = λ k p. absurd (omega arith) }
 
 pub one-more : (g : ℕ → Float) (r : List Float) (j : ℕ) → at r j ≡ g j → UpTo g r j → UpTo g r (j + 1)
 one-more g r j e h k p = go (eq-or-lt-of-le {n = k} {m = j} (omega arith))
@@ -26,7 +26,7 @@ one-more g r j e h k p = go (eq-or-lt-of-le {n = k} {m = j} (omega arith))
     go (inl q) = rw q e
     go (inr l) = h k l
 
-pub next : (g : ℕ → Float) (r : List Float) (j : ℕ) (v : Float) → j < 8 → v ≡ g j → Filled g r j → Filled g (set r j v) (j + 1)
+pub next : (g : ℕ → Float) (r : List Float) (j : ℕ) (v : Float) → j < 8 → v ≡ g j → Prefix g r j → Prefix g (set r j v) (j + 1)
 next g r j v l e h =
     record {
       bound = omega arith;
@@ -40,8 +40,8 @@ next g r j v l e h =
     below : (k : ℕ) → k < j → k ≡ j → ⊥
     below k p q = omega arith
 
-pub filled : {g : ℕ → Float} {r : List Float} {j : ℕ} → Filled g r j → 8 ≤ j → UpTo g r 8
-filled h l k p = h .first k (omega (arith, h .bound))
+pub prefix-all : {g : ℕ → Float} {r : List Float} {j : ℕ} → Prefix g r j → 8 ≤ j → UpTo g r 8
+prefix-all h l k p = h .first k (omega (arith, h .bound))
 
 -- ---- written out
 pub eight : (g : ℕ → Float) {a b c d e f h i : Float} → a ≡ g 0 → b ≡ g 1 → c ≡ g 2 → d ≡ g 3 → e ≡ g 4 → f ≡ g 5 → h ≡ g 6 → i ≡ g 7

@@ -37,31 +37,31 @@ use Rattle.elementary.specs.Inside.Bounds.{AtMost, Side, Over}
 -- ---- the constants of exp
 pub half-side : Side half false 1
 unfolding ofBits
-half-side = record { sized = (refl, lit≤ tt) }
+half-side = record { bound = (refl, lit≤ tt) }
 
 pub one-side : Side one false 1
 unfolding ofBits
-one-side = record { sized = (refl, lit≤ tt) }
+one-side = record { bound = (refl, lit≤ tt) }
 
 log2-side : Side LOG2-E false 2
 unfolding ofBits
-log2-side = record { sized = (refl, lit≤ tt) }
+log2-side = record { bound = (refl, lit≤ tt) }
 
 H-side : Side H false 1
 unfolding ofBits
-H-side = record { sized = (refl, lit≤ tt) }
+H-side = record { bound = (refl, lit≤ tt) }
 
 L-side : Side L false 1
 unfolding ofBits
-L-side = record { sized = (refl, lit≤ tt) }
+L-side = record { bound = (refl, lit≤ tt) }
 
 whole-over : (n : ℕ) → suc n ≤ 2 ^ 53 → Over (float (suc n)) 0
 unfolding ofInt
 whole-over n h = value-over (suc n) 1 0 (lit< tt) (round-whole binary64 false (suc n) h) (omega arith)
 
--- ---- the sum inside exp: each turn multiplies the bound by 2 ^ 17
-turn : (i j : ℕ) (r p : Float) → i < 13 → j < 900 → AtMost r (2 ^ 16) → AtMost p (2 ^ j) → AtMost (one ⊕ r ⊗ p ⊘ float (suc i)) (2 ^ (17 + j))
-turn i j r p a b h k =
+-- ---- the sum inside exp: each step multiplies the bound by 2 ^ 17
+step-at-most : (i j : ℕ) (r p : Float) → i < 13 → j < 900 → AtMost r (2 ^ 16) → AtMost p (2 ^ j) → AtMost (one ⊕ r ⊗ p ⊘ float (suc i)) (2 ^ (17 + j))
+step-at-most i j r p a b h k =
     let product : AtMost (r ⊗ p) (2 ^ (16 + j)) = mul-at-most (2 ^ (16 + j)) (pow-exact (16 + j) (omega arith)) (le-of-eq (sym (pow-add 2 16 j))) h k in
     add-at-most (2 ^ (17 + j)) (pow-exact (17 + j) (omega arith)) (room j) (unsigned one-side)
     (unsigned (div-side {j = 0} (2 ^ (16 + j)) (pow-exact (16 + j) (omega arith)) (le-of-eq (mul-one (2 ^ (16 + j)))) (product .side) (whole-over i (omega arith))))
@@ -76,7 +76,7 @@ unfolding expSum
 sum-at-most zero j r p a b h k = rw zero-add k
 sum-at-most (suc i) j r p a b h k =
     let e : 17 * suc i + j ≡ 17 * i + (17 + j) = omega arith in
-    rw e (sum-at-most i (17 + j) r _ (omega arith) (omega arith) h (turn i j r p (omega arith) (omega arith) h k))
+    rw e (sum-at-most i (17 + j) r _ (omega arith) (omega arith) h (step-at-most i j r p (omega arith) (omega arith) h k))
 
 -- ---- k and r
 times-positive : (s : Bool) → unlike s false ≡ s
@@ -106,14 +106,14 @@ up-neg (suc n) = lit≤ tt
 
 power-low : (x : Float) (b : ℕ) → Side x true b ⊎ Side x false 1 → up (toSigned 63 x) ≤ 2
 unfolding toSigned
-power-low nan b (inl h) = absurd (h .sized)
-power-low nan b (inr h) = absurd (h .sized)
-power-low (inf s) b (inl h) = absurd (h .sized)
-power-low (inf s) b (inr h) = absurd (h .sized)
-power-low (fin s m e) b (inl h) = rw (h .sized .0) (up-neg (min (m * up e / down e) (2 ^ 63)))
+power-low nan b (inl h) = absurd (h .bound)
+power-low nan b (inr h) = absurd (h .bound)
+power-low (inf s) b (inl h) = absurd (h .bound)
+power-low (inf s) b (inr h) = absurd (h .bound)
+power-low (fin s m e) b (inl h) = rw (h .bound .0) (up-neg (min (m * up e / down e) (2 ^ 63)))
 power-low (fin s m e) b (inr h) =
-    rw (h .sized .0)
-    (le-trans (pow-mono (le-trans (min-le-left (m * up e / down e) (2 ^ 63 - 1)) (div-le-of-le-mul (down e) (le-trans (h .sized .1) (le-of-eq (mul-comm 1 (down e))))))) (lit≤ {m = 2 ^ 1} {n = 2} tt))
+    rw (h .bound .0)
+    (le-trans (pow-mono (le-trans (min-le-left (m * up e / down e) (2 ^ 63 - 1)) (div-le-of-le-mul (down e) (le-trans (h .bound .1) (le-of-eq (mul-comm 1 (down e))))))) (lit≤ {m = 2 ^ 1} {n = 2} tt))
 
 k-low : (y : Float) → Side y true (2 ^ 12) → up (toSigned 63 (expK y)) ≤ 2
 k-low y h =
@@ -123,12 +123,12 @@ k-low y h =
 
 scaled-at-most : (p : Float) (k : ℤ) {b : ℕ} (c : ℕ) → Exact c → b * 2 ≤ c → up k ≤ 2 → AtMost p b → AtMost (scaled binary64 p k) c
 unfolding scaled
-scaled-at-most nan k c C l u h = absurd (h .side .sized)
-scaled-at-most (inf s) k c C l u h = absurd (h .side .sized)
+scaled-at-most nan k c C l u h = absurd (h .side .bound)
+scaled-at-most (inf s) k c C l u h = absurd (h .side .bound)
 scaled-at-most (fin s m e) k {b} c C l u h =
     unsigned
     (round-side (m * up e * up k) (down e * down k) c (mul-pos (down-pos e) (down-pos k)) C
-    (le-trans (mul-le-mul (h .side .sized .1) u)
+    (le-trans (mul-le-mul (h .side .bound .1) u)
     (le-trans (le-of-eq (mul-right-comm b (down e) 2))
     (le-trans (mul-le-mul-right (down e) l) (mul-le-mul-left c (le-mul-of-pos-right (down e) (down-pos k))))))
     s)
@@ -136,16 +136,16 @@ scaled-at-most (fin s m e) k {b} c C l u h =
 -- ---- exp of a y that is not above 0
 not-large : {y : Float} {b : ℕ} → Side y true b → lt LARGEST y ≡ false
 unfolding lt ofBits
-not-large {y = nan} h = absurd (h .sized)
-not-large {y = inf t} h = absurd (h .sized)
-not-large {y = fin t m e} h = rw (h .sized .0)
+not-large {y = nan} h = absurd (h .bound)
+not-large {y = inf t} h = absurd (h .bound)
+not-large {y = fin t m e} h = rw (h .bound .0)
 
 pub exp-at-most : {y : Float} → Side y true (2 ^ 12) → AtMost (expOf y) (2 ^ 222)
 unfolding expOf expInner ofBits
 exp-at-most {y} h = rw (equal-itself y (side-finite h), not-large h) (go (lt y LEAST))
   where
     go : (b : Bool) → AtMost (cond b +0 (scaled binary64 (expSum 13 (expR y) one) (toSigned 63 (expK y)))) (2 ^ 222)
-    go true = record { sign = false; side = record { sized = (refl, lit≤ tt) } }
+    go true = record { sign = false; side = record { bound = (refl, lit≤ tt) } }
     go false =
         scaled-at-most (expSum 13 (expR y) one) (toSigned 63 (expK y)) (2 ^ 222) (pow-exact 222 (lit< tt)) (lit≤ {m = 2 ^ 221 * 2} tt) (k-low y h)
         (sum-at-most 13 0 (expR y) one (lit≤ tt) (lit< tt) (r-at-most y true h) (unsigned one-side))
@@ -162,7 +162,7 @@ unfolding below
 by-test {x = nan} t = absurd t
 by-test {x = inf s} t = absurd t
 by-test {x = fin true m e} t = absurd t
-by-test {x = fin false m e} {b} t = record { sized = (refl, leb→le (m * up e) (b * down e) t) }
+by-test {x = fin false m e} {b} t = record { bound = (refl, leb→le (m * up e) (b * down e) t) }
 
 -- every number of the six tables is below this
 abbrev TOP : ℕ
@@ -177,7 +177,7 @@ horner i j l k h y c =
     room : {p q : ℕ} → q ≡ p * 2 → TOP ≤ p → p + TOP ≤ q
     room a b = omega arith
 
--- the Horner turns from w over a list of coefficients
+-- the Horner steps from w over a list of coefficients
 poly : Float → List Float → Float → Float
 poly w [] y = w
 poly w (c ∷ cs) y = poly (w ⊗ y ⊕ c) cs y
@@ -230,12 +230,12 @@ cd-side h =
 
 -- ---- y to a multiple of 1/16 toward zero is not above y, for a y that is not negative
 -- what `fits` says of m × 2 ^ e
-held-digits : (m : ℕ) (e : ℤ) → T (fits binary64 (fin false m e)) → (m < 2 ^ 53) × (down e ≤ 2 ^ 1074)
+digits-in-format : (m : ℕ) (e : ℤ) → T (fits binary64 (fin false m e)) → (m < 2 ^ 53) × (down e ≤ 2 ^ 1074)
 unfolding fits
-held-digits zero e h =
+digits-in-format zero e h =
     let i : up e * down e ≡ 1 = eqb→eq (up e * down e) 1 h in
     (lit< tt, le-trans (le-trans (le-of-eq (sym (one-mul (down e)))) (mul-le-mul-right (down e) (up-pos e))) (le-trans (le-of-eq i) (lit≤ tt)))
-held-digits (suc m) e h = let d = holds binary64 false m e h in (d .0, d .1)
+digits-in-format (suc m) e h = let d = holds binary64 false m e h in (d .0, d .1)
 
 -- 2 ^ e in units of the smallest value
 in-units : (e : ℤ) → down e ≤ 2 ^ 1074 → (j : ℕ) × (2 ^ j * down e ≡ up e * 2 ^ 1074)
@@ -243,19 +243,19 @@ in-units (pos k) h = (k + 1074, rw (mul-one, pow-add 2 k 1074))
 in-units (negsuc k) h = (1074 - suc k, rw one-mul (sym (pow-split (suc k) 1074 (pow-le-back (suc k) 1074 h))))
 
 -- 2 ^ i times a value of the format is one, unless it overflows
-shifted-exact : (i m : ℕ) (e : ℤ) → T (fits binary64 (fin false m e)) → m * up e * 2 ^ i < 2 ^ 1024 * down e
+shift-exact : (i m : ℕ) (e : ℤ) → T (fits binary64 (fin false m e)) → m * up e * 2 ^ i < 2 ^ 1024 * down e
     → HasValue (round binary64 false (m * up e * 2 ^ i) (down e)) false (m * up e * 2 ^ i) (down e)
-shifted-exact i m e f l =
-    let d = held-digits m e f in
+shift-exact i m e f l =
+    let d = digits-in-format m e f in
     let j = in-units e (d .1) in
     let same : m * up e * 2 ^ i * 2 ^ 1074 ≡ m * 2 ^ (j .0 + i) * down e =
     rw (pow-add 2 (j .0) i) (spread (up e) (2 ^ 1074) (2 ^ j .0) (down e) m (2 ^ i) (j .1)) in
     round-exact binary64 false (m * up e * 2 ^ i) (down e) m (j .0 + i) (down-pos e) (d .0)
-    (lt-of-mul-lt-mul-right (down e) (rw (← same, pow-add 2 1074 1024) (lt-of-lt-of-le (mul-lt-mul-of-pos-right l (pow-pos 1074)) (le-of-eq (turn-round (2 ^ 1024) (down e) (2 ^ 1074))))))
+    (lt-of-mul-lt-mul-right (down e) (rw (← same, pow-add 2 1074 1024) (lt-of-lt-of-le (mul-lt-mul-of-pos-right l (pow-pos 1074)) (le-of-eq (rotate (2 ^ 1024) (down e) (2 ^ 1074))))))
     same
   where
-    turn-round : (a b c : ℕ) → a * b * c ≡ c * a * b
-    turn-round a b c = simp (mul-assoc, mul-comm)
+    rotate : (a b c : ℕ) → a * b * c ≡ c * a * b
+    rotate a b c = simp (mul-assoc, mul-comm)
 
     spread : (u c p d m q : ℕ) → p * d ≡ u * c → m * u * q * c ≡ m * (p * q) * d
     spread u c p d m q h =
@@ -338,7 +338,7 @@ below-y : (m : ℕ) (e : ℤ) (n : ℕ) → T (fits binary64 (fin false m e)) �
 below-y m e n f l h =
     let small : n ≤ 39 * 16 = le-of-mul-le-mul-right {k = down e} (le-trans h (le-trans (mul-le-mul-right 16 l) (le-of-eq (mul-right-comm 39 (down e) 16)))) (down-pos e) in
     let g = no-overflow n 16 39 (lit< tt) (small-exact 39 (lit≤ tt)) small in
-    let y = rw (mul-one (m * up e)) at (shifted-exact 0 m e f (room (m * up e) (down e) 0 (down-pos e) (lit≤ tt) l)) in
+    let y = rw (mul-one (m * up e)) at (shift-exact 0 m e f (room (m * up e) (down e) 0 (down-pos e) (lit≤ tt) l)) in
     record {
       size = grid binary64 n 16;
       value = round-val binary64 n 16 g;
@@ -352,7 +352,7 @@ unfolding tildeOf
 tilde-below m e f l =
     let k : CutTo (dIntOf (fin false m e ⊗ sixteen)) (m * up e * 16) (down e) =
     cut-value (fin false m e ⊗ sixteen) (m * up e * 16) (down e) 624 (down-pos e) (lit≤ tt)
-    (rw (times-16 m e) (shifted-exact 4 m e f (room (m * up e) (down e) 4 (down-pos e) (lit≤ tt) l)))
+    (rw (times-16 m e) (shift-exact 4 m e f (room (m * up e) (down e) 4 (down-pos e) (lit≤ tt) l)))
     (omega arith) in
     rw (sixteenth (dIntOf (fin false m e ⊗ sixteen)) (k .whole-part) (k .value)) (below-y m e (k .whole-part) f l (k .not-above))
 
@@ -376,37 +376,37 @@ difference-side (fin s n d) m e b B h l =
 
 factor-at-most : {y : Float} → T (fits binary64 y) → Side y false 39 → AtMost (smoothenedExponentialOfNegativeSquare y) (2 ^ 444)
 unfolding smoothenedExponentialOfNegativeSquare
-factor-at-most {y = nan} f h = absurd (h .sized)
-factor-at-most {y = inf s} f h = absurd (h .sized)
-factor-at-most {y = fin true m e} f h = absurd (true≢false (h .sized .0))
+factor-at-most {y = nan} f h = absurd (h .bound)
+factor-at-most {y = inf s} f h = absurd (h .bound)
+factor-at-most {y = fin true m e} f h = absurd (true≢false (h .bound .0))
 factor-at-most {y = fin false m e} f h =
-    let k = tilde-below m e f (h .sized .1) in
-    let t = side-of _ m e 39 k (h .sized .1) in
+    let k = tilde-below m e f (h .bound .1) in
+    let t = side-of _ m e 39 k (h .bound .1) in
     mul-at-most (2 ^ 444) (pow-exact 444 (lit< tt)) (lit≤ tt)
     (exp-at-most (mul-side (2 ^ 12) (pow-exact 12 (lit< tt)) (lit≤ tt) (neg-side t) t))
     (exp-at-most
-    (mul-side (2 ^ 12) (pow-exact 12 (lit< tt)) (lit≤ tt) (neg-side (difference-side (tildeOf (fin false m e)) m e 39 (small-exact 39 (lit≤ tt)) k (h .sized .1)))
+    (mul-side (2 ^ 12) (pow-exact 12 (lit< tt)) (lit≤ tt) (neg-side (difference-side (tildeOf (fin false m e)) m e 39 (small-exact 39 (lit≤ tt)) k (h .bound .1)))
     (add-side 78 (small-exact 78 (lit≤ tt)) (lit≤ tt) h t)))
 
 -- ---- a y that is not negative, tested against the fraction v / d, the value of c
 not-more : {y : Float} {b : ℕ} (c : Float) (v d w : ℕ) → 0 < d → HasValue c false v d → v ≤ w * d → Side y false b → le y c ≡ true → Side y false w
-not-more {y = nan} c v d w D k l h t = absurd (h .sized)
-not-more {y = inf s} c v d w D k l h t = absurd (h .sized)
+not-more {y = nan} c v d w D k l h t = absurd (h .bound)
+not-more {y = inf s} c v d w D k l h t = absurd (h .bound)
 not-more {y = fin s m e} c v d w D k l h t =
     record {
-      sized = (
-        h .sized .0,
+      bound = (
+        h .bound .0,
         le-of-mul-le-mul-right {k = d}
-            (le-trans (le→fractions false false (m * up e) v (down e) d (down-pos e) D (fin s m e) c (h .sized .0, refl) k (subst T (sym t) tt)) (le-trans (mul-le-mul-right (down e) l) (le-of-eq (mul-right-comm w d (down e)))))
+            (le-trans (le→fractions false false (m * up e) v (down e) d (down-pos e) D (fin s m e) c (h .bound .0, refl) k (subst T (sym t) tt)) (le-trans (mul-le-mul-right (down e) l) (le-of-eq (mul-right-comm w d (down e)))))
             D,
       );
     }
 
 more : {y : Float} {b : ℕ} → Side y false b → le y four ≡ false → Over y 0
 unfolding le lt ofBits
-more {y = nan} h t = absurd (h .sized)
-more {y = inf s} h t = absurd (h .sized)
-more {y = fin true m e} h t = absurd (true≢false (h .sized .0))
+more {y = nan} h t = absurd (h .bound)
+more {y = inf s} h t = absurd (h .bound)
+more {y = fin true m e} h t = absurd (true≢false (h .bound .0))
 more {y = fin false m e} h t =
     record { large = (refl, enough (ltb-false (m * up e * 1) (4 * down e) (left-false (ltb (m * up e * 1) (4 * down e)) _ t))) }
   where
@@ -416,7 +416,7 @@ more {y = fin false m e} h t =
 -- ---- erfc and the cdf
 frac-side : Side FRAC-1-SQRT-PI false 1
 unfolding ofBits
-frac-side = record { sized = (refl, lit≤ tt) }
+frac-side = record { bound = (refl, lit≤ tt) }
 
 above-threshold : {y : Float} → Side y false 39 → AtMost (erfcxAboveThreshold y) (2 ^ 37)
 unfolding erfcxAboveThreshold ofBits
@@ -434,11 +434,11 @@ above-threshold {y} h = go (le y four) refl
 
 zero-side : Side +0 false 1
 unfolding ofBits
-zero-side = record { sized = (refl, lit≤ tt) }
+zero-side = record { bound = (refl, lit≤ tt) }
 
 two-side : Side two false 2
 unfolding ofBits
-two-side = record { sized = (refl, lit≤ tt) }
+two-side = record { bound = (refl, lit≤ tt) }
 
 -- a test between two numbers that are both bounded
 either : {x y : Float} {b : ℕ} (t : Bool) → AtMost x b → AtMost y b → AtMost (cond t x y) b
@@ -455,9 +455,9 @@ outside-at-most set {y} f h =
 
 abs-side : {x : Float} {b : ℕ} → AtMost x b → Side (absOf x) false b
 unfolding absOf
-abs-side {x = nan} h = absurd (h .side .sized)
-abs-side {x = inf t} h = absurd (h .side .sized)
-abs-side {x = fin t m e} h = record { sized = (refl, h .side .sized .1) }
+abs-side {x = nan} h = absurd (h .side .bound)
+abs-side {x = inf t} h = absurd (h .side .bound)
+abs-side {x = fin t m e} h = record { bound = (refl, h .side .bound .1) }
 
 threshold-value : HasValue THRESHOLD false 15 32
 unfolding ofBits
@@ -488,7 +488,7 @@ erfc-at-most set {x} f h = go (le (absOf x) THRESHOLD) refl
 
 frac-2-side : Side FRAC-1-SQRT-2 false 1
 unfolding ofBits
-frac-2-side = record { sized = (refl, lit≤ tt) }
+frac-2-side = record { bound = (refl, lit≤ tt) }
 
 pub cdf-at-most : (set : RuleSet) {y : Float} → AtMost y 39 → AtMost (cdfOf set y) (2 ^ 482)
 unfolding cdfOf
@@ -504,10 +504,10 @@ range-39 (inf true) a b = absurd a
 range-39 (inf false) a b = absurd b
 range-39 (fin true m e) a b =
     let l = le→fractions true true 39 (m * up e) 1 (down e) (lit< tt) (down-pos e) lowest (fin true m e) (refl, refl) (refl, refl) a in
-    unsigned {s = true} (record { sized = (refl, omega arith) })
+    unsigned {s = true} (record { bound = (refl, omega arith) })
 range-39 (fin false m e) a b =
     let l = le→fractions false false (m * up e) 39 (down e) 1 (down-pos e) (lit< tt) (fin false m e) highest (refl, refl) (refl, refl) b in
-    unsigned {s = false} (record { sized = (refl, omega arith) })
+    unsigned {s = false} (record { bound = (refl, omega arith) })
 
 pub cdf-finite : (set : RuleSet) (y : Float) → T (le lowest y) → T (le y highest) → T (finite (cdfOf set y))
 cdf-finite set y a b = side-finite (cdf-at-most set (range-39 y a b) .side)

@@ -9,7 +9,7 @@ use lib.Arith.{digits-div, digits-mod}
 use lib.Ieee.{nearest}
 use lib.Ieee.Nearest.{closest}
 use Rattle.elementary.proofs.Laws.Ordering.{Cmp, cmp}
-use Rattle.elementary.specs.Inside.Round.{Halved}
+use Rattle.elementary.specs.Inside.Round.{HalfToEven}
 
 double : (a b : ℕ) → a * 2 ≡ a / b * 2 * b + a % b * 2
 double a b = ap (λ (z : ℕ). z * 2) (sym (div-add-mod' a b)) ∙ add-mul (a / b * b) (a % b) 2 ∙ ap (λ (z : ℕ). z + a % b * 2) (mul-right-comm (a / b) b 2)
@@ -46,7 +46,7 @@ rest-lt t b h k = omega arith
 rest-pos : (t b : ℕ) → b < t → t - b ≡ 0 → ⊥
 rest-pos t b h k = omega arith
 
-pub closest-is : (a b x r : ℕ) → 0 < b → (x ≡ 0 → a * 2 % b ≡ 0) → (a * 2 % b ≡ 0 → x ≡ 0) → Halved (a * 2 / b) x r → closest a b ≡ r
+pub closest-is : (a b x r : ℕ) → 0 < b → (x ≡ 0 → a * 2 % b ≡ 0) → (a * 2 % b ≡ 0 → x ≡ 0) → HalfToEven (a * 2 / b) x r → closest a b ≡ r
 closest-is a b x r B f g H = go (compare (a % b * 2) b) (cmp (a % b * 2) b)
   where
     up : (t : ℕ) → t < b → a % b * 2 ≡ b + t → a * 2 / b ≡ suc (a / b * 2)

@@ -1,4 +1,4 @@
--- Document 01's sentence on the inverse cdf, "Then cdf(lo) < p ≤ cdf(hi)": the 64 turns end with p between the cdf's values at the two ends, for every
+-- Document 01's sentence on the inverse cdf, "Then cdf(lo) < p ≤ cdf(hi)": the 64 steps end with p between the cdf's values at the two ends, for every
 -- p strictly between 0 and 1 and under every rule set. The cdf need not be monotone for it. Assumes nothing.
 use mathlib.Core.Path.{_≡_, refl, sym, _∙_}
 use mathlib.Core.Bool.{Bool, true, false, cond, true≢false}
@@ -27,7 +27,7 @@ between-finite (inf true) h k = absurd (true≢false (sym h))
 between-finite (inf false) h k = absurd (true≢false (sym k))
 between-finite (fin s m e) h k = tt
 
--- ---- the ends of the bisection, after any number of turns
+-- ---- the ends of the bisection, after any number of steps
 record Around (cdf : Float → Float) (p lo hi : Float) : Type 0 where
   under : lt (cdf lo) p ≡ true
   over : lt (cdf hi) p ≡ false
@@ -65,11 +65,11 @@ at-highest set = go (set .«far_factor»)
 
 lowest-range : AtMost lowest 39
 unfolding neg ofBits
-lowest-range = record { sign = true; side = record { sized = (refl, lit≤ tt) } }
+lowest-range = record { sign = true; side = record { bound = (refl, lit≤ tt) } }
 
 highest-range : AtMost highest 39
 unfolding ofBits
-highest-range = record { sign = false; side = record { sized = (refl, lit≤ tt) } }
+highest-range = record { sign = false; side = record { bound = (refl, lit≤ tt) } }
 
 -- ---- where the inverse bisects, the first ends lie on both sides of p
 positive : (p : Float) → ne p p ≡ false → le p +0 ≡ false → lt +0 p ≡ true
@@ -97,9 +97,9 @@ inverse-is-hi set p above-0 below-1 = rw (equal-itself p (between-finite p above
 pub inverse-brackets : (set : RuleSet) (p : Float) → lt +0 p ≡ true → lt p one ≡ true → Brackets set p (endsOf set p .lo) (endsOf set p .hi)
 unfolding endsOf
 inverse-brackets set p above-0 below-1 =
-    let begun : Around (cdfOf set) p lowest highest =
+    let start : Around (cdfOf set) p lowest highest =
     record { under = rw (at-lowest set) above-0; over = rw (at-highest set) (lt-asym p one below-1); lo-range = lowest-range; hi-range = highest-range } in
-    let h = around (cdfOf set) 64 p lowest highest begun in
+    let h = around (cdfOf set) 64 p lowest highest start in
     let hi = bisected (cdfOf set) 64 p lowest highest .hi in
     record {
       under = h .under;

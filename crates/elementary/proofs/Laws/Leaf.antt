@@ -12,7 +12,7 @@ use lib.Ieee.{binary64, down, size, units, round}
 use lib.Ieee.Digits.{size-lt, size-le}
 use lib.Ieee.Fits.{round-is}
 use lib.Ieee.Nearest.{closest}
-use Rattle.elementary.specs.Inside.Round.{Cut, Halved, Any}
+use Rattle.elementary.specs.Inside.Round.{Cut, HalfToEven, Any}
 use Rattle.elementary.proofs.Laws.Halves.{closest-is}
 
 -- ---- two tests that agree
@@ -113,7 +113,7 @@ pub record Steps (m x e k d y q : ℕ) : Type 0 where
   pub drop : k ≡ e + 11 - 1330
   pub down : d ≡ 1329 + k - e
   pub rest : Any (m % 2 ^ d) x y
-  pub half : Halved (m / 2 ^ d) y q
+  pub half : HalfToEven (m / 2 ^ d) y q
 
 pub half-below : (m e k d : ℕ) → m < 2 ^ 64 → k ≡ e + 11 - 1330 → d ≡ 1329 + k - e → m / 2 ^ d < 2 ^ 54
 half-below m e k d h a b = shr-lt 54 d (lt-of-lt-of-le h (pow-mono (wide a b)))
@@ -153,7 +153,7 @@ module _ {m x e k d y q : ℕ} (S : Steps m x e k d y q) where
     kept-is : closest n (den * 2 ^ k) ≡ q
     kept-is =
         closest-is n (den * 2 ^ k) y q (mul-pos D (pow-pos k)) nothing only
-        (subst (λ (h : ℕ). Halved h y q) (ap (λ (z : ℕ). z / 2 ^ d) (sym (C .whole)) ∙ halves-cut 1329 n den e k d D sums) (S .half))
+        (subst (λ (h : ℕ). HalfToEven h y q) (ap (λ (z : ℕ). z / 2 ^ d) (sym (C .whole)) ∙ halves-cut 1329 n den e k d D sums) (S .half))
 
     drop-is : size (n / den) - 53 ≡ k
     drop-is =
@@ -175,10 +175,10 @@ module _ {m x e k d y q : ℕ} (S : Steps m x e k d y q) where
   half-lt = half-below m e k d (S .fits) (S .drop) (S .down)
 
   pub kept-le : q ≤ 2 ^ 53
-  kept-le = elim (eq-zero-or-pos y) [ inl z ↦ tied (m / 2 ^ d) half-lt (S .half .tie z) | inr p ↦ upper (m / 2 ^ d) half-lt (S .half .more p) ]
+  kept-le = elim (eq-zero-or-pos y) [ inl z ↦ at-tie (m / 2 ^ d) half-lt (S .half .tie z) | inr p ↦ upper (m / 2 ^ d) half-lt (S .half .more p) ]
     where
-      tied : (h : ℕ) → h < 2 ^ 54 → q ≡ (h + h / 2 % 2) / 2 → q ≤ 2 ^ 53
-      tied h l e = omega arith
+      at-tie : (h : ℕ) → h < 2 ^ 54 → q ≡ (h + h / 2 % 2) / 2 → q ≤ 2 ^ 53
+      at-tie h l e = omega arith
 
       upper : (h : ℕ) → h < 2 ^ 54 → q ≡ (h + 1) / 2 → q ≤ 2 ^ 53
       upper h l e = omega arith
@@ -187,19 +187,19 @@ module _ {m x e k d y q : ℕ} (S : Steps m x e k d y q) where
   kept-ge P =
       let ten : d ≡ 10 = go (S .drop) (S .down) in
       let l : 2 ^ 53 ≤ m / 2 ^ d = subst (λ (z : ℕ). 2 ^ 53 ≤ m / 2 ^ z) (sym ten) (le-div-iff-mul-le (pow-pos 10) .1 (S .big)) in
-      elim (eq-zero-or-pos y) [ inl z ↦ tied (m / 2 ^ d) l (S .half .tie z) | inr p ↦ upper (m / 2 ^ d) l (S .half .more p) ]
+      elim (eq-zero-or-pos y) [ inl z ↦ at-tie (m / 2 ^ d) l (S .half .tie z) | inr p ↦ upper (m / 2 ^ d) l (S .half .more p) ]
     where
       go : k ≡ e + 11 - 1330 → d ≡ 1329 + k - e → d ≡ 10
       go a b = omega arith
 
-      tied : (h : ℕ) → 2 ^ 53 ≤ h → q ≡ (h + h / 2 % 2) / 2 → 2 ^ 52 ≤ q
-      tied h l e = omega arith
+      at-tie : (h : ℕ) → 2 ^ 53 ≤ h → q ≡ (h + h / 2 % 2) / 2 → 2 ^ 52 ≤ q
+      at-tie h l e = omega arith
 
       upper : (h : ℕ) → 2 ^ 53 ≤ h → q ≡ (h + 1) / 2 → 2 ^ 52 ≤ q
       upper h l e = omega arith
 
 -- some y and q there are
-pub half-of : (h y : ℕ) → (q : ℕ) × Halved h y q
+pub half-of : (h y : ℕ) → (q : ℕ) × HalfToEven h y q
 half-of h y = elim (eq-zero-or-pos y) [
   | inl z ↦ ((h + h / 2 % 2) / 2, record { tie = λ _. refl; more = λ p. absurd (omega arith) })
   | inr p ↦ ((h + 1) / 2, record { tie = λ z. absurd (omega arith); more = λ _. refl })

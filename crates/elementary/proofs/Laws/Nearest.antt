@@ -148,9 +148,9 @@ module _
           }
 
       -- past the largest value: the infinity
-      beyond : overflow f ≤ Q * 2 ^ k → NearestTo f s twice scale (inf s)
+      overflow-is : overflow f ≤ Q * 2 ^ k → NearestTo f s twice scale (inf s)
       unfolding place isNan signOf
-      beyond h = record {
+      overflow-is h = record {
         of-format = inf-fits f s;
         number = tt;
         sign = refl;
@@ -172,7 +172,7 @@ module _
         where
           go : (b : Bool) → ltb (Q * 2 ^ k) (overflow f) ≡ b → NearestTo f s twice scale (units f s Q k)
           go true e = within (ltb→lt (Q * 2 ^ k) (overflow f) (subst T (sym e) tt))
-          go false e = rw e (beyond (nltb→le (Q * 2 ^ k) (overflow f) (subst (λ (b : Bool). T (not b)) (sym e) tt)))
+          go false e = rw e (overflow-is (nltb→le (Q * 2 ^ k) (overflow f) (subst (λ (b : Bool). T (not b)) (sym e) tt)))
 
 -- ---- of two such values neither is below the other. Else the number would be at their middle, both would end in 0, and no value would lie between them:
 -- but of two neighbours one ends in 1.

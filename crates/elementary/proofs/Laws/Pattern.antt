@@ -10,7 +10,7 @@ use lib.Pow.{pow-add, pow-mono, shl-lt}
 use lib.Ieee.{inf, binary64, odd, units, ofBits, fits}
 use lib.Ieee.Exact.{units-val}
 use lib.Ieee.Bits.{ofBits-fits, cond-no}
-use Rattle.elementary.proofs.Laws.Values.{value-packed, value-unique}
+use Rattle.elementary.proofs.Laws.Values.{value-of-pattern, value-unique}
 
 inf-bits : ofBits binary64 0x7ff0_0000_0000_0000 ≡ inf false
 unfolding ofBits
@@ -37,8 +37,8 @@ module _ (q k : ℕ) (le : q ≤ 2 ^ 53) (ge : 0 < k → 2 ^ 52 ≤ q) (K : k �
     | inr h ↦ lt-of-lt-of-le (shl-lt 54 k (omega arith)) (pow-mono {i = 54 + k} {j = 2098} (omega arith))
   ]
 
-  pub packed : T (fits binary64 (units binary64 false q k)) → ofBits binary64 (k * 2 ^ 52 + q) ≡ units binary64 false q k
-  packed F = elim (eq-or-lt-of-le top) [
+  pub units-pattern : T (fits binary64 (units binary64 false q k)) → ofBits binary64 (k * 2 ^ 52 + q) ≡ units binary64 false q k
+  units-pattern F = elim (eq-or-lt-of-le top) [
     | inl e ↦ ap (ofBits binary64) e ∙ units-inf q k (at-top e)
-    | inr l ↦ value-unique _ _ false (q * 2 ^ k) (ofBits-fits binary64 (k * 2 ^ 52 + q)) F (value-packed false k q ge le l) (units-val binary64 false q k (below-top l))
+    | inr l ↦ value-unique _ _ false (q * 2 ^ k) (ofBits-fits binary64 (k * 2 ^ 52 + q)) F (value-of-pattern false k q ge le l) (units-val binary64 false q k (below-top l))
   ]

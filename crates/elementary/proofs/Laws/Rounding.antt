@@ -1,4 +1,4 @@
--- `round` is roundTiesToEven of every fraction, and so are the operations that hand it their exact result: p × 2^k and fused multiply-add. Assumes nothing.
+-- `round` is roundTiesToEven of every fraction, and so are the operations that round their exact result by it: p × 2^k and fused multiply-add. Assumes nothing.
 use mathlib.Core.Path.{_≡_, refl}
 use mathlib.Core.Bool.{Bool, true, false, not, cond, _&&_}
 use Prim.Native.Nat.{ℕ, suc, _+_, _-_, _*_, _/_, _%_, _^_, _≤_, _<_, compare, Ordering, Ordering·lt, Ordering·eq, Ordering·gt}

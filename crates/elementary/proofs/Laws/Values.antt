@@ -62,24 +62,24 @@ unfolding ofFields
 value-inf b e = rw (fields b 2047 0 (omega arith) (omega arith))
 
 -- ---- writing one: k * 2 ^ 52 + q is q * 2 ^ k units, and a carry of q to 54 digits runs into the field by itself
-abbrev pub signed : Bool → ℕ → ℕ
-signed s n = cond s (2 ^ 63 + n) n
+abbrev pub add-sign : Bool → ℕ → ℕ
+add-sign s n = cond s (2 ^ 63 + n) n
 
-abbrev pub packed : Bool → ℕ → ℕ → ℕ
-packed s k q = signed s (k * 2 ^ 52 + q)
+abbrev pub bit-pattern : Bool → ℕ → ℕ → ℕ
+bit-pattern s k q = add-sign s (k * 2 ^ 52 + q)
 
-pub signed-parts : (s : Bool) (n : ℕ) → n < 2 ^ 63 → (leb (2 ^ 63) (signed s n) ≡ s) × (signed s n % 2 ^ 63 ≡ n) × (signed s n % 2 ^ 52 ≡ n % 2 ^ 52)
-signed-parts true n l = (is-true _ (le→leb (2 ^ 63) (2 ^ 63 + n) (omega arith)), omega arith, omega arith)
-signed-parts false n l = (is-false _ (lt→nleb (2 ^ 63) n (omega arith)), omega arith, omega arith)
+pub sign-parts : (s : Bool) (n : ℕ) → n < 2 ^ 63 → (leb (2 ^ 63) (add-sign s n) ≡ s) × (add-sign s n % 2 ^ 63 ≡ n) × (add-sign s n % 2 ^ 52 ≡ n % 2 ^ 52)
+sign-parts true n l = (is-true _ (le→leb (2 ^ 63) (2 ^ 63 + n) (omega arith)), omega arith, omega arith)
+sign-parts false n l = (is-false _ (lt→nleb (2 ^ 63) n (omega arith)), omega arith, omega arith)
 
-pub value-packed : (s : Bool) (k q : ℕ) → (0 < k → 2 ^ 52 ≤ q) → q ≤ 2 ^ 53 → k * 2 ^ 52 + q < 2047 * 2 ^ 52 → HasValue (ofBits binary64 (packed s k q)) s (q * 2 ^ k) (2 ^ 1074)
-value-packed s k q lo hi small = by-lead (eq-zero-or-pos (2 ^ 52 - q))
+pub value-of-pattern : (s : Bool) (k q : ℕ) → (0 < k → 2 ^ 52 ≤ q) → q ≤ 2 ^ 53 → k * 2 ^ 52 + q < 2047 * 2 ^ 52 → HasValue (ofBits binary64 (bit-pattern s k q)) s (q * 2 ^ k) (2 ^ 1074)
+value-of-pattern s k q lo hi small = by-lead (eq-zero-or-pos (2 ^ 52 - q))
   where
     b : ℕ
-    b = packed s k q
+    b = bit-pattern s k q
 
     parts : (leb (2 ^ 63) b ≡ s) × (b % 2 ^ 63 ≡ k * 2 ^ 52 + q) × (b % 2 ^ 52 ≡ (k * 2 ^ 52 + q) % 2 ^ 52)
-    parts = signed-parts s (k * 2 ^ 52 + q) (omega arith)
+    parts = sign-parts s (k * 2 ^ 52 + q) (omega arith)
 
     by-carry : 2 ^ 52 ≤ q → (q ≡ 2 ^ 53) ⊎ (q < 2 ^ 53) → HasValue (ofBits binary64 b) s (q * 2 ^ k) (2 ^ 1074)
     by-carry l (inl e) =

@@ -13,7 +13,7 @@ use lib.Ieee.Exact.{HasValue}
 use lib.Ieee.Scale.{round-same}
 use lib.Ieee.Back.{unsigned-back}
 use Rattle.elementary.specs.Ops.{_⊕_, float}
-use Rattle.elementary.specs.Inside.Exp.{Whole, Biased}
+use Rattle.elementary.specs.Inside.Exp.{Whole, BiasedExponent}
 
 abbrev bias : Float
 bias = ofBits binary64 0x40a0_0000_0000_0000
@@ -84,7 +84,7 @@ module _ (k : Float) (w : Whole k) where
   pub whole-bias : T (inUnsigned binary64 64 (k ⊕ bias))
   whole-bias = cast .0
 
-  pub biased : Biased k (toUnsigned 64 (k ⊕ bias))
+  pub biased : BiasedExponent k (toUnsigned 64 (k ⊕ bias))
   biased =
       rw (cast .1)
       (record { exponent = integer k (w .sign) (w .size) (w .small) (w .value); low = in-range (w .sign) (w .size) (w .small) .0; high = high })

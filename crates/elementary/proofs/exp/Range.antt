@@ -27,5 +27,5 @@ unfolding lt neg ofBits
 in-range nan a b c = absurd (true≢false (sym nan-differs ∙ a))
 in-range (inf true) a b c = absurd (true≢false c)
 in-range (inf false) a b c = absurd (true≢false b)
-in-range (fin true m e) a b c = record { sign = true; side = record { sized = (refl, omega (arith, ltb-false (746 * down e) (m * up e * 1) c)) } }
-in-range (fin false m e) a b c = record { sign = false; side = record { sized = (refl, omega (arith, ltb-false (6243314768165359 * down e) (m * up e * 8796093022208) b)) } }
+in-range (fin true m e) a b c = record { sign = true; side = record { bound = (refl, omega (arith, ltb-false (746 * down e) (m * up e * 1) c)) } }
+in-range (fin false m e) a b c = record { sign = false; side = record { bound = (refl, omega (arith, ltb-false (6243314768165359 * down e) (m * up e * 8796093022208) b)) } }

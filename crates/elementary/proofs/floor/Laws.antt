@@ -18,12 +18,12 @@ use Rattle.elementary.proofs.Laws.Powers.{pow-split}
 use Rattle.elementary.specs.Floor.{floorSize, floorOf}
 use Rattle.elementary.proofs.Laws.Greatest.{IsFloor, size-floor, whole-floor, floor-value, floor-fits}
 use Rattle.elementary.proofs.Laws.Bits.{nan-pattern, no-nan-pattern}
-use Rattle.elementary.proofs.Laws.Values.{recast, revalue, value-low, value-mid, value-inf, signed-parts, packed, value-packed}
+use Rattle.elementary.proofs.Laws.Values.{recast, revalue, value-low, value-mid, value-inf, sign-parts, bit-pattern, value-of-pattern}
 
 -- what has the value is the floor
-found : (b : ℕ) (r : Float) (s : Bool) (a c n : ℕ) → T (fits binary64 r) → 0 < c → HasValue (ofBits binary64 b) s a c → IsFloor s a c n → HasValue r s n 1
+floor-is : (b : ℕ) (r : Float) (s : Bool) (a c n : ℕ) → T (fits binary64 r) → 0 < c → HasValue (ofBits binary64 b) s a c → IsFloor s a c n → HasValue r s n 1
     → r ≡ floorOf binary64 (ofBits binary64 b)
-found b r s a c n f p v k w =
+floor-is b r s a c n f p v k w =
     let x = ofBits binary64 b in
     whole-unique binary64 r (floorOf binary64 x) s n f (floor-fits binary64 x) w (floor-value binary64 x s a c n (ofBits-fits binary64 b) p v k)
 
@@ -46,7 +46,7 @@ floor-large b l = by-field (decLe (2047 * 2 ^ 52) (b % 2 ^ 63))
         let m = 2 ^ 52 + b % 2 ^ 52 in
         let v = value-mid b (j + 1074) (omega arith) (omega arith) in
         let w = revalue x (leb (2 ^ 63) b) (m * 2 ^ (j + 1074)) (2 ^ 1074) (m * 2 ^ j) 1 (pow-pos 1074) (rw (pow-add 2 j 1074, mul-one) (sym (mul-assoc m (2 ^ j) (2 ^ 1074)))) v in
-        found b x (leb (2 ^ 63) b) (m * 2 ^ j) 1 (m * 2 ^ j) (ofBits-fits binary64 b) (omega arith) w (whole-floor (leb (2 ^ 63) b) (m * 2 ^ j)) w
+        floor-is b x (leb (2 ^ 63) b) (m * 2 ^ j) 1 (m * 2 ^ j) (ofBits-fits binary64 b) (omega arith) w (whole-floor (leb (2 ^ 63) b) (m * 2 ^ j)) w
 
 -- ---- below 1
 size-below : (b : ℕ) → b % 2 ^ 63 < 1023 * 2 ^ 52 → (a : ℕ) × (a < 2 ^ 1074) × (0 < b % 2 ^ 63 → 0 < a) × HasValue (ofBits binary64 b) (leb (2 ^ 63) b) a (2 ^ 1074)
@@ -77,13 +77,13 @@ pub floor-small : (b : ℕ) → b < 2 ^ 63 → b % 2 ^ 63 < 1023 * 2 ^ 52 → of
 floor-small b plus l =
     let z = size-below b l in
     let v = recast (ofBits binary64 b) (2 ^ 1074) (is-false _ (lt→nleb (2 ^ 63) b plus)) refl (z .3) in
-    found b (ofBits binary64 0) false (z .0) (2 ^ 1074) 0 (ofBits-fits binary64 0) (pow-pos 1074) v (floor-none (z .0) (2 ^ 1074) (z .1)) zero-value
+    floor-is b (ofBits binary64 0) false (z .0) (2 ^ 1074) 0 (ofBits-fits binary64 0) (pow-pos 1074) v (floor-none (z .0) (2 ^ 1074) (z .1)) zero-value
 
 pub floor-small-negative : (b : ℕ) → 2 ^ 63 < b → b < 2 ^ 64 → b % 2 ^ 63 < 1023 * 2 ^ 52 → neg (ofBits binary64 0x3ff0_0000_0000_0000) ≡ floorOf binary64 (ofBits binary64 b)
 floor-small-negative b minus w l =
     let z = size-below b l in
     let v = recast (ofBits binary64 b) (2 ^ 1074) (is-true _ (le→leb (2 ^ 63) b (omega arith))) refl (z .3) in
-    found b _ true (z .0) (2 ^ 1074) 1 (neg-fits binary64 _ (ofBits-fits binary64 0x3ff0_0000_0000_0000)) (pow-pos 1074) v
+    floor-is b _ true (z .0) (2 ^ 1074) 1 (neg-fits binary64 _ (ofBits-fits binary64 0x3ff0_0000_0000_0000)) (pow-pos 1074) v
     (floor-one (z .0) (2 ^ 1074) (z .2 (omega arith)) (z .1)) minus-one-value
 
 pub floor-minus-zero : neg (ofBits binary64 0) ≡ floorOf binary64 (ofBits binary64 (2 ^ 63))
@@ -97,17 +97,17 @@ cut-off P Q q u c e h =
     omega (arith, div-add-mod' q u)
 
 -- cut or brought up, the digits stay between 2 ^ 52 and 2 ^ 53, which are both multiples of the unit
-kept-by : (s : Bool) (m u Q n : ℕ) → 2 ^ 52 ≤ m → m < 2 ^ 53 → 2 ^ 52 ≡ Q * u → IsFloor s m u n → (2 ^ 52 ≤ n * u) × (n * u ≤ 2 ^ 53)
-kept-by false m u Q n lo hi e k =
+digits-range : (s : Bool) (m u Q n : ℕ) → 2 ^ 52 ≤ m → m < 2 ^ 53 → 2 ^ 52 ≡ Q * u → IsFloor s m u n → (2 ^ 52 ≤ n * u) × (n * u ≤ 2 ^ 53)
+digits-range false m u Q n lo hi e k =
     let l = lt-of-mul-lt-mul-right u {m = Q} {n = suc n} (omega arith) in
     (omega (arith, mul-le-mul-right {m = Q} {n = n} u (omega arith)), omega arith)
-kept-by true m u Q n lo hi e k =
+digits-range true m u Q n lo hi e k =
     let l = lt-of-mul-lt-mul-right u {m = n} {n = suc (2 * Q)} (omega (arith, suc-mul (2 * Q) u, mul-assoc 2 Q u)) in
     (omega arith, omega (arith, mul-le-mul-right {m = n} {n = 2 * Q} u (omega arith), mul-assoc 2 Q u))
 
 -- a number below 0 has got all but the last of a unit u
-abbrev pub Raised : (b u c : ℕ) → Type 0
-Raised b u c = ((2 ^ 63 ≤ b) × (c ≡ b + (u - 1))) ⊎ ((b < 2 ^ 63) × (c ≡ b))
+abbrev pub AddUnit : (b u c : ℕ) → Type 0
+AddUnit b u c = ((2 ^ 63 ≤ b) × (c ≡ b + (u - 1))) ⊎ ((b < 2 ^ 63) × (c ≡ b))
 
 pub unit-is : (d : ℕ) → d ≤ 52 → 1 * 2 ^ d % 2 ^ 64 ≡ 2 ^ d
 unit-is d h = shl-exact {a = 1} 1 d 64 (omega arith) (omega arith) ∙ one-mul (2 ^ d)
@@ -128,8 +128,8 @@ module _ (b d : ℕ) (lo : 1 ≤ d) (hi : d ≤ 52) (width : b < 2 ^ 64) (field 
   exponents : k + d ≡ 1074
   exponents = omega arith
 
-  kept : (2 ^ 52 ≤ n * 2 ^ d) × (n * 2 ^ d ≤ 2 ^ 53)
-  kept = kept-by s m (2 ^ d) (2 ^ (52 - d)) n (omega arith) (omega arith) (pow-split d 52 hi) (size-floor s m (2 ^ d) (pow-pos d))
+  range : (2 ^ 52 ≤ n * 2 ^ d) × (n * 2 ^ d ≤ 2 ^ 53)
+  range = digits-range s m (2 ^ d) (2 ^ (52 - d)) n (omega arith) (omega arith) (pow-split d 52 hi) (size-floor s m (2 ^ d) (pow-pos d))
 
   value : HasValue (ofBits binary64 b) s m (2 ^ d)
   value =
@@ -139,8 +139,8 @@ module _ (b d : ℕ) (lo : 1 ≤ d) (hi : d ≤ 52) (width : b < 2 ^ 64) (field 
   high : k * 2 ^ 52 ≡ k * 2 ^ (52 - d) * 2 ^ d
   high = ap (λ (z : ℕ). k * z) (pow-split d 52 hi) ∙ sym (mul-assoc k (2 ^ (52 - d)) (2 ^ d))
 
-  pattern-by : (t : Bool) (c : ℕ) → (T t → 2 ^ 63 ≤ b) → (T (not t) → b < 2 ^ 63) → Raised b (2 ^ d) c
-      → c - c % 2 ^ d ≡ packed t k (floorSize t m (2 ^ d) * 2 ^ d)
+  pattern-by : (t : Bool) (c : ℕ) → (T t → 2 ^ 63 ≤ b) → (T (not t) → b < 2 ^ 63) → AddUnit b (2 ^ d) c
+      → c - c % 2 ^ d ≡ bit-pattern t k (floorSize t m (2 ^ d) * 2 ^ d)
   pattern-by false c y z (inl r) = absurd (omega (arith, z tt))
   pattern-by false c y z (inr r) = cut-off (k * 2 ^ 52) (k * 2 ^ (52 - d)) m (2 ^ d) c high (omega arith)
   pattern-by true c y z (inr r) = absurd (omega (arith, y tt))
@@ -148,19 +148,19 @@ module _ (b d : ℕ) (lo : 1 ≤ d) (hi : d ≤ 52) (width : b < 2 ^ 64) (field 
       let e : 2 ^ 63 + k * 2 ^ 52 ≡ (2 ^ (63 - d) + k * 2 ^ (52 - d)) * 2 ^ d = rw (add-mul (2 ^ (63 - d)) (k * 2 ^ (52 - d)) (2 ^ d)) (omega (arith, high, pow-split d 63 (omega arith))) in
       omega (arith, cut-off (2 ^ 63 + k * 2 ^ 52) (2 ^ (63 - d) + k * 2 ^ (52 - d)) (m + (2 ^ d - 1)) (2 ^ d) c e (omega (arith, pow-pos d)))
 
-  module _ (c : ℕ) (r : Raised b (2 ^ d) c) where
-    pattern : c - c % 2 ^ d ≡ packed s k (n * 2 ^ d)
+  module _ (c : ℕ) (r : AddUnit b (2 ^ d) c) where
+    pattern : c - c % 2 ^ d ≡ bit-pattern s k (n * 2 ^ d)
     pattern = pattern-by s c (leb→le (2 ^ 63) b) (nleb→lt (2 ^ 63) b) r
 
     pub floor-cut : ofBits binary64 (c - c % 2 ^ d) ≡ floorOf binary64 (ofBits binary64 b)
     floor-cut =
-        let r = ofBits binary64 (packed s k (n * 2 ^ d)) in
-        let v = value-packed s k (n * 2 ^ d) (λ _. kept .0) (kept .1) (omega (arith, kept)) in
+        let r = ofBits binary64 (bit-pattern s k (n * 2 ^ d)) in
+        let v = value-of-pattern s k (n * 2 ^ d) (λ _. range .0) (range .1) (omega (arith, range)) in
         let e : n * 2 ^ d * 2 ^ k * 1 ≡ n * 2 ^ 1074 = rw (mul-one, mul-assoc n (2 ^ d) (2 ^ k), mul-comm (2 ^ d) (2 ^ k), ← pow-add 2 k d, exponents) refl in
         ap (ofBits binary64) pattern
-        ∙ found b r s m (2 ^ d) n (ofBits-fits binary64 (packed s k (n * 2 ^ d))) (pow-pos d) value (size-floor s m (2 ^ d) (pow-pos d))
+        ∙ floor-is b r s m (2 ^ d) n (ofBits-fits binary64 (bit-pattern s k (n * 2 ^ d))) (pow-pos d) value (size-floor s m (2 ^ d) (pow-pos d))
         (revalue r s (n * 2 ^ d * 2 ^ k) (2 ^ 1074) n 1 (pow-pos 1074) e v)
 
     pub floor-cut-no-nan : T (not (nanBits binary64 (c - c % 2 ^ d)))
     floor-cut-no-nan =
-        rw pattern (no-nan-pattern (packed s k (n * 2 ^ d)) (omega (arith, kept, signed-parts s (k * 2 ^ 52 + n * 2 ^ d) (omega (arith, kept)) .1)))
+        rw pattern (no-nan-pattern (bit-pattern s k (n * 2 ^ d)) (omega (arith, range, sign-parts s (k * 2 ^ 52 + n * 2 ^ d) (omega (arith, range)) .1)))

@@ -11,7 +11,7 @@ use lib.Ieee.{Float, nan, inf, fin, up, down, level, lt, eq, ne, ofBits}
 use lib.Ieee.Positive.{positive, first-pos}
 use lib.Ieee.Fits.{up-pos}
 use Rattle.elementary.specs.Ops.{+0}
-use Rattle.elementary.specs.Inside.Round.{Decoded, Digits}
+use Rattle.elementary.specs.Inside.Round.{PartsOf, Digits}
 
 level-zero : (s : Bool) (a b : ℕ) → a ≡ 0 → b ≡ 0 → level s a false b ≡ true
 level-zero true a b p q = rw (p, q)
@@ -30,7 +30,7 @@ above (fin false zero e) n l z t =
 above (fin false (suc m) e) n l z t = lt→ltb 0 (suc m) (zero-lt-suc m)
 
 -- so it has digits
-pub digits-of : (y : Float) (s : Bool) (m i : ℕ) → T (positive y) → Decoded y s m i → Digits m i
+pub digits-of : (y : Float) (s : Bool) (m i : ℕ) → T (positive y) → PartsOf y s m i → Digits m i
 digits-of nan s m i p D = absurd p
 digits-of (inf t) s m i p D = absurd p
 digits-of (fin true n g) s m i p D = absurd p

@@ -13,13 +13,13 @@ use lib.Ieee.Fits.{round-fits}
 use Rattle.elementary.specs.Sqrt.{inUnits}
 use Rattle.elementary.specs.Ops.{_⊗_, half}
 use Rattle.elementary.specs.Ln.{SQRT-2, placeOf, significandOf, exponentAt, lnAt, lnInner}
-use Rattle.elementary.specs.Inside.Round.{Decoded, Digits}
+use Rattle.elementary.specs.Inside.Round.{PartsOf, Digits}
 use Rattle.elementary.proofs.Laws.Leaf.{size-of}
 use Rattle.elementary.proofs.Laws.Decode.{same-power}
 use Rattle.elementary.proofs.Laws.Places.{units-of}
 use Rattle.elementary.proofs.Laws.Values.{revalue, value-unique}
 
-module _ (y : Float) (s : Bool) (m i : ℕ) (D : Decoded y s m i) (G : Digits m i) where
+module _ (y : Float) (s : Bool) (m i : ℕ) (D : PartsOf y s m i) (G : Digits m i) where
   abbrev u : ℕ
   u = inUnits binary64 y
 
@@ -27,26 +27,26 @@ module _ (y : Float) (s : Bool) (m i : ℕ) (D : Decoded y s m i) (G : Digits m 
   units-are = units-of binary64 y s (m * 2 ^ i) (2 ^ 1138) (pow-pos 1138) (D .value) ∙ mul-div-mul-right (m * 2 ^ i) (2 ^ 64) (pow-pos 1074)
 
   -- y is u of the smallest values, and its digits stand at m
-  raised : u * 2 ^ 64 ≡ m * 2 ^ i
-  raised =
+  units-parts : u * 2 ^ 64 ≡ m * 2 ^ i
+  units-parts =
       ap (λ (z : ℕ). z * 2 ^ 64) units-are
       ∙ sym (add-zero (m * 2 ^ i / 2 ^ 64 * 2 ^ 64))
       ∙ ap (λ (z : ℕ). m * 2 ^ i / 2 ^ 64 * 2 ^ 64 + z) (sym (D .whole))
       ∙ div-add-mod' (m * 2 ^ i) (2 ^ 64)
 
   further : (j k l : ℕ) → j + l ≡ i + k → u * 2 ^ (64 + k) ≡ m * 2 ^ j * 2 ^ l
-  further j k l e = ap (λ (z : ℕ). u * z) (pow-add 2 64 k) ∙ sym (mul-assoc u (2 ^ 64) (2 ^ k)) ∙ ap (λ (z : ℕ). z * 2 ^ k) raised ∙ same-power m i k j l (sym e)
+  further j k l e = ap (λ (z : ℕ). u * z) (pow-add 2 64 k) ∙ sym (mul-assoc u (2 ^ 64) (2 ^ k)) ∙ ap (λ (z : ℕ). z * 2 ^ k) units-parts ∙ same-power m i k j l (sym e)
 
   low-end : 2 ^ (i - 12) ≤ u
   low-end = le-of-mul-le-mul-right {k = 2 ^ 64}
       (subst (λ (z : ℕ). z ≤ u * 2 ^ 64) (sym (pow-add 2 52 i) ∙ ap (λ (z : ℕ). 2 ^ z) (sym (omega arith)) ∙ pow-add 2 (i - 12) 64)
-      (subst (λ (z : ℕ). 2 ^ 52 * 2 ^ i ≤ z) (sym raised) (mul-le-mul-right (2 ^ i) (G .lead))))
+      (subst (λ (z : ℕ). 2 ^ 52 * 2 ^ i ≤ z) (sym units-parts) (mul-le-mul-right (2 ^ i) (G .lead))))
       (pow-pos 64)
 
   high-end : u < 2 ^ suc (i - 12)
   high-end = lt-of-mul-lt-mul-right (2 ^ 64)
       (subst (λ (z : ℕ). u * 2 ^ 64 < z) (ap (λ (z : ℕ). 2 ^ z) (omega arith) ∙ pow-add 2 (suc (i - 12)) 64)
-      (subst (λ (z : ℕ). z < 2 ^ (53 + i)) (sym raised) (shl-lt 53 i (G .top))))
+      (subst (λ (z : ℕ). z < 2 ^ (53 + i)) (sym units-parts) (shl-lt 53 i (G .top))))
 
   pub place-is : i - 12 ≡ placeOf y
   unfolding placeOf
@@ -75,8 +75,8 @@ module _ (y m₀ m : Float) (p₀ p : ℕ) (M : m₀ ≡ significandOf y) (P : p
   unfolding lnInner
   by-parts = rw (M, P)
 
-  pub halved : lt SQRT-2 m₀ ≡ true → m ≡ half ⊗ m₀ → p ≡ p₀ + 1 → lnAt m (exponentAt p) ≡ lnInner y
-  halved t e f = rw (e, f, add-one) (rw t at by-parts)
+  pub in-upper-part : lt SQRT-2 m₀ ≡ true → m ≡ half ⊗ m₀ → p ≡ p₀ + 1 → lnAt m (exponentAt p) ≡ lnInner y
+  in-upper-part t e f = rw (e, f, add-one) (rw t at by-parts)
 
-  pub kept : lt SQRT-2 m₀ ≡ false → m ≡ m₀ → p ≡ p₀ → lnAt m (exponentAt p) ≡ lnInner y
-  kept t e f = rw (e, f) (rw t at by-parts)
+  pub in-lower-part : lt SQRT-2 m₀ ≡ false → m ≡ m₀ → p ≡ p₀ → lnAt m (exponentAt p) ≡ lnInner y
+  in-lower-part t e f = rw (e, f) (rw t at by-parts)

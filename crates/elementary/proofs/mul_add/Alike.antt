@@ -12,8 +12,8 @@ use lib.Ieee.Digits.{size-lt, size-reaches}
 use lib.Ieee.Fits.{round-is}
 use lib.Ieee.Nearest.{closest}
 use lib.Ieee.Scale.{round-same}
-use Rattle.elementary.specs.Inside.Round.{Cut, Halved, Same}
-use Rattle.elementary.specs.Inside.MulAdd.{Marked}
+use Rattle.elementary.specs.Inside.Round.{Cut, HalfToEven, SameZero}
+use Rattle.elementary.specs.Inside.MulAdd.{CutWithSticky}
 use Rattle.elementary.proofs.Laws.Halves.{closest-is}
 use Rattle.elementary.proofs.Laws.Leaf.{half-of, size-of, mul-mod-mul, zero-of-mul, sum-zero-l, sum-zero-r}
 use Rattle.elementary.proofs.mul_add.Sums.{cut-plus, cut-minus, cut-exact-minus}
@@ -29,7 +29,7 @@ same-closest : (n m d : ℕ) → 0 < d → n * 2 / d ≡ m * 2 / d → (n * 2 % 
 same-closest n m d P e f g =
     let h = half-of (n * 2 / d) (n * 2 % d) in
     closest-is n d (n * 2 % d) (h .0) P (λ z. z) (λ z. z) (h .1)
-    ∙ sym (closest-is m d (n * 2 % d) (h .0) P f g (subst (λ (w : ℕ). Halved w (n * 2 % d) (h .0)) e (h .1)))
+    ∙ sym (closest-is m d (n * 2 % d) (h .0) P f g (subst (λ (w : ℕ). HalfToEven w (n * 2 % d) (h .0)) e (h .1)))
 
 -- ---- the digits from 2 ^ (g + i) on
 lower : (x g i : ℕ) → x % 2 ^ (g + i) ≡ x / 2 ^ g % 2 ^ i * 2 ^ g + x % 2 ^ g
@@ -57,10 +57,10 @@ module _ (g i w : ℕ) where
   unit : 2 ^ 1074 * 2 ^ k ≡ 2 ^ (g + i) * scale
   unit =
       ap (λ (z : ℕ). 2 ^ 1074 * z) (pow-succ' 2 (i + g + w) ∙ ap (λ (z : ℕ). 2 * z) (pow-add 2 (i + g) w ∙ ap (λ (z : ℕ). 2 ^ z * 2 ^ w) (omega arith)))
-      ∙ turn (2 ^ 1074) (2 ^ (g + i)) (2 ^ w)
+      ∙ rearrange (2 ^ 1074) (2 ^ (g + i)) (2 ^ w)
     where
-      turn : (x y z : ℕ) → x * (2 * (y * z)) ≡ y * (z * x * 2)
-      turn x y z = simp (mul-assoc, mul-comm, mul-left-comm)
+      rearrange : (x y z : ℕ) → x * (2 * (y * z)) ≡ y * (z * x * 2)
+      rearrange x y z = simp (mul-assoc, mul-comm, mul-left-comm)
 
   scale-pos : 0 < scale
   scale-pos = mul-pos (mul-pos (pow-pos w) (pow-pos 1074)) (two)
@@ -113,10 +113,10 @@ module _ (g i w : ℕ) where
 coarse : (s : Bool) (a w : ℕ) → round binary64 s (a * 2 ^ (w + 1330)) (2 ^ 2404) ≡ round binary64 s (a * 2 ^ w) (2 ^ 1074)
 coarse s a w =
     round-same binary64 s (a * 2 ^ (w + 1330)) (2 ^ 2404) (a * 2 ^ w) (2 ^ 1074) (pow-pos 2404) (pow-pos 1074)
-    (ap (λ (z : ℕ). a * z * 2 ^ 1074) (pow-add 2 w 1330) ∙ turn a (2 ^ w) (2 ^ 1330) (2 ^ 1074) ∙ ap (λ (z : ℕ). a * 2 ^ w * z) (sym (pow-add 2 1330 1074)))
+    (ap (λ (z : ℕ). a * z * 2 ^ 1074) (pow-add 2 w 1330) ∙ rearrange a (2 ^ w) (2 ^ 1330) (2 ^ 1074) ∙ ap (λ (z : ℕ). a * 2 ^ w * z) (sym (pow-add 2 1330 1074)))
   where
-    turn : (a x y z : ℕ) → a * (x * y) * z ≡ a * x * (y * z)
-    turn a x y z = simp (mul-assoc, mul-comm, mul-left-comm)
+    rearrange : (a x y z : ℕ) → a * (x * y) * z ≡ a * x * (y * z)
+    rearrange a x y z = simp (mul-assoc, mul-comm, mul-left-comm)
 
 pub round-alike : (s : Bool) (g a b u : ℕ) → 1330 ≤ u → Alike g a b → round binary64 s (a * 2 ^ u) (2 ^ 2404) ≡ round binary64 s (b * 2 ^ u) (2 ^ 2404)
 round-alike s g a b u U L =
@@ -135,27 +135,27 @@ round-alike s g a b u U L =
     split : (z : ℕ) → 54 < z → z ≡ suc (z - 54 + 53)
     split z h = omega arith
 
--- ---- a marked number
-module _ (g v r : ℕ) (M : Marked (suc g) v r) where
+-- ---- a number cut with a sticky digit
+module _ (g v r : ℕ) (M : CutWithSticky (suc g) v r) where
   half : 2 ^ suc g ≡ 2 * 2 ^ g
   half = pow-succ' 2 g
 
   two : 0 < 2
   two = omega arith
 
-  pub mark-whole : v / 2 ^ suc g ≡ r * 2 ^ g / 2 ^ suc g
-  mark-whole = sym (M .whole) ∙ sym (ap (λ (z : ℕ). r * 2 ^ g / z) half ∙ mul-div-mul-right r 2 (pow-pos g))
+  pub sticky-whole : v / 2 ^ suc g ≡ r * 2 ^ g / 2 ^ suc g
+  sticky-whole = sym (M .whole) ∙ sym (ap (λ (z : ℕ). r * 2 ^ g / z) half ∙ mul-div-mul-right r 2 (pow-pos g))
 
-  mark-rest : r * 2 ^ g % 2 ^ suc g ≡ r % 2 * 2 ^ g
-  mark-rest = ap (λ (z : ℕ). r * 2 ^ g % z) half ∙ mul-mod-mul r 2 (2 ^ g) two (pow-pos g)
+  sticky-rest : r * 2 ^ g % 2 ^ suc g ≡ r % 2 * 2 ^ g
+  sticky-rest = ap (λ (z : ℕ). r * 2 ^ g % z) half ∙ mul-mod-mul r 2 (2 ^ g) two (pow-pos g)
 
-  pub mark-to : v % 2 ^ suc g ≡ 0 → r * 2 ^ g % 2 ^ suc g ≡ 0
-  mark-to z = mark-rest ∙ ap (λ (x : ℕ). x * 2 ^ g) (M .from z) ∙ zero-mul (2 ^ g)
+  pub sticky-to : v % 2 ^ suc g ≡ 0 → r * 2 ^ g % 2 ^ suc g ≡ 0
+  sticky-to z = sticky-rest ∙ ap (λ (x : ℕ). x * 2 ^ g) (M .from z) ∙ zero-mul (2 ^ g)
 
-  pub mark-from : r * 2 ^ g % 2 ^ suc g ≡ 0 → v % 2 ^ suc g ≡ 0
-  mark-from z = M .to (zero-of-mul (r % 2) (2 ^ g) (pow-pos g) (sym mark-rest ∙ z))
+  pub sticky-from : r * 2 ^ g % 2 ^ suc g ≡ 0 → v % 2 ^ suc g ≡ 0
+  sticky-from z = M .to (zero-of-mul (r % 2) (2 ^ g) (pow-pos g) (sym sticky-rest ∙ z))
 
-  same-of : (x : ℕ) → Same (x % 2 ^ suc g) (x % 2 ^ suc g)
+  same-of : (x : ℕ) → SameZero (x % 2 ^ suc g) (x % 2 ^ suc g)
   same-of x = record { to = λ z. z; from = λ z. z }
 
   -- ---- h * 2 ^ (g + 1) and it
@@ -163,11 +163,11 @@ module _ (g v r : ℕ) (M : Marked (suc g) v r) where
   plus-alike h H =
       let G = 2 ^ suc g in
       let a : Cut (h * G + v) G (h + v / G) (v % G) = cut-plus h v G (v / G) (v % G) (pow-pos (suc g)) refl (same-of v) (h + v / G) refl in
-      let b : Cut (h * G + r * 2 ^ g) G (h + v / G) (r * 2 ^ g % G) = cut-plus h (r * 2 ^ g) G (v / G) (r * 2 ^ g % G) (pow-pos (suc g)) mark-whole (same-of (r * 2 ^ g)) (h + v / G) refl in
+      let b : Cut (h * G + r * 2 ^ g) G (h + v / G) (r * 2 ^ g % G) = cut-plus h (r * 2 ^ g) G (v / G) (r * 2 ^ g % G) (pow-pos (suc g)) sticky-whole (same-of (r * 2 ^ g)) (h + v / G) refl in
       record {
         whole = a .whole ∙ sym (b .whole);
-        to = λ z. b .none (mark-to (a .some z));
-        from = λ z. a .none (mark-from (b .some z));
+        to = λ z. b .none (sticky-to (a .some z));
+        from = λ z. a .none (sticky-from (b .some z));
         big = subst (λ (x : ℕ). 2 ^ 54 ≤ x) (sym (a .whole)) (le-trans H (omega arith));
       }
 
@@ -178,7 +178,7 @@ module _ (g v r : ℕ) (M : Marked (suc g) v r) where
       elim (eq-zero-or-pos (v % G)) [
         | inl z ↦
             let a : Cut (h * G - v) G (h - y) 0 = cut-exact-minus h v G y (v % G) (pow-pos (suc g)) refl (same-of v) (h - y) z refl in
-            let b : Cut (h * G - r * 2 ^ g) G (h - y) 0 = cut-exact-minus h (r * 2 ^ g) G y (r * 2 ^ g % G) (pow-pos (suc g)) mark-whole (same-of (r * 2 ^ g)) (h - y) (mark-to z) refl in
+            let b : Cut (h * G - r * 2 ^ g) G (h - y) 0 = cut-exact-minus h (r * 2 ^ g) G y (r * 2 ^ g % G) (pow-pos (suc g)) sticky-whole (same-of (r * 2 ^ g)) (h - y) (sticky-to z) refl in
             record {
               whole = a .whole ∙ sym (b .whole);
               to = λ _. b .none refl;
@@ -186,9 +186,9 @@ module _ (g v r : ℕ) (M : Marked (suc g) v r) where
               big = subst (λ (x : ℕ). 2 ^ 54 ≤ x) (sym (a .whole)) (room h y H);
             }
         | inr p ↦
-            let q : 0 < r * 2 ^ g % G = other (r * 2 ^ g % G) (v % G) mark-from p in
+            let q : 0 < r * 2 ^ g % G = other (r * 2 ^ g % G) (v % G) sticky-from p in
             let a : Cut (h * G - v) G (h - y - 1) (v % G) = cut-minus h v G y (v % G) (pow-pos (suc g)) refl (same-of v) (h - y - 1) p (less h y H) refl in
-            let b : Cut (h * G - r * 2 ^ g) G (h - y - 1) (r * 2 ^ g % G) = cut-minus h (r * 2 ^ g) G y (r * 2 ^ g % G) (pow-pos (suc g)) mark-whole (same-of (r * 2 ^ g)) (h - y - 1) q (less h y H) refl in
+            let b : Cut (h * G - r * 2 ^ g) G (h - y - 1) (r * 2 ^ g % G) = cut-minus h (r * 2 ^ g) G y (r * 2 ^ g % G) (pow-pos (suc g)) sticky-whole (same-of (r * 2 ^ g)) (h - y - 1) q (less h y H) refl in
             record {
               whole = a .whole ∙ sym (b .whole);
               to = λ z. absurd (clash (v % G) p (a .some z));

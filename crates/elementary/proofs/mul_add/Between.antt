@@ -214,8 +214,8 @@ module _ {r r' f : Float} {n m n1 m1 n2 m2 : ℕ} (R : NearPair r n1 m1) (R' : N
   z' : ne (round binary64 (R .neg) (dist n1 m1) (2 ^ 1074)) (ofBits binary64 0) ≡ true
   z' = rw (← R .is) z
 
-  pub squeezed : r ≡ f
-  squeezed = R .is ∙ go (R .neg) (R' .neg) (F .neg) (R .up) (R .down) (R' .up) (R' .down) (F .up) (F .down) (equal-rounds (R .neg) (R' .neg) (dist n1 m1) (dist n2 m2) h' z') ∙ sym (F .is)
+  pub between : r ≡ f
+  between = R .is ∙ go (R .neg) (R' .neg) (F .neg) (R .up) (R .down) (R' .up) (R' .down) (F .up) (F .down) (equal-rounds (R .neg) (R' .neg) (dist n1 m1) (dist n2 m2) h' z') ∙ sym (F .is)
     where
       some : 0 < dist n1 m1
       some = some-left (R .neg) (R' .neg) (dist n1 m1) (dist n2 m2) h' z'

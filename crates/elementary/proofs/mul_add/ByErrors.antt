@@ -1,4 +1,4 @@
--- `by_errors`: product and sum with their rounding errors, and one rounding of the whole. Assumes nothing.
+-- `fma_by_errors`: product and sum with their rounding errors, and one rounding of the whole. Assumes nothing.
 use mathlib.Core.Path.{_≡_, refl, sym, ap, _∙_, subst}
 use mathlib.Core.Logic.{inl, inr}
 use mathlib.Core.Bool.{Bool, true, false, not, cond, false≢true}
@@ -13,7 +13,7 @@ use lib.Ieee.Exact.{HasValue}
 use lib.Ieee.Scale.{finite}
 use lib.Ieee.Bits.{ofBits-toBits}
 use Rattle.elementary.specs.MulAdd.{fma}
-use Rattle.elementary.specs.Inside.MulAdd.{Pinned, Usual}
+use Rattle.elementary.specs.Inside.MulAdd.{RoundsAlike, OperandsInRange}
 use Rattle.elementary.proofs.Laws.Bits.{no-nan-pattern}
 use Rattle.elementary.proofs.Laws.Leaf.{same-test}
 use Rattle.elementary.proofs.Laws.Values.{recast, value-low, value-mid}
@@ -25,7 +25,7 @@ use Rattle.elementary.proofs.mul_add.Pairs.{bound, Is, NearPair, sum-is
 use Rattle.elementary.proofs.mul_add.TwoSum as two-sum
 use Rattle.elementary.proofs.mul_add.TwoProduct as two-product
 use Rattle.elementary.proofs.mul_add.TwoProduct.{Rel, plain, Cuts}
-use Rattle.elementary.proofs.mul_add.Between.{from-below, from-above, squeezed, equal-values}
+use Rattle.elementary.proofs.mul_add.Between.{from-below, from-above, between, equal-values}
 
 -- ---- a finite float as a whole number of units
 record AsUnits (x : Float) (e : ℕ) : Type 0 where
@@ -74,7 +74,7 @@ module _ (x : Float) (F : T (fits binary64 x)) where
   as-units : T (finite x) → AsUnits x 18
   as-units f = by-field 18 (finite-field x F f) (omega (arith, finite-field x F f))
 
--- ---- a middling float and its leading digits
+-- ---- a float whose exponent is in range, and its leading digits
 module _ (x : Float) (F : T (fits binary64 x)) (lo : 768 ≤ toBits binary64 x % 2 ^ 63 / 2 ^ 52) (hi : toBits binary64 x % 2 ^ 63 / 2 ^ 52 < 1280) where
   abbrev bits : ℕ
   bits = toBits binary64 x
@@ -249,7 +249,7 @@ module _ (n v : Bool) {p e c : Float} (x y k : ℕ) (P : Rel n p y 0 1) (Y : Sho
       go (inf _) u m p = absurd p
       go (fin _ _ _) u m p = tt
 
-  module _ (r f : Float) (R : Pinned s w r) (G : NearPair f (cond n 0 x + cond v 0 k) (cond n x 0 + cond v k 0)) where
+  module _ (r f : Float) (R : RoundsAlike s w r) (G : NearPair f (cond n 0 x + cond v 0 k) (cond n x 0 + cond v k 0)) where
     r-fits : T (fits binary64 r)
     r-fits = subst (λ (z : Float). T (fits binary64 z)) (sym (R .low)) (add-fits binary64 s (R .lo))
 
@@ -262,9 +262,9 @@ module _ (n v : Bool) {p e c : Float} (x y k : ℕ) (P : Rel n p y 0 1) (Y : Sho
     H : AsUnits (R .hi) 18
     H = as-units (R .hi) (R .hi-fits) (finite-right s (R .hi) (finite-equal r (add binary64 s (R .hi)) (R .high) fin-r))
 
-    pub pinned-is : r ≡ f
-    pinned-is =
-        squeezed (subst (λ (z : Float). NearPair z (q + cond (L .sign) 0 (L .size)) (q' + cond (L .sign) (L .size) 0)) (sym (R .low)) (add-rounds s-is (as-units-is L))) (add-rounds s-is (as-units-is H)) G
+    pub rounds-alike-is : r ≡ f
+    rounds-alike-is =
+        between (subst (λ (z : Float). NearPair z (q + cond (L .sign) 0 (L .size)) (q' + cond (L .sign) (L .size) 0)) (sym (R .low)) (add-rounds s-is (as-units-is L))) (add-rounds s-is (as-units-is H)) G
         (low n (cond (L .sign) 0 (L .size)) (cond (L .sign) (L .size) 0) (cond v 0 k) (cond v k 0) q q' (from-below (a + q' + cond n y x) (b' + q + cond n x y) (as-units-is L) (as-units-short L) w-is (R .above)))
         (high n (cond (H .sign) 0 (H .size)) (cond (H .sign) (H .size) 0) (cond v 0 k) (cond v k 0) q q' (from-above (a + q' + cond n y x) (b' + q + cond n x y) (as-units-is H) (as-units-short H) w-is (R .under)))
         (R .high) (r-nonzero r r-fits (R .some) (R .finite))
@@ -278,7 +278,7 @@ module _ (n v : Bool) {p e c : Float} (x y k : ℕ) (P : Rel n p y 0 1) (Y : Sho
         high false u u' c c' q q' h = omega arith
 
 -- ---- the operands
-module _ (x y z : Float) (FX : T (fits binary64 x)) (FY : T (fits binary64 y)) (FZ : T (fits binary64 z)) (O : Usual (toBits binary64 x) (toBits binary64 y) (toBits binary64 z)) where
+module _ (x y z : Float) (FX : T (fits binary64 x)) (FY : T (fits binary64 y)) (FZ : T (fits binary64 z)) (O : OperandsInRange (toBits binary64 x) (toBits binary64 y) (toBits binary64 z)) where
   abbrev xh : ℕ
   xh = h x FX (O .first-low) (O .first-high)
 
@@ -392,17 +392,17 @@ module _ (x y z : Float) (FX : T (fits binary64 x)) (FY : T (fits binary64 y)) (
       ∙ sum-value binary64 (X * Y * 1) (K * (1 * U)) (1 * (U * U)) prod K U (mul-pos (zero-lt-suc 0) (mul-pos (pow-pos 1074) (pow-pos 1074))) (pow-pos 1074) (first (xh * 2 ^ 27 + (xl * 2 ^ 14 + xm)) (yh * 2 ^ 27 + yl)) (second K U) v (Z .sign)))
       (sum-is v (Z .sign) prod K (cond v 0 prod) (cond v prod 0) (cond (Z .sign) 0 K) (cond (Z .sign) K 0) (pair-is v prod) (pair-is (Z .sign) K))
     where
-      turn : (a b p q u : ℕ) → a * p * (b * q) * 1 * u ≡ a * b * (p * q * u)
-      turn a b p q u = simp (mul-assoc, mul-comm, mul-left-comm, mul-one, one-mul)
+      rearrange : (a b p q u : ℕ) → a * p * (b * q) * 1 * u ≡ a * b * (p * q * u)
+      rearrange a b p q u = simp (mul-assoc, mul-comm, mul-left-comm, mul-one, one-mul)
 
-      turn' : (a p u : ℕ) → a * (p * u * u) ≡ a * p * (1 * (u * u))
-      turn' a p u = simp (mul-assoc, mul-comm, mul-left-comm, mul-one, one-mul)
+      rearrange' : (a p u : ℕ) → a * (p * u * u) ≡ a * p * (1 * (u * u))
+      rearrange' a p u = simp (mul-assoc, mul-comm, mul-left-comm, mul-one, one-mul)
 
       first : (a b : ℕ) → a * 2 ^ xi * (b * 2 ^ yi) * 1 * 2 ^ 1074 ≡ a * b * 2 ^ unit * (1 * (2 ^ 1074 * 2 ^ 1074))
-      first a b = turn a b (2 ^ xi) (2 ^ yi) (2 ^ 1074) ∙ ap (λ (f : ℕ). a * b * (f * 2 ^ 1074)) (sym (pow-add 2 xi yi) ∙ ap (λ (f : ℕ). 2 ^ f) units-is ∙ pow-add 2 unit 1074) ∙ turn' (a * b) (2 ^ unit) (2 ^ 1074)
+      first a b = rearrange a b (2 ^ xi) (2 ^ yi) (2 ^ 1074) ∙ ap (λ (f : ℕ). a * b * (f * 2 ^ 1074)) (sym (pow-add 2 xi yi) ∙ ap (λ (f : ℕ). 2 ^ f) units-is ∙ pow-add 2 unit 1074) ∙ rearrange' (a * b) (2 ^ unit) (2 ^ 1074)
 
       second : (k u : ℕ) → k * (1 * u) * u ≡ k * (1 * (u * u))
       second k u = simp (mul-assoc, mul-comm, mul-left-comm, mul-one, one-mul)
 
-  pub by-errors-is : (r : Float) → Pinned total (add binary64 back e) r → r ≡ fma binary64 x y z
-  by-errors-is r R = pinned-is v (Z .sign) prod (near prod) (Z .size) p-is (near-short prod) e-is z-is (Z .short) r (fma binary64 x y z) R fma-rounds
+  pub by-errors-is : (r : Float) → RoundsAlike total (add binary64 back e) r → r ≡ fma binary64 x y z
+  by-errors-is r R = rounds-alike-is v (Z .sign) prod (near prod) (Z .size) p-is (near-short prod) e-is z-is (Z .short) r (fma binary64 x y z) R fma-rounds

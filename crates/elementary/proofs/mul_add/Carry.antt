@@ -6,7 +6,7 @@ use native.Mathlib.Omega.{arith}
 use lib.Dec.{leb, ltb, le→leb, leb→le, lt→ltb, ltb→lt}
 use lib.Arith.{mod-mul}
 use lib.Pow.{pow-add, pow-pos, shr-shr, high, shl-lt}
-use Rattle.elementary.specs.Inside.Round.{wide, Any, Same}
+use Rattle.elementary.specs.Inside.Round.{wide, Any, SameZero}
 use Rattle.elementary.proofs.Laws.Leaf.{same-test, mul-mod-mul, zero-of-mul, sum-zero-l, sum-zero-r}
 use Rattle.elementary.proofs.Laws.Words.{wide-div, wide-mod, top-lt}
 
@@ -128,18 +128,18 @@ module _ (P h l Q : ℕ) where
   pub left-high : (h * P + l) * Q < P * P → h * Q < P
   left-high k = lt-of-le-of-lt (omega arith) (left-fits k)
 
-carried : (l d z : ℕ) → z + d ≡ 64 → l / 2 ^ z ≡ l * 2 ^ d / 2 ^ 64
-carried l d z s = sym (ap (λ (t : ℕ). l * 2 ^ d / t) (ap (λ (t : ℕ). 2 ^ t) (sym s) ∙ pow-add 2 z d) ∙ mul-div-mul-right l (2 ^ z) (pow-pos d))
+carry : (l d z : ℕ) → z + d ≡ 64 → l / 2 ^ z ≡ l * 2 ^ d / 2 ^ 64
+carry l d z s = sym (ap (λ (t : ℕ). l * 2 ^ d / t) (ap (λ (t : ℕ). 2 ^ t) (sym s) ∙ pow-add 2 z d) ∙ mul-div-mul-right l (2 ^ z) (pow-pos d))
 
 pub left-law : (h l d z u r : ℕ) → z + d ≡ 64 → u ≡ l / 2 ^ z → r ≡ h * 2 ^ d → wide (r + u) (l * 2 ^ d % 2 ^ 64) ≡ wide h l * 2 ^ d
 left-law h l d z u r s e f =
-    ap (λ (t : ℕ). wide (r + t) (l * 2 ^ d % 2 ^ 64)) (e ∙ carried l d z s)
+    ap (λ (t : ℕ). wide (r + t) (l * 2 ^ d % 2 ^ 64)) (e ∙ carry l d z s)
     ∙ ap (λ (t : ℕ). wide (t + l * 2 ^ d / 2 ^ 64) (l * 2 ^ d % 2 ^ 64)) f
     ∙ left-flat (2 ^ 64) h l (2 ^ d)
 
 pub left-sum : (h l d z u r : ℕ) → z + d ≡ 64 → u ≡ l / 2 ^ z → r ≡ h * 2 ^ d → wide h l * 2 ^ d < 2 ^ 128 → r + u < 2 ^ 64
 left-sum h l d z u r s e f k =
-    subst (λ (t : ℕ). r + t < 2 ^ 64) (sym (e ∙ carried l d z s))
+    subst (λ (t : ℕ). r + t < 2 ^ 64) (sym (e ∙ carry l d z s))
     (subst (λ (t : ℕ). t + l * 2 ^ d / 2 ^ 64 < 2 ^ 64) (sym f) (left-fits (2 ^ 64) h l (2 ^ d) k))
 
 -- ---- v / 2 ^ d, with z for 64 - d
@@ -177,13 +177,13 @@ right-far h l d u D L e =
     zero-high u = omega arith
 
 -- ---- what is dropped
-pub lost-near : (h l d r : ℕ) → d < 64 → r ≡ l % 2 ^ d → Same r (wide h l % 2 ^ d)
-lost-near h l d r D e =
+pub dropped-near : (h l d r : ℕ) → d < 64 → r ≡ l % 2 ^ d → SameZero r (wide h l % 2 ^ d)
+dropped-near h l d r D e =
     let f : wide h l % 2 ^ d ≡ r = wide-mod h l (64 - d) d (omega arith) ∙ sym e in
     record { to = λ z. f ∙ z; from = λ z. sym f ∙ z }
 
-pub lost-far : (h l d r : ℕ) → 64 ≤ d → l < 2 ^ 64 → Any l (h % 2 ^ (d - 64)) r → Same r (wide h l % 2 ^ d)
-lost-far h l d r D L A =
+pub dropped-far : (h l d r : ℕ) → 64 ≤ d → l < 2 ^ 64 → Any l (h % 2 ^ (d - 64)) r → SameZero r (wide h l % 2 ^ d)
+dropped-far h l d r D L A =
     let f : wide h l % 2 ^ d ≡ h % 2 ^ (d - 64) * 2 ^ 64 + l =
     ap (λ (t : ℕ). wide h l % t) (ap (λ (t : ℕ). 2 ^ t) (omega arith) ∙ pow-add 2 64 (d - 64) ∙ mul-comm (2 ^ 64) (2 ^ (d - 64)))
     ∙ mod-mul (wide h l) (pow-pos (d - 64)) (pow-pos 64)

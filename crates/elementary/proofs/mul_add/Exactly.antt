@@ -190,18 +190,18 @@ zero-addend (fin s m e) (fin t n d) (fin v o g) p q r h k =
     less-zero : (x : ℕ) → x - 0 ≡ x
     less-zero x = omega arith
 
-    scaled : (u : Bool) (a a' E G : ℕ) → 0 < E → 0 < G → a' ≡ a * G → round binary64 u a E ≡ round binary64 u a' (E * G)
-    scaled u a a' E G e g h =
-        let turn : a * (E * G) ≡ a * G * E = simp (mul-assoc, mul-comm, mul-left-comm) in
-        round-same binary64 u a E a' (E * G) e (mul-pos e g) (turn ∙ ap (λ (w : ℕ). w * E) (sym h))
+    widen-fraction : (u : Bool) (a a' E G : ℕ) → 0 < E → 0 < G → a' ≡ a * G → round binary64 u a E ≡ round binary64 u a' (E * G)
+    widen-fraction u a a' E G e g h =
+        let rearrange : a * (E * G) ≡ a * G * E = simp (mul-assoc, mul-comm, mul-left-comm) in
+        round-same binary64 u a E a' (E * G) e (mul-pos e g) (rearrange ∙ ap (λ (w : ℕ). w * E) (sym h))
 
     only : (u v : Bool) (a b E G : ℕ) → 0 < a → b ≡ 0 → 0 < E → 0 < G → round binary64 u a E ≡ sum binary64 u (a * G) v (b * E) (E * G)
     only u v a b E G A Z e g =
         let w : b * E ≡ 0 = ap (λ (w : ℕ). w * E) Z ∙ zero-mul E in
         elim (beq-cases u v) [
-          | inl c ↦ scaled u a (a * G + b * E) E G e g (ap (λ (w : ℕ). a * G + w) w ∙ add-zero (a * G)) ∙ sym (sum-same binary64 u v (a * G) (b * E) (E * G) (c .0))
+          | inl c ↦ widen-fraction u a (a * G + b * E) E G e g (ap (λ (w : ℕ). a * G + w) w ∙ add-zero (a * G)) ∙ sym (sum-same binary64 u v (a * G) (b * E) (E * G) (c .0))
           | inr c ↦
-              scaled u a (a * G - b * E) E G e g (ap (λ (w : ℕ). a * G - w) w ∙ less-zero (a * G))
+              widen-fraction u a (a * G - b * E) E G e g (ap (λ (w : ℕ). a * G - w) w ∙ less-zero (a * G))
               ∙ sym (sum-more binary64 u v (a * G) (b * E) (E * G) (c .0) (subst (λ (w : ℕ). w < a * G) (sym w) (mul-pos A g)))
         ]
 
@@ -218,13 +218,13 @@ size-pos x s A D h P t m e q =
 
 -- ---- the two fractions as the program has them
 pub product-form : (a b i j : ℕ) → a * b * 2 ^ (i + j + 128) ≡ a * 2 ^ i * (b * 2 ^ j) * 2 ^ 128
-product-form a b i j = ap (λ (w : ℕ). a * b * w) (pow-add 2 (i + j) 128 ∙ ap (λ (w : ℕ). w * 2 ^ 128) (pow-add 2 i j)) ∙ turn (2 ^ i) (2 ^ j) (2 ^ 128)
+product-form a b i j = ap (λ (w : ℕ). a * b * w) (pow-add 2 (i + j) 128 ∙ ap (λ (w : ℕ). w * 2 ^ 128) (pow-add 2 i j)) ∙ rearrange (2 ^ i) (2 ^ j) (2 ^ 128)
   where
-    turn : (x y z : ℕ) → a * b * (x * y * z) ≡ a * x * (b * y) * z
-    turn x y z = simp (mul-assoc, mul-comm, mul-left-comm)
+    rearrange : (x y z : ℕ) → a * b * (x * y * z) ≡ a * x * (b * y) * z
+    rearrange x y z = simp (mul-assoc, mul-comm, mul-left-comm)
 
 pub addend-form : (c k : ℕ) → c * 2 ^ 52 * 2 ^ (k + 1214) ≡ c * 2 ^ k * (2 ^ 128 * 2 ^ 1138)
-addend-form c k = ap (λ (w : ℕ). c * 2 ^ 52 * w) (pow-add 2 k 1214) ∙ turn (2 ^ 52) (2 ^ k) (2 ^ 1214)
+addend-form c k = ap (λ (w : ℕ). c * 2 ^ 52 * w) (pow-add 2 k 1214) ∙ rearrange (2 ^ 52) (2 ^ k) (2 ^ 1214)
   where
-    turn : (x y z : ℕ) → c * x * (y * z) ≡ c * y * (x * z)
-    turn x y z = simp (mul-assoc, mul-comm, mul-left-comm)
+    rearrange : (x y z : ℕ) → c * x * (y * z) ≡ c * y * (x * z)
+    rearrange x y z = simp (mul-assoc, mul-comm, mul-left-comm)

@@ -9,8 +9,8 @@ use lib.Dec.{T, leb}
 use lib.Pow.{pow-pos, pow-mono, shl-lt}
 use lib.Ieee.{Float, nan, inf, fin, binary64, toBits, fits, isNan, eq, add, sub, mul, sum, round, unlike}
 use lib.Ieee.Exact.{HasValue, round-exact}
-use Rattle.elementary.specs.Inside.Round.{wide, Decoded}
-use Rattle.elementary.specs.Inside.MulAdd.{Marked, Middling, Opened, Apart}
+use Rattle.elementary.specs.Inside.Round.{wide, PartsOf}
+use Rattle.elementary.specs.Inside.MulAdd.{CutWithSticky, ExponentSumInRange, FieldsOf, FarFromZero}
 use Rattle.elementary.proofs.Laws.Decode.{split-power, same-power, normal-value}
 use Rattle.elementary.proofs.Laws.Values.{revalue}
 use Rattle.elementary.proofs.mul_add.Sums.{sum-same, sum-more}
@@ -54,8 +54,8 @@ module _ (x y : Float) (s : Bool) (a b e : ℕ) (lo : 1330 ≤ e) (hi : e ≤ 33
 pub shift : (q u j : ℕ) → q * 2 ^ (u + j) ≡ q * 2 ^ j * 2 ^ u
 shift q u j = split-power q (u + j) j u (add-comm u j)
 
--- ---- `placed`
-module _ (x y z : Float) (s : Bool) (hi lo m k : ℕ) (K : Middling k) (M : Marked 13 lo m) (L : lo < 2 ^ 64) (N : m < 2 ^ 52) (H : hi < 2 ^ 52)
+-- ---- `round_by_addition`
+module _ (x y z : Float) (s : Bool) (hi lo m k : ℕ) (K : ExponentSumInRange k) (M : CutWithSticky 13 lo m) (L : lo < 2 ^ 64) (N : m < 2 ^ 52) (H : hi < 2 ^ 52)
     (p : HasValue x s ((2 ^ 52 + hi) * 2 ^ (k - 1011 + 1329)) (2 ^ 2404)) (q : HasValue y s ((2 ^ 52 + 0x8_0000_0000_0001) * 2 ^ (k - 1011 + 1329)) (2 ^ 2404))
     (r : HasValue z s ((2 ^ 52 + m) * 2 ^ (k - 1063 + 1329)) (2 ^ 2404)) where
   abbrev u : ℕ
@@ -70,39 +70,39 @@ module _ (x y z : Float) (s : Bool) (hi lo m k : ℕ) (K : Middling k) (M : Mark
   r' : HasValue z s ((2 ^ 52 + m) * 2 ^ (u + 12)) (2 ^ 2404)
   r' = subst (λ (w : ℕ). HasValue z s ((2 ^ 52 + m) * 2 ^ w) (2 ^ 2404)) (omega arith) r
 
-  pub placed-up : 2 ^ 51 + 8 ≤ hi → add binary64 (sub binary64 x y) z ≡ round binary64 s (wide (hi - 2 ^ 51) lo * 2 ^ (k + 254)) (2 ^ 2404)
-  placed-up g =
+  pub round-up : 2 ^ 51 + 8 ≤ hi → add binary64 (sub binary64 x y) z ≡ round binary64 s (wide (hi - 2 ^ 51) lo * 2 ^ (k + 254)) (2 ^ 2404)
+  round-up g =
       let d = 2 ^ 52 + hi - (2 ^ 52 + 0x8_0000_0000_0001) in
       let t = 2 ^ 52 + m in
       let h = (hi - 2 ^ 51) * 2 ^ 51 in
-      let joined : d * 2 ^ 64 + t * 2 ^ 12 ≡ h * 2 ^ 13 + m * 2 ^ 12 = omega arith in
+      let total : d * 2 ^ 64 + t * 2 ^ 12 ≡ h * 2 ^ 13 + m * 2 ^ 12 = omega arith in
       let whole : h * 2 ^ 13 + lo ≡ wide (hi - 2 ^ 51) lo = omega arith in
       add-at (sub binary64 x y) z s s (d * 2 ^ (u + 64)) (t * 2 ^ (u + 12)) (2 ^ 2404) (pow-pos 2404) (sub-up x y s (2 ^ 52 + hi) (2 ^ 52 + 0x8_0000_0000_0001) (u + 64) (omega arith) (omega arith) p' q' (omega arith) (omega arith)) r'
       ∙ sum-same binary64 s s (d * 2 ^ (u + 64)) (t * 2 ^ (u + 12)) (2 ^ 2404) (beq-refl s)
       ∙ ap (λ (w : ℕ). round binary64 s (w + t * 2 ^ (u + 12)) (2 ^ 2404)) (shift d u 64)
       ∙ ap (λ (w : ℕ). round binary64 s (d * 2 ^ 64 * 2 ^ u + w) (2 ^ 2404)) (shift t u 12)
       ∙ ap (λ (w : ℕ). round binary64 s w (2 ^ 2404)) (sym (add-mul (d * 2 ^ 64) (t * 2 ^ 12) (2 ^ u)))
-      ∙ ap (λ (w : ℕ). round binary64 s (w * 2 ^ u) (2 ^ 2404)) joined
+      ∙ ap (λ (w : ℕ). round binary64 s (w * 2 ^ u) (2 ^ 2404)) total
       ∙ sym (round-alike s 13 (h * 2 ^ 13 + lo) (h * 2 ^ 13 + m * 2 ^ 12) u (omega arith) (plus-alike 12 lo m M h (omega arith)))
       ∙ ap (λ (w : ℕ). round binary64 s (w * 2 ^ u) (2 ^ 2404)) whole
 
-  pub placed-down : hi + 9 ≤ 2 ^ 51 → add binary64 (sub binary64 x y) z ≡ round binary64 (not s) (((2 ^ 51 - hi) * 2 ^ 64 - lo) * 2 ^ (k + 254)) (2 ^ 2404)
-  placed-down g =
+  pub round-down : hi + 9 ≤ 2 ^ 51 → add binary64 (sub binary64 x y) z ≡ round binary64 (not s) (((2 ^ 51 - hi) * 2 ^ 64 - lo) * 2 ^ (k + 254)) (2 ^ 2404)
+  round-down g =
       let d = 2 ^ 52 + 0x8_0000_0000_0001 - (2 ^ 52 + hi) in
       let t = 2 ^ 52 + m in
       let h = (2 ^ 51 - hi) * 2 ^ 51 in
-      let joined : d * 2 ^ 64 - t * 2 ^ 12 ≡ h * 2 ^ 13 - m * 2 ^ 12 = omega arith in
+      let total : d * 2 ^ 64 - t * 2 ^ 12 ≡ h * 2 ^ 13 - m * 2 ^ 12 = omega arith in
       let whole : h * 2 ^ 13 - lo ≡ (2 ^ 51 - hi) * 2 ^ 64 - lo = omega arith in
       add-at (sub binary64 x y) z (not s) s (d * 2 ^ (u + 64)) (t * 2 ^ (u + 12)) (2 ^ 2404) (pow-pos 2404) (sub-down x y s (2 ^ 52 + hi) (2 ^ 52 + 0x8_0000_0000_0001) (u + 64) (omega arith) (omega arith) p' q' (omega arith) (omega arith)) r'
       ∙ ap (λ (w : ℕ). sum binary64 (not s) w s (t * 2 ^ (u + 12)) (2 ^ 2404)) (shift d u 64)
       ∙ ap (λ (w : ℕ). sum binary64 (not s) (d * 2 ^ 64 * 2 ^ u) s w (2 ^ 2404)) (shift t u 12)
       ∙ sum-more binary64 (not s) s (d * 2 ^ 64 * 2 ^ u) (t * 2 ^ 12 * 2 ^ u) (2 ^ 2404) (not-beq s) (mul-lt-mul-of-pos-right (omega arith) (pow-pos u))
       ∙ ap (λ (w : ℕ). round binary64 (not s) w (2 ^ 2404)) (sym (sub-mul (d * 2 ^ 64) (t * 2 ^ 12) (2 ^ u)))
-      ∙ ap (λ (w : ℕ). round binary64 (not s) (w * 2 ^ u) (2 ^ 2404)) joined
+      ∙ ap (λ (w : ℕ). round binary64 (not s) (w * 2 ^ u) (2 ^ 2404)) total
       ∙ sym (round-alike (not s) 13 (h * 2 ^ 13 - lo) (h * 2 ^ 13 - m * 2 ^ 12) u (omega arith) (minus-alike 12 lo m M h (omega arith)))
       ∙ ap (λ (w : ℕ). round binary64 (not s) (w * 2 ^ u) (2 ^ 2404)) whole
 
--- ---- `near`, with p for the product and c for the addend, both by the unit 2 ^ u
+-- ---- `quick_near`, with p for the product and c for the addend, both by the unit 2 ^ u
 scaled-addend : (n cn : Bool) (p m d u : ℕ) → sum binary64 n (p * 2 ^ u) cn (m * 2 ^ d * 2 ^ u) (2 ^ 2404) ≡ sum binary64 n (p * 2 ^ u) cn (m * 2 ^ (u + d)) (2 ^ 2404)
 scaled-addend n cn p m d u = ap (λ (w : ℕ). sum binary64 n (p * 2 ^ u) cn w (2 ^ 2404)) (sym (shift m u d))
 
@@ -141,7 +141,7 @@ module _ (n cn : Bool) (p m d u : ℕ) where
       ∙ sum-comm binary64 cn n (m * 2 ^ d * 2 ^ u) (p * 2 ^ u) (2 ^ 2404)
       ∙ scaled-addend n cn p m d u
 
--- v stands for 2 ^ 115 plus the sum, and is turned back
+-- v stands for 2 ^ 115 plus the sum, and the 2 ^ 115 is taken off again
 module _ (n cn : Bool) (p m d u vh vl : ℕ) (S : Bool·beq n cn ≡ true → wide vh vl ≡ 2 ^ 115 + (m * 2 ^ d + p)) (O : Bool·beq n cn ≡ false → wide vh vl + p ≡ 2 ^ 115 + m * 2 ^ d) where
   pub near-top : m * 2 ^ d < 2 ^ 114 → p < 2 ^ 106 → vh < 2 ^ 52
   near-top t h = elim (beq-cases n cn) [
@@ -149,7 +149,7 @@ module _ (n cn : Bool) (p m d u vh vl : ℕ) (S : Bool·beq n cn ≡ true → wi
     | inr e ↦ let v = O (e .0) in omega arith
   ]
 
-  pub near-is : (r : Float) → vl < 2 ^ 64 → Apart vh → (2 ^ 51 ≤ vh → r ≡ round binary64 cn (wide (vh - 2 ^ 51) vl * 2 ^ u) (2 ^ 2404)) → (vh < 2 ^ 51 → r ≡ round binary64 (not cn) (((2 ^ 51 - vh) * 2 ^ 64 - vl) * 2 ^ u) (2 ^ 2404))
+  pub near-is : (r : Float) → vl < 2 ^ 64 → FarFromZero vh → (2 ^ 51 ≤ vh → r ≡ round binary64 cn (wide (vh - 2 ^ 51) vl * 2 ^ u) (2 ^ 2404)) → (vh < 2 ^ 51 → r ≡ round binary64 (not cn) (((2 ^ 51 - vh) * 2 ^ 64 - vl) * 2 ^ u) (2 ^ 2404))
       → r ≡ sum binary64 n (p * 2 ^ u) cn (m * 2 ^ (u + d)) (2 ^ 2404)
   near-is r L A f g = elim (beq-cases n cn) [
     | inl e ↦ let v = S (e .0) in elim (A .off) [
@@ -168,8 +168,8 @@ module _ (n cn : Bool) (p m d u vh vl : ℕ) (S : Bool·beq n cn ≡ true → wi
     ]
   ]
 
--- ---- `beyond`, with p for the product and r for its leading digits
-module _ (c x y : Float) (n cn : Bool) (p m d k r : ℕ) (K : Middling k) (M : Marked 55 p r) (R : r < 2 ^ 52) (D : 62 ≤ d) (L : 2 ^ 52 ≤ m) (lo : 2 ^ 104 ≤ p) (hi : p < 2 ^ 106)
+-- ---- `quick_far`, with p for the product and r for its leading digits
+module _ (c x y : Float) (n cn : Bool) (p m d k r : ℕ) (K : ExponentSumInRange k) (M : CutWithSticky 55 p r) (R : r < 2 ^ 52) (D : 62 ≤ d) (L : 2 ^ 52 ≤ m) (lo : 2 ^ 104 ≤ p) (hi : p < 2 ^ 106)
     (X : HasValue x n ((2 ^ 52 + r) * 2 ^ (k - 1021 + 1329)) (2 ^ 2404)) (Y : HasValue y n ((2 ^ 52 + 0) * 2 ^ (k - 1021 + 1329)) (2 ^ 2404))
     (C : HasValue c cn (m * 2 ^ (k + 254 + d)) (2 ^ 2404)) where
   abbrev v : ℕ
@@ -192,8 +192,8 @@ module _ (c x y : Float) (n cn : Bool) (p m d k r : ℕ) (K : Middling k) (M : M
   h-large : 2 ^ 59 ≤ h
   h-large = mul-le-mul L (pow-mono {i = 7} {j = d - 55} (omega arith))
 
-  pub beyond-is : add binary64 c (sub binary64 x y) ≡ sum binary64 n (p * 2 ^ (k + 254)) cn (m * 2 ^ (k + 254 + d)) (2 ^ 2404)
-  beyond-is =
+  pub quick-far-is : add binary64 c (sub binary64 x y) ≡ sum binary64 n (p * 2 ^ (k + 254)) cn (m * 2 ^ (k + 254 + d)) (2 ^ 2404)
+  quick-far-is =
       let l = h-large in
       add-at c (sub binary64 x y) cn n (m * 2 ^ (v + d)) (r * 2 ^ (v + 54)) (2 ^ 2404) (pow-pos 2404) C W
       ∙ ap (λ (w : ℕ). sum binary64 cn w n (r * 2 ^ (v + 54)) (2 ^ 2404)) high-digits
@@ -215,13 +215,13 @@ module _ (c x y : Float) (n cn : Bool) (p m d k r : ℕ) (K : Middling k) (M : M
       ∙ ap (λ (w : ℕ). sum binary64 cn w n (p * 2 ^ v) (2 ^ 2404)) (sym high-digits)
       ∙ sum-comm binary64 cn n (m * 2 ^ (v + d)) (p * 2 ^ v) (2 ^ 2404)
 
--- ---- `opened`
+-- ---- `fields_of`
 module _ (x : Float) (F : T (fits binary64 x)) where
   abbrev b : ℕ
   b = toBits binary64 x
 
-  pub opened-is : Opened x (leb (2 ^ 63) b) (2 ^ 52 + b % 2 ^ 52) (b % 2 ^ 63 / 2 ^ 52)
-  opened-is = record { lead = omega arith; top = omega arith; field = omega arith; value = normal-value x F }
+  pub fields-of-is : FieldsOf x (leb (2 ^ 63) b) (2 ^ 52 + b % 2 ^ 52) (b % 2 ^ 63 / 2 ^ 52)
+  fields-of-is = record { lead = omega arith; top = omega arith; field = omega arith; value = normal-value x F }
 
 -- ---- no operand is a NaN where the plain result is none
 eq-nan : (x : Float) → eq x x ≡ true → T (not (isNan x))
@@ -268,7 +268,7 @@ operands x y z h =
     let p : T (not (isNan (mul binary64 x y))) = add-l (mul binary64 x y) z t in
     (mul-l x y p, (mul-r x y p, add-r (mul binary64 x y) z t))
 
--- ---- `quick`
+-- ---- `fma_quick`
 module _ (f h : ℕ) (l : f < h + 1075) where
   abbrev spot : ℕ
   spot = f + 254 + (h + 1075 - f)
@@ -276,7 +276,7 @@ module _ (f h : ℕ) (l : f < h + 1075) where
   as-shifted : spot ≡ h + 63 + 1266
   as-shifted = omega arith
 
-  pub addend-value : (x : Float) (s : Bool) (m : ℕ) → Decoded x s m (h + 63) → HasValue x s (m * 2 ^ spot) (2 ^ 2404)
+  pub addend-value : (x : Float) (s : Bool) (m : ℕ) → PartsOf x s m (h + 63) → HasValue x s (m * 2 ^ spot) (2 ^ 2404)
   addend-value x s m A = revalue x s (m * 2 ^ (h + 63)) (2 ^ 1138) (m * 2 ^ spot) (2 ^ 2404) (pow-pos 1138) (same-power m (h + 63) 2404 spot 1138 (omega arith)) (A .value)
 
   addend-is : (m : ℕ) → m * 2 ^ spot ≡ m * 2 ^ (h + 63) * (2 ^ 128 * 2 ^ 1138)
@@ -285,7 +285,7 @@ module _ (f h : ℕ) (l : f < h + 1075) where
 product-is : (a b i j : ℕ) → a * b * 2 ^ (i + j + 254) ≡ a * 2 ^ (i + 63) * (b * 2 ^ (j + 63)) * 2 ^ 128
 product-is a b i j = ap (λ (w : ℕ). a * b * 2 ^ w) (omega arith) ∙ product-form a b (i + 63) (j + 63)
 
-pub fma-is : (x y z : Float) (s t v : Bool) (a b c i j h p : ℕ) → i + j < h + 1075 → Decoded x s a (i + 63) → Decoded y t b (j + 63) → Decoded z v c (h + 63) → p ≡ a * b
+pub fma-is : (x y z : Float) (s t v : Bool) (a b c i j h p : ℕ) → i + j < h + 1075 → PartsOf x s a (i + 63) → PartsOf y t b (j + 63) → PartsOf z v c (h + 63) → p ≡ a * b
     → sum binary64 (unlike s t) (p * 2 ^ (i + j + 254)) v (c * 2 ^ (i + j + 254 + (h + 1075 - (i + j)))) (2 ^ 2404) ≡ fma binary64 x y z
 fma-is x y z s t v a b c i j h p l A B C e =
     ap (λ (w : ℕ). sum binary64 (unlike s t) w v (c * 2 ^ (i + j + 254 + (h + 1075 - (i + j)))) (2 ^ 2404)) (ap (λ (w : ℕ). w * 2 ^ (i + j + 254)) e ∙ product-is a b i j)

@@ -67,15 +67,15 @@ neg-is {x} {a} {b} {k} X = record {
   size = X .size;
   value = neg-value x (X .sign) (X .size) (2 ^ 1074) (X .value);
   pair = go (X .sign) (X .pair);
-  small = le-trans (le-of-eq turn) (X .small);
+  small = le-trans (le-of-eq rearrange) (X .small);
 }
   where
     go : (s : Bool) → a + cond s (X .size) 0 ≡ b + cond s 0 (X .size) → b + cond (not s) (X .size) 0 ≡ a + cond (not s) 0 (X .size)
     go true e = sym e
     go false e = sym e
 
-    turn : dist b a ≡ dist a b
-    turn = omega arith
+    rearrange : dist b a ≡ dist a b
+    rearrange = omega arith
 
 pub relabel : {x : Float} {a b k : ℕ} (c d : ℕ) → a + d ≡ c + b → Is x a b k → Is x c d k
 relabel {x} {a} {b} {k} c d e X = record {

@@ -10,7 +10,7 @@ use lib.Arith.{digits-div, digits-mod}
 use lib.Pow.{pow-add, pow-pos, pow-mono, shl-lt, shr-lt, add-lt-pow}
 use lib.Ieee.{Format, round, sum}
 use lib.Ieee.Bits.{is-true, is-false}
-use Rattle.elementary.specs.Inside.Round.{Cut, Same}
+use Rattle.elementary.specs.Inside.Round.{Cut, SameZero}
 use Rattle.elementary.proofs.Laws.Leaf.{mul-mod-mul, zero-of-mul}
 use Rattle.elementary.proofs.Laws.Adding.{sub-mul}
 use Rattle.elementary.proofs.Laws.Decode.{split-power}
@@ -121,7 +121,7 @@ far-cut {A} {Q} {v} {x} G T num E P g t n e C =
     (cut-scale (G * T) P (mul-pos g t) C))
 
 -- ---- l * Q + s and l * Q - s, cut by Q
-module _ (l s Q y x : ℕ) (P : 0 < Q) (Y : y ≡ s / Q) (X : Same x (s % Q)) where
+module _ (l s Q y x : ℕ) (P : 0 < Q) (Y : y ≡ s / Q) (X : SameZero x (s % Q)) where
   pub cut-plus : (v : ℕ) → v ≡ l + y → Cut (l * Q + s) Q v x
   cut-plus v H = record {
     whole = mul-add-div-right P l s ∙ ap (λ (z : ℕ). l + z) (sym Y) ∙ sym H;

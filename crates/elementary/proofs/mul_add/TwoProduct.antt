@@ -34,13 +34,13 @@ pub mul-units : (x y : Float) (s t : Bool) (a b i j g : ℕ) → i + j ≡ g + 1
 mul-units x y s t a b i j g e p q =
     mul-value x y s t (a * 2 ^ i) (b * 2 ^ j) (2 ^ 1074) (2 ^ 1074) (pow-pos 1074) (pow-pos 1074) p q
     ∙ round-same binary64 (unlike s t) (a * 2 ^ i * (b * 2 ^ j)) (2 ^ 1074 * 2 ^ 1074) (a * b * 2 ^ g) (2 ^ 1074) (mul-pos (pow-pos 1074) (pow-pos 1074)) (pow-pos 1074)
-    (turn a b (2 ^ i) (2 ^ j) (2 ^ 1074) ∙ ap (λ (z : ℕ). a * b * (z * 2 ^ 1074)) (sym (pow-add 2 i j) ∙ ap (λ (z : ℕ). 2 ^ z) e ∙ pow-add 2 g 1074) ∙ turn' (a * b) (2 ^ g) (2 ^ 1074))
+    (rearrange a b (2 ^ i) (2 ^ j) (2 ^ 1074) ∙ ap (λ (z : ℕ). a * b * (z * 2 ^ 1074)) (sym (pow-add 2 i j) ∙ ap (λ (z : ℕ). 2 ^ z) e ∙ pow-add 2 g 1074) ∙ rearrange' (a * b) (2 ^ g) (2 ^ 1074))
   where
-    turn : (a b x y u : ℕ) → a * x * (b * y) * u ≡ a * b * (x * y * u)
-    turn a b x y u = simp (mul-assoc, mul-comm, mul-left-comm)
+    rearrange : (a b x y u : ℕ) → a * x * (b * y) * u ≡ a * b * (x * y * u)
+    rearrange a b x y u = simp (mul-assoc, mul-comm, mul-left-comm)
 
-    turn' : (p x u : ℕ) → p * (x * u * u) ≡ p * x * (u * u)
-    turn' p x u = simp (mul-assoc, mul-comm, mul-left-comm)
+    rearrange' : (p x u : ℕ) → p * (x * u * u) ≡ p * x * (u * u)
+    rearrange' p x u = simp (mul-assoc, mul-comm, mul-left-comm)
 
 -- ---- differences with a sign: x is a - b, or b - a where n holds
 pub record Rel (n : Bool) (x : Float) (a b k : ℕ) : Type 0 where
@@ -56,14 +56,14 @@ rel-sub true {a = a} {b = b} {c = c} {d = d} X Y S h = record { is = sub-exact (
 
 pub rel-as : (n : Bool) {x : Float} {a b k : ℕ} (c d : ℕ) → a + d ≡ c + b → Rel n x a b k → Rel n x c d k
 rel-as false c d e X = record { is = relabel c d e (X .is) }
-rel-as true {a = a} {b = b} c d e X = record { is = relabel d c (turn e) (X .is) }
+rel-as true {a = a} {b = b} c d e X = record { is = relabel d c (rearrange e) (X .is) }
   where
-    turn : a + d ≡ c + b → b + c ≡ d + a
-    turn e = omega arith
+    rearrange : a + d ≡ c + b → b + c ≡ d + a
+    rearrange e = omega arith
 
 -- a value of known size, whose sign is n or which is zero
-sized : (n : Bool) (x : Float) (v k : ℕ) → v ≤ k * bound → (s : Bool) → (s ≡ n) ⊎ (v ≡ 0) → HasValue x s v (2 ^ 1074) → Rel n x v 0 k
-sized n x v k h s c p = record { is = record { sign = s; size = v; value = p; pair = go n s c; small = le-trans (le-of-eq (only n)) h } }
+rel-of-value : (n : Bool) (x : Float) (v k : ℕ) → v ≤ k * bound → (s : Bool) → (s ≡ n) ⊎ (v ≡ 0) → HasValue x s v (2 ^ 1074) → Rel n x v 0 k
+rel-of-value n x v k h s c p = record { is = record { sign = s; size = v; value = p; pair = go n s c; small = le-trans (le-of-eq (only n)) h } }
   where
     go : (n s : Bool) → (s ≡ n) ⊎ (v ≡ 0) → cond n 0 v + cond s v 0 ≡ cond n v 0 + cond s 0 v
     go true true c = omega arith
@@ -78,7 +78,7 @@ sized n x v k h s c p = record { is = record { sign = s; size = v; value = p; pa
     only false = omega arith
 
 pub plain : (n : Bool) (x : Float) (v k : ℕ) → v ≤ k * bound → HasValue x n v (2 ^ 1074) → Rel n x v 0 k
-plain n x v k h p = sized n x v k h n (inl refl) p
+plain n x v k h p = rel-of-value n x v k h n (inl refl) p
 
 -- and back
 sign-or : (n s : Bool) (v z : ℕ) → cond n 0 v + cond s z 0 ≡ cond n v 0 + cond s 0 z → (z ≡ v) × ((s ≡ n) ⊎ (v ≡ 0))
@@ -110,14 +110,14 @@ module _ (n t : Bool) {x y : Float} (a b i j g k l : ℕ) (E : i + j ≡ g + 107
   product-exact h m =
       let r = round binary64 (unlike (X .is .sign) (Y .is .sign)) (a * b * 2 ^ g) (2 ^ 1074) in
       let e = near-exact (a * b * 2 ^ g) (short-top (a * b * 2 ^ g) g (a * b, refl) (le-trans (mul-le-mul-right (2 ^ g) h) (le-of-eq (sym (pow-add 2 53 g))))) in
-      sized (unlike n t) (mul binary64 x y) (a * b * 2 ^ g) 1 (le-trans m (le-of-eq (sym (one-mul bound)))) (unlike (X .is .sign) (Y .is .sign)) product-sign
+      rel-of-value (unlike n t) (mul binary64 x y) (a * b * 2 ^ g) 1 (le-trans m (le-of-eq (sym (one-mul bound)))) (unlike (X .is .sign) (Y .is .sign)) product-sign
       (subst (λ (z : Float). HasValue z (unlike (X .is .sign) (Y .is .sign)) (a * b * 2 ^ g) (2 ^ 1074)) (sym product-is)
       (recast r (2 ^ 1074) refl e (round-value (unlike (X .is .sign) (Y .is .sign)) (a * b * 2 ^ g) (subst (λ (z : ℕ). z < 2 ^ 2098) (sym e) (value-range (a * b * 2 ^ g) m)))))
 
   pub product-near : a * b * 2 ^ g ≤ bound → Rel (unlike n t) (mul binary64 x y) (near (a * b * 2 ^ g)) 0 1
   product-near m =
       let top : near (a * b * 2 ^ g) ≤ 2 ^ 0 * bound = near-in (a * b * 2 ^ g) 0 (le-trans m (le-of-eq (sym (one-mul bound)))) in
-      sized (unlike n t) (mul binary64 x y) (near (a * b * 2 ^ g)) 1 top (unlike (X .is .sign) (Y .is .sign)) (near-sign product-sign)
+      rel-of-value (unlike n t) (mul binary64 x y) (near (a * b * 2 ^ g)) 1 top (unlike (X .is .sign) (Y .is .sign)) (near-sign product-sign)
       (subst (λ (z : Float). HasValue z (unlike (X .is .sign) (Y .is .sign)) (near (a * b * 2 ^ g)) (2 ^ 1074)) (sym product-is)
       (round-value (unlike (X .is .sign) (Y .is .sign)) (a * b * 2 ^ g) (value-range (near (a * b * 2 ^ g)) (le-trans top (le-of-eq (one-mul bound))))))
     where
@@ -219,20 +219,20 @@ ex-ge n j h = lt-of-not-le (λ (l : ex n ≤ j). not-le-of-lt (lt-of-lt-of-le (e
 
 -- ---- a rounded product of 105 or 106 digits
 module _ (x g : ℕ) (lo : 2 ^ 104 ≤ x) (hi : x < 2 ^ 106) where
-  rounded : Mult (near (x * 2 ^ g)) (52 + g)
-  rounded = mult-down (near (x * 2 ^ g)) (52 + g) (ex (x * 2 ^ g)) (omega (arith, ex-ge (x * 2 ^ g) (51 + g) (le-trans (le-of-eq (ap (λ (z : ℕ). 2 ^ z) (omega arith) ∙ pow-add 2 104 g)) (mul-le-mul-right (2 ^ g) lo)))) (near-mult (x * 2 ^ g))
+  product-mult : Mult (near (x * 2 ^ g)) (52 + g)
+  product-mult = mult-down (near (x * 2 ^ g)) (52 + g) (ex (x * 2 ^ g)) (omega (arith, ex-ge (x * 2 ^ g) (51 + g) (le-trans (le-of-eq (ap (λ (z : ℕ). 2 ^ z) (omega arith) ∙ pow-add 2 104 g)) (mul-le-mul-right (2 ^ g) lo)))) (near-mult (x * 2 ^ g))
 
   abbrev q : ℕ
-  q = rounded .0
+  q = product-mult .0
 
-  rounded-is : near (x * 2 ^ g) ≡ q * 2 ^ 52 * 2 ^ g
-  rounded-is = rounded .1 ∙ ap (λ (z : ℕ). q * z) (pow-add 2 52 g) ∙ sym (mul-assoc q (2 ^ 52) (2 ^ g))
+  nearest-is : near (x * 2 ^ g) ≡ q * 2 ^ 52 * 2 ^ g
+  nearest-is = product-mult .1 ∙ ap (λ (z : ℕ). q * z) (pow-add 2 52 g) ∙ sym (mul-assoc q (2 ^ 52) (2 ^ g))
 
   close : dist (q * 2 ^ 52) x ≤ dist (x / 2 ^ 53 * 2 ^ 53) x
   close =
       let f = x / 2 ^ 53 * 2 ^ 53 in
       le-of-mul-le-mul-right {k = 2 ^ g}
-      (le-trans (le-of-eq (dist-mul (q * 2 ^ 52) x (2 ^ g) ∙ ap (λ (z : ℕ). dist z (x * 2 ^ g)) (sym rounded-is)))
+      (le-trans (le-of-eq (dist-mul (q * 2 ^ 52) x (2 ^ g) ∙ ap (λ (z : ℕ). dist z (x * 2 ^ g)) (sym nearest-is)))
       (le-trans (near-best (x * 2 ^ g) (f * 2 ^ g) (short-unit f (x / 2 ^ 53) 53 g refl (omega arith))) (le-of-eq (sym (dist-mul f x (2 ^ g))))))
       (pow-pos g)
 
@@ -363,7 +363,7 @@ module _ (h l m s k : ℕ) (C : Cuts h l m s k) where
     pub error-is : Rel (unlike n t) error (x * 2 ^ g) (near (x * 2 ^ g)) 6
     error-is =
         let r = q x g x-low x-top in
-        let e = rounded-is x g x-low x-top in
+        let e = nearest-is x g x-low x-top in
         subst (λ (z : ℕ). Rel (unlike n t) error (x * 2 ^ g) z 6) (sym e)
         (subst (λ (z : ℕ). Rel (unlike n t) error (z * 2 ^ g) (r * 2 ^ 52 * 2 ^ g) 6) (sym x-is)
         (error-of-parts (unlike n t) g (h * s) (h * k) (u * s) (l * k) (m * k) r (parts g)

@@ -184,14 +184,14 @@ module _ {x y : Float} {a b c d : ℕ} (X : Is x a b 1) (Y : Is y c d 1) (A : Sh
   abbrev w : ℕ
   w = near (q + a - (p + b))
 
-  turned : dist a b ≤ dist c d → Fast c d a b p q
-  turned l =
+  swap : dist a b ≤ dist c d → Fast c d a b p q
+  swap l =
       subst (λ (z : ℕ). Fast c d a b (near (z - m)) (near (m - z))) (omega arith)
       (subst (λ (z : ℕ). Fast c d a b (near (c + a - z)) (near (z - (c + a)))) (omega arith) (fast c d a b C A l))
 
   by-second : dist a b ≤ dist c d → dist b a ≤ dist p q → Is t (n + q) (m + p) 12
   by-second l g =
-      let T = turned l in
+      let T = swap l in
       let F = fast p q b a (subst Short (sym (near-dist n m)) (near-short (dist n m))) (subst Short (dist-comm a b) A) g in
       let rest : Short (dist (p + m) (q + n)) = short-as (p + (d + b)) (q + (c + a)) (p + m) (q + n) (omega arith) (T .rest) in
       let off : dist (p + m) (q + n) ≤ dist c d = le-trans (le-of-eq (same-dist (p + m) (q + n) (p + (d + b)) (q + (c + a)) (omega arith))) (le-trans (T .off) l) in

@@ -16,7 +16,7 @@ use lib.Ieee.Bits.{is-false, ofBits-toBits}
 use borrow.Author.Tests.{le-ltb}
 use Rattle.elementary.specs.Ops.{float}
 use Rattle.elementary.specs.MulAdd.{fma}
-use Rattle.elementary.specs.Inside.MulAdd.{Splits}
+use Rattle.elementary.specs.Inside.MulAdd.{CanSplit}
 use Rattle.elementary.proofs.Laws.Leaf.{same-test}
 use Rattle.elementary.proofs.Laws.Bits.{no-nan-pattern}
 use Rattle.elementary.proofs.Laws.Values.{recast, revalue, value-mid, whole-value}
@@ -153,7 +153,7 @@ by-unit b lo hi =
     (revalue (ofBits binary64 b) (leb (2 ^ 63) b) (m * 2 ^ (g + 1010)) (2 ^ 1074) (m * 2 ^ g) (2 ^ 64) (pow-pos 1074) (same-power m (g + 1010) 64 g 1074 (omega arith))
     (value-mid b (g + 1010) (omega arith) (omega arith)))
 
-module _ (x : Float) (F : T (fits binary64 x)) (p q : ℕ) (S : Splits x p q) where
+module _ (x : Float) (F : T (fits binary64 x)) (p q : ℕ) (S : CanSplit x p q) where
   abbrev b : ℕ
   b = toBits binary64 x
 

@@ -14,8 +14,8 @@ use lib.Pow.{pow-add, pow-pos, pow-mono, shl-lt, shl-exact}
 use lib.Count.{leadingZeros, leading-top}
 use lib.Ieee.{Float, nan, inf, fin, binary64, up, down, size, nearest, units, ofBits, nanBits}
 use lib.Ieee.Fits.{down-pos}
-use lib.Ieee.Exact.{HasValue, units-val}
-use lib.Ieee.Bits.{is-false, ofBits-fits}
+use lib.Ieee.Exact.{HasValue}
+use lib.Ieee.Bits.{is-false}
 use Rattle.elementary.specs.Sqrt.{isqrt, roundRoot, sqrtOf}
 use Rattle.elementary.proofs.Laws.Ordering.{Cmp, cmp}
 use Rattle.elementary.proofs.Laws.Leaf.{size-of}
@@ -24,7 +24,8 @@ use Rattle.elementary.proofs.Laws.Nearest.{units-fits}
 use Rattle.elementary.proofs.Laws.Isqrt.{sq-lt, sq-suc, sq-twice, isqrt-root}
 use Rattle.elementary.specs.Inside.Sqrt.{Root}
 use Rattle.elementary.proofs.Laws.Bits.{nan-pattern, no-nan-pattern}
-use Rattle.elementary.proofs.Laws.Values.{recast, value-low, value-mid, value-inf, value-packed, value-unique}
+use Rattle.elementary.proofs.Laws.Values.{recast, value-low, value-mid, value-inf}
+use Rattle.elementary.proofs.Laws.Pattern.{units-pattern}
 
 -- ---- which way `nearest` goes
 by-order : (q r a b : ℕ) → (a < b → q ≡ r) → (b < a → suc q ≡ r) → (a ≡ b → ⊥) → nearest q (compare a b) ≡ r
@@ -73,12 +74,12 @@ choice w n p P s = go s
         by-order (w / 2) ((w + 1) / 2) (4 * (n * p * p)) (mid w * (p * 2) * (mid w * (p * 2))) (λ g. omega (arith, scale-sq (mid w) p)) (λ _. e) (λ g. omega (arith, scale-sq (mid w) p))
 
 -- `roundRoot`, from the root's whole part v and the number k of dropped digits on
-abbrev rounded : ℕ → ℕ → ℕ → Float
-rounded n v k = units binary64 false (nearest (v / 2 ^ k) (compare (4 * n) ((2 * (v / 2 ^ k) + 1) * 2 ^ k * ((2 * (v / 2 ^ k) + 1) * 2 ^ k)))) k
+abbrev root-value : ℕ → ℕ → ℕ → Float
+root-value n v k = units binary64 false (nearest (v / 2 ^ k) (compare (4 * n) ((2 * (v / 2 ^ k) + 1) * 2 ^ k * ((2 * (v / 2 ^ k) + 1) * 2 ^ k)))) k
 
-rounded-is : (n : ℕ) → roundRoot binary64 n ≡ rounded n (isqrt n) (size (isqrt n) - 53)
+root-value-is : (n : ℕ) → roundRoot binary64 n ≡ root-value n (isqrt n) (size (isqrt n) - 53)
 unfolding roundRoot
-rounded-is n = refl
+root-value-is n = refl
 
 regroup : (w p : ℕ) → w * p * (w * p) ≡ w * w * p * p
 regroup w p = simp (mul-assoc, mul-comm, mul-left-comm)
@@ -116,17 +117,15 @@ module _ (a w h : ℕ) (lo : 2 ^ 62 ≤ a) (hi : a + 2 ^ 11 ≤ 2 ^ 64) (root : 
   pub root-rounded : roundRoot binary64 n ≡ units binary64 false ((w + 1) / 2) (suc h)
   root-rounded =
       let k : size (isqrt n) - 53 ≡ suc h = omega (arith, v-size) in
-      rounded-is n
-      ∙ ap (λ (z : ℕ). rounded n (isqrt n) z) k
+      root-value-is n
+      ∙ ap (λ (z : ℕ). root-value n (isqrt n) z) k
       ∙ rw (first-digits, pow-suc 2 h) (ap (λ (z : ℕ). units binary64 false z (suc h)) (choice w (a * 2 ^ 44) (2 ^ h) (pow-pos h) (side w (a * 2 ^ 44) (root .0) (root .1) (omega arith))))
 
 -- ---- the bits of a rounded root
-pub written : (r k : ℕ) → 2 ^ 52 ≤ r → r < 2 ^ 53 → k < 2000 → ofBits binary64 (k * 2 ^ 52 + r) ≡ units binary64 false r k
-written r k lo hi small =
-    let room : r * 2 ^ k < 2 ^ 2098 = lt-of-lt-of-le (shl-lt 53 k hi) (pow-mono {i = 53 + k} {j = 2098} (omega arith)) in
-    value-unique (ofBits binary64 (k * 2 ^ 52 + r)) (units binary64 false r k) false (r * 2 ^ k)
-    (ofBits-fits binary64 (k * 2 ^ 52 + r)) (units-fits binary64 false r k (omega arith) room)
-    (value-packed false k r (λ _. lo) (omega arith) (omega arith)) (units-val binary64 false r k room)
+pub root-pattern : (r k : ℕ) → 2 ^ 52 ≤ r → r < 2 ^ 53 → k < 2000 → ofBits binary64 (k * 2 ^ 52 + r) ≡ units binary64 false r k
+root-pattern r k lo hi small =
+    units-pattern r k (omega arith) (λ _. lo) (omega arith)
+    (units-fits binary64 false r k (omega arith) (lt-of-lt-of-le (shl-lt 53 k hi) (pow-mono {i = 53 + k} {j = 2098} (omega arith))))
 
 -- ---- `sqrtOf` at a finite value that is not 0
 no-zero : (u c a d : ℕ) → 0 * u * c ≡ a * d → 0 < a → 0 < d → ⊥
@@ -189,8 +188,8 @@ module _ (m e : ℕ) (m-pos : 0 < m) (m-lt : m < 2 ^ 53) (e-lo : 1 ≤ e) (e-hi 
       let i : e + 1073 ≡ s + (44 + (h + h)) = omega (arith, z-in) in
       ap (λ (x : ℕ). m * 2 ^ x) i ∙ rw (pow-add 2 s (44 + (h + h)), pow-add 2 44 (h + h), pow-add 2 h h) (simp mul-assoc)
 
-  pub shifted-lo : 2 ^ 62 ≤ (m * 2 ^ s) % 2 ^ 64
-  shifted-lo = rw shl-is a-lo
+  pub shift-low : 2 ^ 62 ≤ (m * 2 ^ s) % 2 ^ 64
+  shift-low = rw shl-is a-lo
 
   module _ (w : ℕ) (root : Root ((m * 2 ^ s) % 2 ^ 64 * 2 ^ 44) w) where
     root' : Root (m * 2 ^ s * 2 ^ 44) w
@@ -206,7 +205,7 @@ module _ (m e : ℕ) (m-pos : 0 < m) (m-lt : m < 2 ^ 53) (e-lo : 1 ≤ e) (e-hi 
     made =
         let k : (e + 1031 - s) / 2 ≡ suc h = omega (arith, z-in) in
         rw (k, radicand)
-        (written ((w + 1) / 2) (suc h) (omega (arith, root-in)) (omega (arith, root-in)) (omega arith)
+        (root-pattern ((w + 1) / 2) (suc h) (omega (arith, root-in)) (omega (arith, root-in)) (omega arith)
         ∙ sym (root-rounded (m * 2 ^ s) w h a-lo a-hi root'))
 
 -- ---- `sqrtOf` at a pattern above 0

@@ -82,13 +82,13 @@ module _ (g u l B : ℕ) (pre : (g < 2 ^ 32) × (B ≤ 2 * g) × (B ≤ 2 ^ 22) 
 
 -- ---- twice the digits
 module _ (n g B : ℕ) (pre : Root (n / B / B) g × (0 < B) × (B ≤ 2 * g) × (g < 2 ^ 16)) where
-  pub taken : g * g * B ≤ n / B
-  taken = le-div-iff-mul-le (pre .1) .0 (pre .0 .0)
+  pub square-at-most : g * g * B ≤ n / B
+  square-at-most = le-div-iff-mul-le (pre .1) .0 (pre .0 .0)
 
   left-lt : n / B - g * g * B < (2 * g + 1) * B
   left-lt =
       let a : n / B < suc g * suc g * B = div-lt-iff-lt-mul (pre .1) .0 (pre .0 .1) in
-      omega (arith, taken, next-square g B)
+      omega (arith, square-at-most, next-square g B)
 
   pub products : (g * g < 2 ^ 32) × (g * g * B < 2 ^ 64)
   products =
@@ -96,10 +96,10 @@ module _ (n g B : ℕ) (pre : Root (n / B / B) g × (0 < B) × (B ≤ 2 * g) × 
       let b = mul-le-mul {n₁ = g * g} {m₁ = B} {n₂ = 2 ^ 32} {m₂ = 2 ^ 17} (omega arith) (omega arith) in
       (omega arith, omega arith)
 
-  pub asked : (g < 2 ^ 32) × (B ≤ 2 * g) × (B ≤ 2 ^ 22) × (n % B < B) × (n / B - g * g * B < (2 * g + 1) * B)
-  asked = (omega arith, pre .2, omega arith, mod-lt n (pre .1), left-lt)
+  pub extend-ready : (g < 2 ^ 32) × (B ≤ 2 * g) × (B ≤ 2 ^ 22) × (n % B < B) × (n / B - g * g * B < (2 * g + 1) * B)
+  extend-ready = (omega arith, pre .2, omega arith, mod-lt n (pre .1), left-lt)
 
   pub root-of : (r : ℕ) → Root ((g * g * B + (n / B - g * g * B)) * B + n % B) r → Root n r
   root-of r h =
-      let e : g * g * B + (n / B - g * g * B) ≡ n / B = omega (arith, taken) in
+      let e : g * g * B + (n / B - g * g * B) ≡ n / B = omega (arith, square-at-most) in
       subst (λ (z : ℕ). Root z r) (ap (λ (z : ℕ). z * B + n % B) e ∙ div-add-mod' n B) h

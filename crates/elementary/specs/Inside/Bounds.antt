@@ -5,10 +5,10 @@ use Prim.Native.Nat.{ℕ, _*_, _^_, _≤_}
 use lib.Ieee.{Float, nan, inf, fin, up, down}
 
 -- x is finite, has the sign s, and is at most b in size
-abbrev pub Sized : Float → Bool → ℕ → Type 0
-Sized nan s b = ⊥
-Sized (inf t) s b = ⊥
-Sized (fin t m e) s b = (t ≡ s) × (m * up e ≤ b * down e)
+abbrev pub SizeAtMost : Float → Bool → ℕ → Type 0
+SizeAtMost nan s b = ⊥
+SizeAtMost (inf t) s b = ⊥
+SizeAtMost (fin t m e) s b = (t ≡ s) × (m * up e ≤ b * down e)
 
 -- x is finite, not negative, and 2 ^ -j or more
 abbrev pub Large : Float → ℕ → Type 0
@@ -18,7 +18,7 @@ Large (fin t m e) j = (t ≡ false) × (down e ≤ m * up e * 2 ^ j)
 
 -- x is finite, has the sign s, and is at most b in size
 pub record Side (x : Float) (s : Bool) (b : ℕ) : Type 0 where
-  pub sized : Sized x s b
+  pub bound : SizeAtMost x s b
 
 -- the same, whatever the sign
 pub record AtMost (x : Float) (b : ℕ) : Type 0 where

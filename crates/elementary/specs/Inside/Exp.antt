@@ -13,7 +13,7 @@ pub record Whole (k : Float) : Type 0 where
   pub small : size ≤ 1078
 
 -- e is k + 2048
-pub record Biased (k : Float) (e : ℕ) : Type 0 where
+pub record BiasedExponent (k : Float) (e : ℕ) : Type 0 where
   pub exponent : toSigned 63 k ≡ minus e 2048
   pub low : 960 ≤ e
   pub high : e ≤ 3136

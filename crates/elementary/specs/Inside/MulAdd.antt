@@ -5,42 +5,42 @@ use mathlib.Core.Bool.{Bool, true, false, not}
 use Prim.Native.Nat.{ℕ, _+_, _/_, _%_, _^_, _<_, _≤_}
 use lib.Dec.{T}
 use lib.Ieee.{Float, binary64, toBits, isNan, fits, add, lt, eq}
-use Rattle.elementary.specs.Inside.Round.{wide, Decoded}
+use Rattle.elementary.specs.Inside.Round.{wide, PartsOf}
 
--- It has 105 or 106 digits.
-pub record Placed (hi lo : ℕ) : Type 0 where
+-- a number of two words that has 105 or 106 digits, as the product of two significands does
+pub record ProductDigits (hi lo : ℕ) : Type 0 where
   pub low : 2 ^ 104 ≤ wide hi lo
   pub high : wide hi lo < 2 ^ 106
 
--- l * 2 ^ (e + d) and s * 2 ^ e for a small d, and l * 2 ^ e and s * 2 ^ (e - d) for another
-pub record Near (lh ll sh sl d e : ℕ) : Type 0 where
-  pub large : Placed lh ll
-  pub small : Placed sh sl
+-- what `sum_near` adds: l * 2 ^ (e + d) and s * 2 ^ e, for a d of at most 20
+pub record SumNear (lh ll sh sl d e : ℕ) : Type 0 where
+  pub large : ProductDigits lh ll
+  pub small : ProductDigits sh sl
   pub close : d ≤ 20
   pub low : 64 ≤ e
   pub high : e < 2 ^ 30
 
--- the same for a d above 20, up to e
-pub record Far (lh ll sh sl d e : ℕ) : Type 0 where
-  pub large : Placed lh ll
-  pub small : Placed sh sl
+-- what `sum_far` adds: l * 2 ^ e and s * 2 ^ (e - d), for a d above 20 and up to e
+pub record SumFar (lh ll sh sl d e : ℕ) : Type 0 where
+  pub large : ProductDigits lh ll
+  pub small : ProductDigits sh sl
   pub apart : 20 < d
   pub room : d ≤ e
   pub low : 64 ≤ e
   pub high : e < 2 ^ 30
 
--- l * 2 ^ le and s * 2 ^ se, the second's exponent not above the first's
-pub record Ordered (lh ll le sh sl se : ℕ) : Type 0 where
-  pub large : Placed lh ll
-  pub small : Placed sh sl
+-- what `sum_ordered` adds: l * 2 ^ le and s * 2 ^ se, the second's exponent not above the first's
+pub record SumOrdered (lh ll le sh sl se : ℕ) : Type 0 where
+  pub large : ProductDigits lh ll
+  pub small : ProductDigits sh sl
   pub order : se ≤ le
   pub low : 64 ≤ se
   pub high : le < 2 ^ 30
 
--- the same with the exponents in any order
-pub record Both (lh ll le sh sl se : ℕ) : Type 0 where
-  pub first : Placed lh ll
-  pub second : Placed sh sl
+-- what `sum_wide` adds: the same with the exponents in any order
+pub record SumWide (lh ll le sh sl se : ℕ) : Type 0 where
+  pub first : ProductDigits lh ll
+  pub second : ProductDigits sh sl
   pub low : 64 ≤ le
   pub high : le < 2 ^ 30
   pub low' : 64 ≤ se
@@ -48,50 +48,50 @@ pub record Both (lh ll le sh sl se : ℕ) : Type 0 where
 
 -- ---- the quick way
 
--- r is v / 2 ^ g with one more digit, which is 0 just where nothing was cut off
-pub record Marked (g v r : ℕ) : Type 0 where
+-- r is v / 2 ^ g with one more digit, the sticky one, which is 0 just where nothing is cut off
+pub record CutWithSticky (g v r : ℕ) : Type 0 where
   pub whole : r / 2 ≡ v / 2 ^ g
   pub to : r % 2 ≡ 0 → v % 2 ^ g ≡ 0
   pub from : v % 2 ^ g ≡ 0 → r % 2 ≡ 0
 
 -- (hi - 2 ^ 51) * 2 ^ 64 + lo is 2 ^ 67 or more in size
-pub record Apart (hi : ℕ) : Type 0 where
+pub record FarFromZero (hi : ℕ) : Type 0 where
   pub off : (2 ^ 51 + 8 ≤ hi) ⊎ (hi + 9 ≤ 2 ^ 51)
 
--- the sum of two middling exponents' fields
-pub record Middling (k : ℕ) : Type 0 where
+-- the sum of the fields of two exponents in range
+pub record ExponentSumInRange (k : ℕ) : Type 0 where
   pub low : 1536 ≤ k
   pub high : k < 2559
 
--- the high word and the exponents leave room
-pub record Clear (hi k : ℕ) : Type 0 where
+-- the high word and the exponents leave room for a sum in floats
+pub record LeavesRoom (hi k : ℕ) : Type 0 where
   pub top : hi < 2 ^ 52
-  pub apart : Apart hi
-  pub room : Middling k
+  pub apart : FarFromZero hi
+  pub room : ExponentSumInRange k
 
--- v is 2 ^ 115 + p, or 2 ^ 115 - p - 1
-pub record Turned (neg : Bool) (p v : ℕ) : Type 0 where
-  pub plain : neg ≡ false → v ≡ 2 ^ 115 + p
-  pub turn : neg ≡ true → v + p + 1 ≡ 2 ^ 115
+-- v is 2 ^ 115 + p, or 2 ^ 115 - p - 1 for a minus
+pub record SignedOffset (neg : Bool) (p v : ℕ) : Type 0 where
+  pub plus : neg ≡ false → v ≡ 2 ^ 115 + p
+  pub minus : neg ≡ true → v + p + 1 ≡ 2 ^ 115
 
--- a product, and a significand that is shifted by d
-pub record Joined (ph pl m d k : ℕ) : Type 0 where
-  pub large : Placed ph pl
+-- a product, and a significand to be shifted by d
+pub record QuickOperands (ph pl m d k : ℕ) : Type 0 where
+  pub large : ProductDigits ph pl
   pub lead : 2 ^ 52 ≤ m
   pub top : m < 2 ^ 53
-  pub room : Middling k
+  pub room : ExponentSumInRange k
 
 -- m and e are the fields of x, m with the leading digit of a normal value
-pub record Opened (x : Float) (s : Bool) (m e : ℕ) : Type 0 where
+pub record FieldsOf (x : Float) (s : Bool) (m e : ℕ) : Type 0 where
   pub lead : 2 ^ 52 ≤ m
   pub top : m < 2 ^ 53
   pub field : e < 2 ^ 11
-  pub value : 0 < e → e < 2047 → Decoded x s m (e + 63)
+  pub value : 0 < e → e < 2047 → PartsOf x s m (e + 63)
 
 -- ---- a whole factor and a whole addend
 
 -- x is from 2 ^ -12 to 2, and the whole numbers have at most 19 digits
-pub record Splits (x : Float) (p q : ℕ) : Type 0 where
+pub record CanSplit (x : Float) (p q : ℕ) : Type 0 where
   pub number : T (not (isNan x))
   pub low : 0x3f30_0000_0000_0000 ≤ toBits binary64 x
   pub high : toBits binary64 x < 0x4000_0000_0000_0000
@@ -101,7 +101,7 @@ pub record Splits (x : Float) (p q : ℕ) : Type 0 where
 -- ---- a rounded sum of three
 
 -- r is the float nearest to s + x for every x that rounds to w: w lies between two floats, whose sums with s are r, and not 0
-pub record Pinned (s w r : Float) : Type 0 where
+pub record RoundsAlike (s w r : Float) : Type 0 where
   pub lo : Float
   pub hi : Float
   pub lo-fits : T (fits binary64 lo)
@@ -113,8 +113,8 @@ pub record Pinned (s w r : Float) : Type 0 where
   pub some : 0 < toBits binary64 r % 2 ^ 63
   pub finite : toBits binary64 r % 2 ^ 63 < 0x7ff0_0000_0000_0000
 
--- the bits of two middling factors, and of an addend that is not huge
-pub record Usual (x y z : ℕ) : Type 0 where
+-- the bits of two factors whose exponents are in range, and of an addend that is not huge
+pub record OperandsInRange (x y z : ℕ) : Type 0 where
   pub first-low : 768 ≤ x % 2 ^ 63 / 2 ^ 52
   pub first-high : x % 2 ^ 63 / 2 ^ 52 < 1280
   pub second-low : 768 ≤ y % 2 ^ 63 / 2 ^ 52

@@ -13,7 +13,7 @@ use Rattle.prices.specs.declared.inputs.OptionType.{OptionType}
 use Rattle.prices.specs.declared.inputs.OptionType.the-variants.{Call, Put}
 use Rattle.prices.specs.Inputs.{negated, times}
 use Rattle.prices.specs.Intrinsic.{intrinsicOf}
-use Rattle.prices.specs.Black.{outOfTheMoney, added, callAt, callOf, priceOf, blackAt}
+use Rattle.prices.specs.Black.{outOfTheMoney, plus, callAt, callOf, priceOf, blackAt}
 
 -- a positive number's negative is not above 0
 not-above : (x : Float) → lt +0 x ≡ true → lt +0 (neg x) ≡ false
@@ -52,19 +52,19 @@ other-kind Put y = sym (neg-neg _) ∙ ap neg (sym (minus-one y))
 pub other-kind-out : (kind : OptionType) (y : Float) → lt +0 (times kind y) ≡ true → lt +0 (times (negated kind) y) ≡ false
 other-kind-out kind y h = rw (other-kind kind y) (not-above (times kind y) h)
 
-pub call-turns : (set : RuleSet) (x s : Float) → callOf set x s ≡ cond (lt +0 x) (added (intrinsicOf x Call) (callOf set (neg x) s)) (outOfTheMoney set x s)
+pub call-calls-itself : (set : RuleSet) (x s : Float) → callOf set x s ≡ cond (lt +0 x) (plus (intrinsicOf x Call) (callOf set (neg x) s)) (outOfTheMoney set x s)
 unfolding callAt
-call-turns set x s = go (lt +0 x) refl
+call-calls-itself set x s = go (lt +0 x) refl
   where
-    go : (b : Bool) → lt +0 x ≡ b → cond b (added (intrinsicOf x Call) (outOfTheMoney set (neg x) s)) (outOfTheMoney set x s) ≡ cond b (added (intrinsicOf x Call) (callOf set (neg x) s)) (outOfTheMoney set x s)
+    go : (b : Bool) → lt +0 x ≡ b → cond b (plus (intrinsicOf x Call) (outOfTheMoney set (neg x) s)) (outOfTheMoney set x s) ≡ cond b (plus (intrinsicOf x Call) (callOf set (neg x) s)) (outOfTheMoney set x s)
     go true h = rw (not-above x h) refl
     go false h = refl
 
 module _ (set : RuleSet) (f k s e : Float) (kind : OptionType) where
-  pub in-turns : lt +0 (times kind (f ⊖ k)) ≡ true → blackAt 1 set f k s e kind ≡ added (maxOf (times kind (f ⊖ k)) +0) (blackAt 1 set f k s e (negated kind))
+  pub black-calls-itself : lt +0 (times kind (f ⊖ k)) ≡ true → blackAt 1 set f k s e kind ≡ plus (maxOf (times kind (f ⊖ k)) +0) (blackAt 1 set f k s e (negated kind))
   unfolding blackAt
-  in-turns h = rw (h, other-kind-out kind (f ⊖ k) h)
+  black-calls-itself h = rw (h, other-kind-out kind (f ⊖ k) h)
 
-  pub out-stays : lt +0 (times kind (f ⊖ k)) ≡ false → blackAt 1 set f k s e kind ≡ priceOf set f k s e kind
+  pub black-out-of-the-money : lt +0 (times kind (f ⊖ k)) ≡ false → blackAt 1 set f k s e kind ≡ priceOf set f k s e kind
   unfolding blackAt
-  out-stays h = rw h
+  black-out-of-the-money h = rw h

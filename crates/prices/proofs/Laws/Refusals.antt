@@ -17,7 +17,7 @@ use Rattle.prices.specs.declared.answer.Answer.the-variants.{Value, Refu
 use Rattle.prices.specs.Inputs.{negated, times}
 use Rattle.prices.specs.Answers.{numberOf, isValue}
 use Rattle.prices.specs.Intrinsic.{intrinsicOf}
-use Rattle.prices.specs.Black.{SMALL-T, smallTOf, asymptoticOf, codysOf, isOutside, isAsymptotic, regionOf, outOfTheMoney, added, callAt, callOf, normalisedBlackOf, scaledUp, priceOf, blackAt}
+use Rattle.prices.specs.Black.{SMALL-T, smallTOf, asymptoticOf, codysOf, isOutsideAsymptoticRegion, isAsymptotic, regionOf, outOfTheMoney, plus, callAt, callOf, normalisedBlackOf, priceFromNormalised, priceOf, blackAt}
 use Rattle.prices.specs.Promises.{Is-0-or-7}
 
 -- the answers of normalised_black_call
@@ -25,20 +25,20 @@ pub data CallAnswer : Answer → Type 0 where
   price : {v : Float} → CallAnswer (Value v)
   outside-the-region : CallAnswer (Refused 7)
 
-pub either : (b : Bool) {x y : Answer} → CallAnswer x → CallAnswer y → CallAnswer (cond b x y)
+either : (b : Bool) {x y : Answer} → CallAnswer x → CallAnswer y → CallAnswer (cond b x y)
 either true h k = h
 either false h k = k
 
 asymptotic-answer : (h t : Float) → CallAnswer (asymptoticOf h t)
 unfolding asymptoticOf
-asymptotic-answer h t = either (isOutside h t) outside-the-region price
+asymptotic-answer h t = either (isOutsideAsymptoticRegion h t) outside-the-region price
 
 small-t-answer : (h t : Float) → lt t SMALL-T ≡ true → CallAnswer (smallTOf h t)
 unfolding smallTOf
 small-t-answer h t l = rw (not-le-of-lt t SMALL-T l) price
 
 -- whatever Cody's price is
-pub region-answer : (x s codys : Float) → CallAnswer (cond (isAsymptotic x s) (asymptoticOf (x ⊘ s) (half ⊗ s)) (cond (lt (half ⊗ s) SMALL-T) (smallTOf (x ⊘ s) (half ⊗ s)) (Value codys)))
+region-answer : (x s codys : Float) → CallAnswer (cond (isAsymptotic x s) (asymptoticOf (x ⊘ s) (half ⊗ s)) (cond (lt (half ⊗ s) SMALL-T) (smallTOf (x ⊘ s) (half ⊗ s)) (Value codys)))
 region-answer x s codys = either (isAsymptotic x s) (asymptotic-answer (x ⊘ s) (half ⊗ s)) (go (lt (half ⊗ s) SMALL-T) refl)
   where
     go : (b : Bool) → lt (half ⊗ s) SMALL-T ≡ b → CallAnswer (cond b (smallTOf (x ⊘ s) (half ⊗ s)) (Value codys))
@@ -49,28 +49,28 @@ out-answer : (set : RuleSet) (x s : Float) → CallAnswer (outOfTheMoney set x s
 unfolding outOfTheMoney regionOf
 out-answer set x s = either (le s (absOf x ⊗ +0)) price (region-answer x s (codysOf set x s))
 
-added-answer : (v : Float) (a : Answer) → CallAnswer a → CallAnswer (added v a)
-added-answer v (Value b) h = price
-added-answer v (Refused n) h = h
+plus-answer : (v : Float) (a : Answer) → CallAnswer a → CallAnswer (plus v a)
+plus-answer v (Value b) h = price
+plus-answer v (Refused n) h = h
 
 pub call-answer : (depth : ℕ) (set : RuleSet) (x s : Float) → CallAnswer (callAt depth set x s)
 unfolding callAt
 call-answer zero set x s = out-answer set x s
-call-answer (suc d) set x s = either (lt +0 x) (added-answer (intrinsicOf x Call) (callAt d set (neg x) s) (call-answer d set (neg x) s)) (out-answer set x s)
+call-answer (suc d) set x s = either (lt +0 x) (plus-answer (intrinsicOf x Call) (callAt d set (neg x) s) (call-answer d set (neg x) s)) (out-answer set x s)
 
-scaled-answer : (v f : Float) (a : Answer) → CallAnswer a → CallAnswer (scaledUp v f a)
-scaled-answer v f (Value b) h = price
-scaled-answer v f (Refused n) h = h
+normalised-answer : (v f : Float) (a : Answer) → CallAnswer a → CallAnswer (priceFromNormalised v f a)
+normalised-answer v f (Value b) h = price
+normalised-answer v f (Refused n) h = h
 
 price-answer : (set : RuleSet) (f k s e : Float) (kind : OptionType) → CallAnswer (priceOf set f k s e kind)
 unfolding priceOf normalisedBlackOf
-price-answer set f k s e kind = scaled-answer _ _ (callOf set _ _) (call-answer 1 set _ _)
+price-answer set f k s e kind = normalised-answer _ _ (callOf set _ _) (call-answer 1 set _ _)
 
-pub at-answer : (depth : ℕ) (set : RuleSet) (f k s e : Float) (kind : OptionType) → CallAnswer (blackAt depth set f k s e kind)
+pub black-answer : (depth : ℕ) (set : RuleSet) (f k s e : Float) (kind : OptionType) → CallAnswer (blackAt depth set f k s e kind)
 unfolding blackAt
-at-answer zero set f k s e kind = price-answer set f k s e kind
-at-answer (suc d) set f k s e kind =
-    either (lt +0 (times kind (f ⊖ k))) (added-answer _ (blackAt d set f k s e (negated kind)) (at-answer d set f k s e (negated kind))) (price-answer set f k s e kind)
+black-answer zero set f k s e kind = price-answer set f k s e kind
+black-answer (suc d) set f k s e kind =
+    either (lt +0 (times kind (f ⊖ k))) (plus-answer _ (blackAt d set f k s e (negated kind)) (black-answer d set f k s e (negated kind))) (price-answer set f k s e kind)
 
 -- as numbers
 pub call-number : {a : Answer} → CallAnswer a → Is-0-or-7 (numberOf a)

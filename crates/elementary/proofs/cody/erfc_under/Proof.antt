@@ -18,13 +18,13 @@ smoothened-exponential-of-negative-square-requires :
     tie.Need-smoothened-exponential-of-negative-square-requires
 smoothened-exponential-of-negative-square-requires c κs = search needs
 
-outside-requires : tie.Need-outside-requires
-outside-requires c κs = c .smoothened-exponential-of-negative-square .ensures
+erfc-outside-requires : tie.Need-erfc-outside-requires
+erfc-outside-requires c κs = c .smoothened-exponential-of-negative-square .ensures
 
 returns-2 : tie.Need-returns-2
 unfolding erfcOf
-returns-2 c = rw (c .outside .ensures, ← c .before .before .before .abs .ensures, c .before .before .if1 .left)
+returns-2 c = rw (c .erfc-outside .ensures, ← c .before .before .before .abs .ensures, c .before .before .if1 .left)
 
 pub erfc-under-spec : {M : Type 1} → statement M
 erfc-under-spec =
-    tie.close (tie.spec abs-requires ab-requires returns smoothened-exponential-of-negative-square-requires outside-requires returns-2)
+    tie.close (tie.spec abs-requires ab-requires returns smoothened-exponential-of-negative-square-requires erfc-outside-requires returns-2)

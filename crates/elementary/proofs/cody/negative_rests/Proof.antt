@@ -1,9 +1,9 @@
--- `cody::negative_rests` meets its contract: after j turns the first j are filled in. Assumes nothing.
+-- `cody::negative_rests` meets its contract: after j steps the first j are filled in. Assumes nothing.
 use mathlib.Core.Path.{_≡_, refl}
 use Prim.Native.Nat.{_-_}
 use native.Mathlib.Omega.{arith}
 use Rattle.elementary.specs.Inside.Each.{Of}
-use Rattle.elementary.proofs.Laws.Eight.{Filled, begun, next, filled}
+use Rattle.elementary.proofs.Laws.Eight.{Prefix, prefix-none, next, prefix-all}
 use borrow.Author.Needs.{needs}
 use Rattle.elementary.specs.Ops.{_⊕_, _⊖_, _⊗_}
 use Rattle.elementary.specs.Cody.{tildeOf, negativeRest}
@@ -15,13 +15,13 @@ rest-of : (y t : Float) → t ≡ tildeOf y → neg (y ⊖ t) ⊗ (y ⊕ t) ≡ 
 rest-of y t h = rw h
 
 abbrev Inv-loop : tie.InvT-loop
-Inv-loop y t z₀ j₀ z j = Filled (Of negativeRest y) z j
+Inv-loop y t z₀ j₀ z j = Prefix (Of negativeRest y) z j
 
 abbrev μ-loop : tie.MeasureT-loop
 μ-loop y t z₀ j₀ z j = 8 - j
 
 loop-holds : tie.Need-loop-holds Inv-loop μ-loop
-loop-holds c = begun _ _ refl
+loop-holds c = prefix-none _ _ refl
 
 mul-z : tie.Need-mul-z Inv-loop μ-loop
 mul-z c = search needs
@@ -63,7 +63,7 @@ loop-again : tie.Need-loop-again Inv-loop μ-loop
 loop-again c = next _ _ _ _ (c .loop-test .taken) (rest-of _ _ (c .before .before .pre _ (c .loop-test .taken))) (c .before .loop .inv)
 
 returns : tie.Need-returns Inv-loop μ-loop
-returns c = filled (c .before .loop .inv) (c .loop-test .left)
+returns c = prefix-all (c .before .loop .inv) (c .loop-test .left)
 
 pub negative-rests-spec : {M : Type 1} → statement M
 negative-rests-spec =

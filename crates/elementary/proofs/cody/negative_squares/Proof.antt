@@ -1,22 +1,22 @@
--- `cody::negative_squares` meets its contract: after j turns the first j are filled in. Assumes nothing.
+-- `cody::negative_squares` meets its contract: after j steps the first j are filled in. Assumes nothing.
 use mathlib.Core.Path.{refl}
 use Prim.Native.Nat.{_-_}
 use native.Mathlib.Omega.{arith}
 use Rattle.elementary.specs.Inside.Each.{Of}
-use Rattle.elementary.proofs.Laws.Eight.{Filled, begun, next, filled}
+use Rattle.elementary.proofs.Laws.Eight.{Prefix, prefix-none, next, prefix-all}
 use borrow.Author.Needs.{needs}
 use Rattle.elementary.specs.Cody.{negativeSquare}
 use Rattle.elementary.proofs.cody.negative_squares.Statement.{statement}
 use Rattle.elementary.proofs.cody.negative_squares.Tie as tie
 
 abbrev Inv-loop : tie.InvT-loop
-Inv-loop t z₀ j₀ z j = Filled (Of negativeSquare t) z j
+Inv-loop t z₀ j₀ z j = Prefix (Of negativeSquare t) z j
 
 abbrev μ-loop : tie.MeasureT-loop
 μ-loop t z₀ j₀ z j = 8 - j
 
 loop-holds : tie.Need-loop-holds Inv-loop μ-loop
-loop-holds c = begun _ _ refl
+loop-holds c = prefix-none _ _ refl
 
 mul-z : tie.Need-mul-z Inv-loop μ-loop
 mul-z c = search needs
@@ -46,7 +46,7 @@ loop-again : tie.Need-loop-again Inv-loop μ-loop
 loop-again c = next _ _ _ _ (c .loop-test .taken) (refl) (c .before .loop .inv)
 
 returns : tie.Need-returns Inv-loop μ-loop
-returns c = filled (c .before .loop .inv) (c .loop-test .left)
+returns c = prefix-all (c .before .loop .inv) (c .loop-test .left)
 
 pub negative-squares-spec : {M : Type 1} → statement M
 negative-squares-spec =

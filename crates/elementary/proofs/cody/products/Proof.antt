@@ -1,8 +1,8 @@
--- `cody::products` meets its contract: after j turns the first j are filled in. Assumes nothing.
+-- `cody::products` meets its contract: after j steps the first j are filled in. Assumes nothing.
 use mathlib.Core.Path.{refl}
 use Prim.Native.Nat.{_-_}
 use native.Mathlib.Omega.{arith}
-use Rattle.elementary.proofs.Laws.Eight.{Filled, begun, next, filled}
+use Rattle.elementary.proofs.Laws.Eight.{Prefix, prefix-none, next, prefix-all}
 use borrow.Author.Needs.{needs}
 use Rattle.elementary.specs.Ops.{_⊗_}
 use Rattle.elementary.specs.Inside.Each.{at}
@@ -10,13 +10,13 @@ use Rattle.elementary.proofs.cody.products.Statement.{statement}
 use Rattle.elementary.proofs.cody.products.Tie as tie
 
 abbrev Inv-loop : tie.InvT-loop
-Inv-loop a b r₀ j₀ r j = Filled (λ k. at a k ⊗ at b k) r j
+Inv-loop a b r₀ j₀ r j = Prefix (λ k. at a k ⊗ at b k) r j
 
 abbrev μ-loop : tie.MeasureT-loop
 μ-loop a b r₀ j₀ r j = 8 - j
 
 loop-holds : tie.Need-loop-holds Inv-loop μ-loop
-loop-holds c = begun _ _ refl
+loop-holds c = prefix-none _ _ refl
 
 mul-r : tie.Need-mul-r Inv-loop μ-loop
 mul-r c = search needs
@@ -46,7 +46,7 @@ loop-again : tie.Need-loop-again Inv-loop μ-loop
 loop-again c = next _ _ _ _ (c .loop-test .taken) refl (c .before .loop .inv)
 
 returns : tie.Need-returns Inv-loop μ-loop
-returns c = filled (c .before .loop .inv) (c .loop-test .left)
+returns c = prefix-all (c .before .loop .inv) (c .loop-test .left)
 
 pub products-spec : {M : Type 1} → statement M
 products-spec =

@@ -1,22 +1,22 @@
--- `cody::tildes` meets its contract: after j turns the first j are filled in. Assumes nothing.
+-- `cody::tildes` meets its contract: after j steps the first j are filled in. Assumes nothing.
 use mathlib.Core.Path.{refl}
 use Prim.Native.Nat.{_-_}
 use native.Mathlib.Omega.{arith}
 use Rattle.elementary.specs.Inside.Each.{Of}
-use Rattle.elementary.proofs.Laws.Eight.{Filled, begun, next, filled}
+use Rattle.elementary.proofs.Laws.Eight.{Prefix, prefix-none, next, prefix-all}
 use borrow.Author.Needs.{needs}
 use Rattle.elementary.specs.Cody.{tildeOf}
 use Rattle.elementary.proofs.cody.tildes.Statement.{statement}
 use Rattle.elementary.proofs.cody.tildes.Tie as tie
 
 abbrev Inv-loop : tie.InvT-loop
-Inv-loop y t₀ j₀ t j = Filled (Of tildeOf y) t j
+Inv-loop y t₀ j₀ t j = Prefix (Of tildeOf y) t j
 
 abbrev μ-loop : tie.MeasureT-loop
 μ-loop y t₀ j₀ t j = 8 - j
 
 loop-holds : tie.Need-loop-holds Inv-loop μ-loop
-loop-holds c = begun _ _ refl
+loop-holds c = prefix-none _ _ refl
 
 mul-tilde : tie.Need-mul-tilde Inv-loop μ-loop
 mul-tilde c = search needs
@@ -43,7 +43,7 @@ loop-again : tie.Need-loop-again Inv-loop μ-loop
 loop-again c = next _ _ _ _ (c .before .loop-test .taken) (c .tilde .ensures) (c .before .before .loop .inv)
 
 returns : tie.Need-returns Inv-loop μ-loop
-returns c = filled (c .before .loop .inv) (c .loop-test .left)
+returns c = prefix-all (c .before .loop .inv) (c .loop-test .left)
 
 pub tildes-spec : {M : Type 1} → statement M
 tildes-spec =

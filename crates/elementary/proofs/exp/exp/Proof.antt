@@ -15,13 +15,13 @@ remainder-requires c κs = c .multiple .ensures
 sum-requires : tie.Need-sum-requires
 sum-requires c κs = search needs
 
-finished-requires : tie.Need-finished-requires
-finished-requires c κs = (c .before .before .multiple .ensures, c .sum .ensures ∙ ap (λ r. expSum 13 r one) (c .before .remainder .ensures))
+exp-from-sum-requires : tie.Need-exp-from-sum-requires
+exp-from-sum-requires c κs = (c .before .before .multiple .ensures, c .sum .ensures ∙ ap (λ r. expSum 13 r one) (c .before .remainder .ensures))
 
 returns : tie.Need-returns
-returns c = c .finished .ensures
+returns c = c .exp-from-sum .ensures
 
 pub exp-spec : {M : Type 1} → statement M
 exp-spec =
     tie.close
-    (tie.spec multiple-requires remainder-requires sum-requires finished-requires returns)
+    (tie.spec multiple-requires remainder-requires sum-requires exp-from-sum-requires returns)

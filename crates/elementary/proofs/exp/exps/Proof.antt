@@ -1,9 +1,9 @@
--- `exp::exps` meets its contract: after j turns the first j are filled in. Assumes nothing.
+-- `exp::exps` meets its contract: after j steps the first j are filled in. Assumes nothing.
 use mathlib.Core.Path.{refl, ap, _∙_}
 use Prim.Native.Nat.{_-_}
 use native.Mathlib.Omega.{arith}
 use Rattle.elementary.specs.Inside.Each.{Of}
-use Rattle.elementary.proofs.Laws.Eight.{Filled, begun, next, filled}
+use Rattle.elementary.proofs.Laws.Eight.{Prefix, prefix-none, next, prefix-all}
 use borrow.Author.Needs.{needs}
 use Rattle.elementary.specs.Ops.{one}
 use Rattle.elementary.specs.Exp.{expSum, expOf}
@@ -11,7 +11,7 @@ use Rattle.elementary.proofs.exp.exps.Statement.{statement}
 use Rattle.elementary.proofs.exp.exps.Tie as tie
 
 abbrev Inv-loop : tie.InvT-loop
-Inv-loop y k q r₀ j₀ r j = Filled (Of expOf y) r j
+Inv-loop y k q r₀ j₀ r j = Prefix (Of expOf y) r j
 
 abbrev μ-loop : tie.MeasureT-loop
 μ-loop y k q r₀ j₀ r j = 8 - j
@@ -26,28 +26,28 @@ sums-requires : tie.Need-sums-requires Inv-loop μ-loop
 sums-requires c κs = search needs
 
 loop-holds : tie.Need-loop-holds Inv-loop μ-loop
-loop-holds c = begun _ _ refl
+loop-holds c = prefix-none _ _ refl
 
-mul-finished : tie.Need-mul-finished Inv-loop μ-loop
-mul-finished c = search needs
+mul-exp-from-sum : tie.Need-mul-exp-from-sum Inv-loop μ-loop
+mul-exp-from-sum c = search needs
 
-array-read-finished : tie.Need-array-read-finished Inv-loop μ-loop
-array-read-finished c = search needs
+array-read-exp-from-sum : tie.Need-array-read-exp-from-sum Inv-loop μ-loop
+array-read-exp-from-sum c = search needs
 
-mul-finished-2 : tie.Need-mul-finished-2 Inv-loop μ-loop
-mul-finished-2 c = search needs
+mul-exp-from-sum-2 : tie.Need-mul-exp-from-sum-2 Inv-loop μ-loop
+mul-exp-from-sum-2 c = search needs
 
-array-read-finished-2 : tie.Need-array-read-finished-2 Inv-loop μ-loop
-array-read-finished-2 c = search needs
+array-read-exp-from-sum-2 : tie.Need-array-read-exp-from-sum-2 Inv-loop μ-loop
+array-read-exp-from-sum-2 c = search needs
 
-mul-finished-3 : tie.Need-mul-finished-3 Inv-loop μ-loop
-mul-finished-3 c = search needs
+mul-exp-from-sum-3 : tie.Need-mul-exp-from-sum-3 Inv-loop μ-loop
+mul-exp-from-sum-3 c = search needs
 
-array-read-finished-3 : tie.Need-array-read-finished-3 Inv-loop μ-loop
-array-read-finished-3 c = search needs
+array-read-exp-from-sum-3 : tie.Need-array-read-exp-from-sum-3 Inv-loop μ-loop
+array-read-exp-from-sum-3 c = search needs
 
-finished-requires : tie.Need-finished-requires Inv-loop μ-loop
-finished-requires c κs = (c .before .before .before .before .multiples .ensures _ (c .loop-test .taken), c .before .before .sums .ensures _ (c .loop-test .taken) ∙ ap (λ r. expSum 13 r one) (c .before .before .before .remainders .ensures _ (c .loop-test .taken)))
+exp-from-sum-requires : tie.Need-exp-from-sum-requires Inv-loop μ-loop
+exp-from-sum-requires c κs = (c .before .before .before .before .multiples .ensures _ (c .loop-test .taken), c .before .before .sums .ensures _ (c .loop-test .taken) ∙ ap (λ r. expSum 13 r one) (c .before .before .before .remainders .ensures _ (c .loop-test .taken)))
 
 mul-r : tie.Need-mul-r Inv-loop μ-loop
 mul-r c = search needs
@@ -62,10 +62,10 @@ loop-less : tie.Need-loop-less Inv-loop μ-loop
 loop-less c = omega arith
 
 loop-again : tie.Need-loop-again Inv-loop μ-loop
-loop-again c = next _ _ _ _ (c .before .loop-test .taken) (c .finished .ensures) (c .before .before .loop .inv)
+loop-again c = next _ _ _ _ (c .before .loop-test .taken) (c .exp-from-sum .ensures) (c .before .before .loop .inv)
 
 returns : tie.Need-returns Inv-loop μ-loop
-returns c = filled (c .before .loop .inv) (c .loop-test .left)
+returns c = prefix-all (c .before .loop .inv) (c .loop-test .left)
 
 pub exps-spec : {M : Type 1} → statement M
 exps-spec =
@@ -77,13 +77,13 @@ exps-spec =
     remainders-requires
     sums-requires
     loop-holds
-    mul-finished
-    array-read-finished
-    mul-finished-2
-    array-read-finished-2
-    mul-finished-3
-    array-read-finished-3
-    finished-requires
+    mul-exp-from-sum
+    array-read-exp-from-sum
+    mul-exp-from-sum-2
+    array-read-exp-from-sum-2
+    mul-exp-from-sum-3
+    array-read-exp-from-sum-3
+    exp-from-sum-requires
     mul-r
     array-write-r
     add-j

@@ -1,22 +1,22 @@
--- `exp::multiples` meets its contract: after j turns the first j are filled in. Assumes nothing.
+-- `exp::multiples` meets its contract: after j steps the first j are filled in. Assumes nothing.
 use mathlib.Core.Path.{refl}
 use Prim.Native.Nat.{_-_}
 use native.Mathlib.Omega.{arith}
 use Rattle.elementary.specs.Inside.Each.{Of}
-use Rattle.elementary.proofs.Laws.Eight.{Filled, begun, next, filled}
+use Rattle.elementary.proofs.Laws.Eight.{Prefix, prefix-none, next, prefix-all}
 use borrow.Author.Needs.{needs}
 use Rattle.elementary.specs.Exp.{expK}
 use Rattle.elementary.proofs.exp.multiples.Statement.{statement}
 use Rattle.elementary.proofs.exp.multiples.Tie as tie
 
 abbrev Inv-loop : tie.InvT-loop
-Inv-loop y k₀ j₀ k j = Filled (Of expK y) k j
+Inv-loop y k₀ j₀ k j = Prefix (Of expK y) k j
 
 abbrev μ-loop : tie.MeasureT-loop
 μ-loop y k₀ j₀ k j = 8 - j
 
 loop-holds : tie.Need-loop-holds Inv-loop μ-loop
-loop-holds c = begun _ _ refl
+loop-holds c = prefix-none _ _ refl
 
 mul-multiple : tie.Need-mul-multiple Inv-loop μ-loop
 mul-multiple c = search needs
@@ -43,7 +43,7 @@ loop-again : tie.Need-loop-again Inv-loop μ-loop
 loop-again c = next _ _ _ _ (c .before .loop-test .taken) (c .multiple .ensures) (c .before .before .loop .inv)
 
 returns : tie.Need-returns Inv-loop μ-loop
-returns c = filled (c .before .loop .inv) (c .loop-test .left)
+returns c = prefix-all (c .before .loop .inv) (c .loop-test .left)
 
 pub multiples-spec : {M : Type 1} → statement M
 multiples-spec =

@@ -1,8 +1,8 @@
--- `exp::sum` meets its contract: after the turns down to i, what is left of the 13 turns is the i turns from p on. Assumes nothing.
+-- `exp::sum` meets its contract: after the steps down to i, what is left of the 13 steps is the i steps from p on. Assumes nothing.
 use mathlib.Core.Path.{refl}
 use Prim.Native.Nat.{_≤_}
 use native.Mathlib.Omega.{arith}
-use Rattle.elementary.proofs.exp.Turns.{Left, turned, done, fits}
+use Rattle.elementary.proofs.exp.Steps.{Left, sum-step, no-steps-left, in-float}
 use Rattle.elementary.proofs.exp.sum.Statement.{statement}
 use Rattle.elementary.proofs.exp.sum.Tie as tie
 
@@ -16,7 +16,7 @@ loop-holds : tie.Need-loop-holds Inv-loop μ-loop
 loop-holds c = (omega arith, refl)
 
 int-to-float-p : tie.Need-int-to-float-p Inv-loop μ-loop
-int-to-float-p c = fits _ (c .before .before .loop .inv .0)
+int-to-float-p c = in-float _ (c .before .before .loop .inv .0)
 
 sub-i : tie.Need-sub-i Inv-loop μ-loop
 sub-i c = omega arith
@@ -25,10 +25,10 @@ loop-less : tie.Need-loop-less Inv-loop μ-loop
 loop-less c = omega arith
 
 loop-again : tie.Need-loop-again Inv-loop μ-loop
-loop-again c = (omega arith, turned _ _ _ (c .before .loop-test .taken) (c .before .before .loop .inv .1))
+loop-again c = (omega arith, sum-step _ _ _ (c .before .loop-test .taken) (c .before .before .loop .inv .1))
 
 returns : tie.Need-returns Inv-loop μ-loop
-returns c = done _ _ _ (c .loop-test .left) (c .before .loop .inv .1)
+returns c = no-steps-left _ _ _ (c .loop-test .left) (c .before .loop .inv .1)
 
 pub sum-spec : {M : Type 1} → statement M
 sum-spec = tie.close (tie.spec Inv-loop μ-loop loop-holds int-to-float-p sub-i loop-less loop-again returns)

@@ -1,11 +1,11 @@
--- `exp::sums` meets its contract: each of the eight goes through the turns of `sum`. Assumes nothing.
+-- `exp::sums` meets its contract: each of the eight goes through the steps of `sum`. Assumes nothing.
 use mathlib.Core.Path.{refl}
 use Prim.Native.Nat.{_≤_}
 use native.Mathlib.Omega.{arith}
 use borrow.Author.Needs.{needs}
 use Rattle.elementary.specs.Ops.{one}
 use Rattle.elementary.specs.Exp.{expSum}
-use Rattle.elementary.proofs.exp.Turns.{Left, turned, done, fits}
+use Rattle.elementary.proofs.exp.Steps.{Left, sum-step, no-steps-left, in-float}
 use Rattle.elementary.specs.Inside.Each.{Of}
 use Rattle.elementary.proofs.Laws.Eight.{eight}
 use Rattle.elementary.proofs.exp.sums.Statement.{statement}
@@ -46,7 +46,7 @@ loop-holds : tie.Need-loop-holds Inv-loop μ-loop
 loop-holds c = (omega arith, refl, refl, refl, refl, refl, refl, refl, refl)
 
 int-to-float-d : tie.Need-int-to-float-d Inv-loop μ-loop
-int-to-float-d c = fits _ (c .before .before .loop .inv .0)
+int-to-float-d c = in-float _ (c .before .before .loop .inv .0)
 
 sub-n : tie.Need-sub-n Inv-loop μ-loop
 sub-n c = omega arith
@@ -59,21 +59,21 @@ loop-again c =
     let h = c .before .before .loop .inv in
     let l = c .before .loop-test .taken in (
       omega arith,
-      turned _ _ _ l (h .1),
-      turned _ _ _ l (h .2),
-      turned _ _ _ l (h .3),
-      turned _ _ _ l (h .4),
-      turned _ _ _ l (h .5),
-      turned _ _ _ l (h .6),
-      turned _ _ _ l (h .7),
-      turned _ _ _ l (h .8),
+      sum-step _ _ _ l (h .1),
+      sum-step _ _ _ l (h .2),
+      sum-step _ _ _ l (h .3),
+      sum-step _ _ _ l (h .4),
+      sum-step _ _ _ l (h .5),
+      sum-step _ _ _ l (h .6),
+      sum-step _ _ _ l (h .7),
+      sum-step _ _ _ l (h .8),
     )
 
 returns : tie.Need-returns Inv-loop μ-loop
 returns c =
     let h = c .before .loop .inv in
     let l = c .loop-test .left in
-    eight (Of (λ x. expSum 13 x one) (c .before .before .args .t1)) (done _ _ _ l (h .1)) (done _ _ _ l (h .2)) (done _ _ _ l (h .3)) (done _ _ _ l (h .4)) (done _ _ _ l (h .5)) (done _ _ _ l (h .6)) (done _ _ _ l (h .7)) (done _ _ _ l (h .8))
+    eight (Of (λ x. expSum 13 x one) (c .before .before .args .t1)) (no-steps-left _ _ _ l (h .1)) (no-steps-left _ _ _ l (h .2)) (no-steps-left _ _ _ l (h .3)) (no-steps-left _ _ _ l (h .4)) (no-steps-left _ _ _ l (h .5)) (no-steps-left _ _ _ l (h .6)) (no-steps-left _ _ _ l (h .7)) (no-steps-left _ _ _ l (h .8))
 
 pub sums-spec : {M : Type 1} → statement M
 sums-spec =

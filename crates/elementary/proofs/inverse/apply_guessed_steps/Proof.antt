@@ -1,15 +1,15 @@
--- `inverse::apply_guessed_steps` meets its contract: each turn is one of `bisection_step`'s. Assumes nothing.
+-- `inverse::apply_guessed_steps` meets its contract: each step is one of `bisection_step`'s. Assumes nothing.
 use mathlib.Core.Path.{refl}
 use Prim.Native.Nat.{_-_, _≤_}
 use native.Mathlib.Omega.{arith}
 use borrow.Author.Needs.{needs}
-use Rattle.elementary.specs.Inside.Turns.{After}
+use Rattle.elementary.specs.Inside.Bisection.{AfterSteps}
 use Rattle.elementary.proofs.inverse.Laws.{at-point}
 use Rattle.elementary.proofs.inverse.apply_guessed_steps.Statement.{statement}
 use Rattle.elementary.proofs.inverse.apply_guessed_steps.Tie as tie
 
 abbrev Inv-loop : tie.InvT-loop
-Inv-loop set p x f at₀ j₀ at j = (j ≤ 8) × (at₀ .i ≤ at .i) × After set p (at .lo) (at .hi) (at .i)
+Inv-loop set p x f at₀ j₀ at j = (j ≤ 8) × (at₀ .steps ≤ at .steps) × AfterSteps set p (at .lo) (at .hi) (at .steps)
 
 abbrev μ-loop : tie.MeasureT-loop
 μ-loop set p x f at₀ j₀ at j = 8 - j

@@ -21,15 +21,15 @@ returns-4 : tie.Need-returns-4
 unfolding lnOf div ofBits
 returns-4 c = rw (c .before .before .before .if1 .left, c .before .before .if2 .left, c .before .if3 .left, c .if4 .taken)
 
-positive-requires : tie.Need-positive-requires
+ln-inner-requires : tie.Need-ln-inner-requires
 unfolding div ofBits
-positive-requires c κs =
+ln-inner-requires c κs =
     above (c .before .before .before .before .args .y) (c .before .before .before .if1 .left) (c .before .before .if2 .left) (c .before .if3 .left) (c .if4 .left)
 
 returns-5 : tie.Need-returns-5
 unfolding lnOf div ofBits
 returns-5 c =
-    let d = c .before in rw (c .positive .ensures, d .before .before .before .if1 .left, d .before .before .if2 .left, d .before .if3 .left, d .if4 .left)
+    let d = c .before in rw (c .ln-inner .ensures, d .before .before .before .if1 .left, d .before .before .if2 .left, d .before .if3 .left, d .if4 .left)
 
 pub ln-spec : {M : Type 1} → statement M
-ln-spec = tie.close (tie.spec returns returns-2 returns-3 returns-4 positive-requires returns-5)
+ln-spec = tie.close (tie.spec returns returns-2 returns-3 returns-4 ln-inner-requires returns-5)

@@ -1,7 +1,7 @@
--- `ln::series` meets its contract. The loop's invariant: q is the sum after the turns down to i. Assumes nothing.
+-- `ln::series` meets its contract. The loop's invariant: q is the sum after the steps down to i. Assumes nothing.
 use Prim.Native.Nat.{_≤_}
 use native.Mathlib.Omega.{arith}
-use Rattle.elementary.proofs.ln.Turns.{counted, first, Down, turned, done}
+use Rattle.elementary.proofs.ln.Steps.{in-float, first, Down, horner-step, no-steps-left}
 use Rattle.elementary.proofs.ln.series.Statement.{statement}
 use Rattle.elementary.proofs.ln.series.Tie as tie
 
@@ -24,16 +24,16 @@ add-q : tie.Need-add-q Inv-loop μ-loop
 add-q c = omega arith
 
 int-to-float-q : tie.Need-int-to-float-q Inv-loop μ-loop
-int-to-float-q c = counted _ (omega arith)
+int-to-float-q c = in-float _ (omega arith)
 
 loop-less : tie.Need-loop-less Inv-loop μ-loop
 loop-less c = omega arith
 
 loop-again : tie.Need-loop-again Inv-loop μ-loop
-loop-again c = (omega arith, turned _ _ _ (c .before .loop-test .taken) (c .before .before .loop .inv .1))
+loop-again c = (omega arith, horner-step _ _ _ (c .before .loop-test .taken) (c .before .before .loop .inv .1))
 
 returns : tie.Need-returns Inv-loop μ-loop
-returns c = done _ _ _ (c .loop-test .left) (c .before .loop .inv .1)
+returns c = no-steps-left _ _ _ (c .loop-test .left) (c .before .loop .inv .1)
 
 pub series-spec : {M : Type 1} → statement M
 series-spec =

@@ -1,12 +1,12 @@
 -- `float_of` meets its contract: the size of a NaN's bits is above an infinity's, and no other is. Assumes nothing.
 use mathlib.Core.Path.{sym, _∙_}
 use borrow.Author.Needs.{needs}
-use Rattle.elementary.proofs.Laws.Bits.{nan-made, nan-pattern, no-nan-pattern}
+use Rattle.elementary.proofs.Laws.Bits.{nan-quotient, nan-pattern, no-nan-pattern}
 use Rattle.elementary.proofs.methods.float_of.Statement.{statement}
 use Rattle.elementary.proofs.methods.float_of.Tie as tie
 
 returns : tie.Need-returns
-returns c = nan-made ∙ sym (nan-pattern (c .before .args .b) (c .if1 .taken))
+returns c = nan-quotient ∙ sym (nan-pattern (c .before .args .b) (c .if1 .taken))
 
 float-from-bits-result : tie.Need-float-from-bits-result
 float-from-bits-result c = no-nan-pattern (c .before .args .b) (c .if1 .left)

@@ -3,11 +3,11 @@ use borrow.Author.Needs.{needs}
 use Rattle.elementary.proofs.mul_add.mul_add_whole.Statement.{statement}
 use Rattle.elementary.proofs.mul_add.mul_add_whole.Tie as tie
 
-splits-requires : tie.Need-splits-requires
-splits-requires c κs = search needs
+can-split-requires : tie.Need-can-split-requires
+can-split-requires c κs = search needs
 
 split-requires : tie.Need-split-requires
-split-requires c κs = c .before .splits .ensures (c .if1 .taken)
+split-requires c κs = c .before .can-split .ensures (c .if1 .taken)
 
 int-to-float-mul-add : tie.Need-int-to-float-mul-add
 int-to-float-mul-add c = search needs
@@ -28,7 +28,7 @@ pub mul-add-whole-spec : {M : Type 1} → statement M
 mul-add-whole-spec =
     tie.close
     (tie.spec
-    splits-requires
+    can-split-requires
     split-requires
     int-to-float-mul-add
     int-to-float-mul-add-2

@@ -18,12 +18,12 @@ returns-3 : tie.Need-returns-3
 unfolding inverseOf div ofBits
 returns-3 c = rw (c .before .before .if1 .left, c .before .if2 .left, c .if3 .taken)
 
-bisected-requires : tie.Need-bisected-requires
-bisected-requires c κs = (lowest-under _ _ (c .before .before .if1 .left) (c .before .if2 .left), highest-over _ _ (c .if3 .left))
+bisect-requires : tie.Need-bisect-requires
+bisect-requires c κs = (lowest-under _ _ (c .before .before .if1 .left) (c .before .if2 .left), highest-over _ _ (c .if3 .left))
 
 returns-4 : tie.Need-returns-4
 unfolding inverseOf
-returns-4 c = rw (c .before .before .before .if1 .left, c .before .before .if2 .left, c .before .if3 .left) (c .bisected .ensures)
+returns-4 c = rw (c .before .before .before .if1 .left, c .before .before .if2 .left, c .before .if3 .left) (c .bisect .ensures)
 
 pub inverse-normal-cdf-under-spec : {M : Type 1} → statement M
-inverse-normal-cdf-under-spec = tie.close (tie.spec returns returns-2 returns-3 bisected-requires returns-4)
+inverse-normal-cdf-under-spec = tie.close (tie.spec returns returns-2 returns-3 bisect-requires returns-4)

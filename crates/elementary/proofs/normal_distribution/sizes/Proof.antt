@@ -1,22 +1,22 @@
--- `normal_distribution::sizes` meets its contract: after j turns the first j are filled in. Assumes nothing.
+-- `normal_distribution::sizes` meets its contract: after j steps the first j are filled in. Assumes nothing.
 use mathlib.Core.Path.{refl}
 use Prim.Native.Nat.{_-_}
 use native.Mathlib.Omega.{arith}
 use Rattle.elementary.specs.Inside.Each.{Of}
-use Rattle.elementary.proofs.Laws.Eight.{Filled, begun, next, filled}
+use Rattle.elementary.proofs.Laws.Eight.{Prefix, prefix-none, next, prefix-all}
 use borrow.Author.Needs.{needs}
 use Rattle.elementary.specs.NormalDistribution.{sizeOf}
 use Rattle.elementary.proofs.normal_distribution.sizes.Statement.{statement}
 use Rattle.elementary.proofs.normal_distribution.sizes.Tie as tie
 
 abbrev Inv-loop : tie.InvT-loop
-Inv-loop x y₀ j₀ y j = Filled (Of sizeOf x) y j
+Inv-loop x y₀ j₀ y j = Prefix (Of sizeOf x) y j
 
 abbrev μ-loop : tie.MeasureT-loop
 μ-loop x y₀ j₀ y j = 8 - j
 
 loop-holds : tie.Need-loop-holds Inv-loop μ-loop
-loop-holds c = begun _ _ refl
+loop-holds c = prefix-none _ _ refl
 
 mul-abs : tie.Need-mul-abs Inv-loop μ-loop
 mul-abs c = search needs
@@ -43,7 +43,7 @@ loop-again : tie.Need-loop-again Inv-loop μ-loop
 loop-again c = next _ _ _ _ (c .before .loop-test .taken) (c .abs .ensures) (c .before .before .loop .inv)
 
 returns : tie.Need-returns Inv-loop μ-loop
-returns c = filled (c .before .loop .inv) (c .loop-test .left)
+returns c = prefix-all (c .before .loop .inv) (c .loop-test .left)
 
 pub sizes-spec : {M : Type 1} → statement M
 sizes-spec =

@@ -10,7 +10,7 @@ use lib.Ieee.Fits.{up-pos, and-l}
 use lib.Ieee.Bits.{ofBits-toBits}
 use Rattle.elementary.specs.Methods.{signOf}
 use Rattle.elementary.specs.Sqrt.{sqrtOf}
-use Rattle.elementary.proofs.Laws.Bits.{lt-ordered, no-nan, no-sign, nan-made}
+use Rattle.elementary.proofs.Laws.Bits.{lt-ordered, no-nan, no-sign, nan-quotient}
 use Rattle.elementary.proofs.sqrt.Laws.{root-top}
 use Rattle.elementary.proofs.sqrt.sqrt.Statement.{statement}
 use Rattle.elementary.proofs.sqrt.sqrt.Tie as tie
@@ -66,11 +66,11 @@ module _ (x : Float) (f : T (fits binary64 x)) (h : lt (ofBits binary64 0) x ≡
 held : (c : tie.Start) → T (fits binary64 (c .args .x))
 held c = rw (c .good .0 .1) tt
 
-positive-requires : tie.Need-positive-requires
-positive-requires c κs = (bits-pos (c .before .before .args .x) (held (c .before .before)) (c .before .if1 .taken), c .if2 .taken)
+sqrt-of-positive-requires : tie.Need-sqrt-of-positive-requires
+sqrt-of-positive-requires c κs = (bits-pos (c .before .before .args .x) (held (c .before .before)) (c .before .if1 .taken), c .if2 .taken)
 
 returns : tie.Need-returns
-returns c = c .positive .ensures ∙ ap (sqrtOf binary64) (ofBits-toBits binary64 (c .before .before .before .args .x) (held (c .before .before .before)))
+returns c = c .sqrt-of-positive .ensures ∙ ap (sqrtOf binary64) (ofBits-toBits binary64 (c .before .before .before .args .x) (held (c .before .before .before)))
 
 returns-2 : tie.Need-returns-2
 returns-2 c =
@@ -82,8 +82,8 @@ returns-3 : tie.Need-returns-3
 returns-3 c = root-zero (c .before .before .args .x) (c .if3 .taken)
 
 returns-4 : tie.Need-returns-4
-returns-4 c = nan-made ∙ sym (root-none (c .before .before .args .x) (c .before .if1 .left) (c .if3 .left))
+returns-4 c = nan-quotient ∙ sym (root-none (c .before .before .args .x) (c .before .if1 .left) (c .if3 .left))
 
 pub sqrt-spec : {M : Type 1} → statement M
 sqrt-spec =
-    tie.close (tie.spec float-to-bits-b positive-requires returns returns-2 returns-3 returns-4)
+    tie.close (tie.spec float-to-bits-b sqrt-of-positive-requires returns returns-2 returns-3 returns-4)

@@ -10,7 +10,7 @@ use Rattle.elementary.specs.declared.rule_set.RuleSet.{RuleSet}
 use Rattle.prices.specs.declared.inputs.OptionType.{OptionType}
 use Rattle.prices.specs.declared.answer.Answer.{Answer}
 use Rattle.prices.specs.Inputs.{negated, times}
-use Rattle.prices.specs.Black.{added, priceOf, blackAt}
+use Rattle.prices.specs.Black.{plus, priceOf, blackAt}
 use Rattle.prices.proofs.black.Depth.{falls-below, not-zero}
 use borrow.Fn.Kinds.{In}
 use borrow.Fn.PlainCycle.{Measures, is, falls, and}
@@ -38,7 +38,7 @@ module _ (set : RuleSet) (forward strike sigma expiry : Float) where
   out (suc d) kind r e h = absurd (omega arith)
 
   mapped : (depth : ℕ) (kind other : OptionType) (diff i : Float) (inner r : Answer) → (depth ≡ 0 → ⊥) → diff ≡ times kind (forward ⊖ strike) → lt +0 diff ≡ true
-      → i ≡ maxOf diff +0 → other ≡ negated kind → inner ≡ at (depth - 1) other → r ≡ added i inner → r ≡ at depth kind
+      → i ≡ maxOf diff +0 → other ≡ negated kind → inner ≡ at (depth - 1) other → r ≡ plus i inner → r ≡ at depth kind
   unfolding blackAt
   mapped zero kind other diff i inner r n d t a o b h = absurd (n refl)
   mapped (suc k) kind other diff i inner r n d t a o b h = let e : suc k - 1 ≡ k = omega arith in h ∙ rw (a, b, o, e, d, rw d at t)
@@ -65,12 +65,12 @@ claims t = (
   price-reads.Learnt,
   times-reads.Asked,
   times-reads.Learnt,
-  max-reads.Asked,
-  max-reads.Learnt,
   neg-reads.Asked,
   neg-reads.Learnt,
   black-at-below t,
   black-at.Post,
+  max-reads.Asked,
+  max-reads.Learnt,
   plus-reads.Asked,
   plus-reads.Learnt,
 )
@@ -94,13 +94,13 @@ black-at-neg-requires : (t : ℕ) → black-at-lts.Need-neg-requires (claims t) 
 black-at-neg-requires t c κs = tt
 
 black-at-black-at-requires : (t : ℕ) → black-at-lts.Need-black-at-requires (claims t) (black-at-at t) black-at.Post
-black-at-black-at-requires t c κs = (falls-below _ t (c .before .before .before .before .before .pre .0) (c .before .before .before .before .if1 .left), tt)
+black-at-black-at-requires t c κs = (falls-below _ t (c .before .before .before .before .pre .0) (c .before .before .before .if1 .left), tt)
 
 black-at-plus-requires : (t : ℕ) → black-at-lts.Need-plus-requires (claims t) (black-at-at t) black-at.Post
 black-at-plus-requires t c κs = tt
 
 black-at-returns-2 : (t : ℕ) → black-at-lts.Need-returns-2 (claims t) (black-at-at t) black-at.Post
-black-at-returns-2 t c = mapped _ _ _ _ _ _ _ _ _ _ _ _ (c .before .before .before .before .before .before .if1 .left) (c .before .before .before .before .before .times .ensures) (c .before .before .before .before .if2 .taken) (c .before .before .before .max .ensures) (c .before .before .neg .ensures) (c .before .black-at .ensures) (c .plus .ensures)
+black-at-returns-2 t c = mapped _ _ _ _ _ _ _ _ _ _ _ _ (c .before .before .before .before .before .before .if1 .left) (c .before .before .before .before .before .times .ensures) (c .before .before .before .before .if2 .taken) (c .before .max .ensures) (c .before .before .before .neg .ensures) (c .before .before .black-at .ensures) (c .plus .ensures)
 
 black-at-price-requires-2 : (t : ℕ) → black-at-lts.Need-price-requires-2 (claims t) (black-at-at t) black-at.Post
 black-at-price-requires-2 t c κs = tt
@@ -115,10 +115,10 @@ pub +black-at-spec : {M : Type 1} → statement M
     (black-at-price-requires t)
     (black-at-returns t)
     (black-at-times-requires t)
-    (black-at-max-requires t)
-    (black-at-sub-black-at t)
     (black-at-neg-requires t)
+    (black-at-sub-black-at t)
     (black-at-black-at-requires t)
+    (black-at-max-requires t)
     (black-at-plus-requires t)
     (black-at-returns-2 t)
     (black-at-price-requires-2 t)

@@ -9,7 +9,7 @@ use Rattle.elementary.specs.declared.rule_set.RuleSet.{RuleSet}
 use Rattle.prices.specs.declared.inputs.OptionType.the-variants.{Call}
 use Rattle.prices.specs.declared.answer.Answer.{Answer}
 use Rattle.prices.specs.Intrinsic.{intrinsicOf}
-use Rattle.prices.specs.Black.{outOfTheMoney, added, callAt}
+use Rattle.prices.specs.Black.{outOfTheMoney, plus, callAt}
 use Rattle.prices.proofs.black.Depth.{falls-below, not-zero}
 use borrow.Fn.Kinds.{In}
 use borrow.Fn.PlainCycle.{Measures, is, falls, and}
@@ -29,7 +29,7 @@ module _ (set : RuleSet) (x s : Float) where
   out (suc d) r e h = absurd (omega arith)
 
   mapped : (depth : ℕ) (i : Float) (inner r : Answer) → (depth ≡ 0 → ⊥) → lt +0 x ≡ true → i ≡ intrinsicOf x Call → inner ≡ callAt (depth - 1) set (neg x) s
-      → r ≡ added i inner → r ≡ callAt depth set x s
+      → r ≡ plus i inner → r ≡ callAt depth set x s
   unfolding callAt
   mapped zero i inner r n t a b h = absurd (n refl)
   mapped (suc d) i inner r n t a b h = let e : suc d - 1 ≡ d = omega arith in h ∙ rw (t, a, b, e)

@@ -6,20 +6,20 @@ use Rattle.prices.proofs.black.asymptotic_expansion_of_normalised_black
 }
 use Rattle.prices.proofs.black.asymptotic_expansion_of_normalised_black_call.Tie as tie
 
-is-outside-requires : tie.Need-is-outside-requires
-is-outside-requires c κs = search needs
+is-outside-asymptotic-region-requires : tie.Need-is-outside-asymptotic-region-requires
+is-outside-asymptotic-region-requires c κs = search needs
 
 returns : tie.Need-returns
 unfolding asymptoticOf
-returns c = rw (rw (c .before .is-outside .ensures) at (c .if1 .taken))
+returns c = rw (rw (c .before .is-outside-asymptotic-region .ensures) at (c .if1 .taken))
 
 asymptotic-requires : tie.Need-asymptotic-requires
 asymptotic-requires c κs = search needs
 
 returns-2 : tie.Need-returns-2
 unfolding asymptoticOf
-returns-2 c = rw (c .asymptotic .ensures, rw (c .before .before .is-outside .ensures) at (c .before .if1 .left))
+returns-2 c = rw (c .asymptotic .ensures, rw (c .before .before .is-outside-asymptotic-region .ensures) at (c .before .if1 .left))
 
 pub asymptotic-expansion-of-normalised-black-call-spec : {M : Type 1} → statement M
 asymptotic-expansion-of-normalised-black-call-spec =
-    tie.close (tie.spec is-outside-requires returns asymptotic-requires returns-2)
+    tie.close (tie.spec is-outside-asymptotic-region-requires returns asymptotic-requires returns-2)

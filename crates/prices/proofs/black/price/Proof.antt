@@ -26,12 +26,12 @@ sqrt-requires-3 c κs = search needs
 normalised-black-under-requires : tie.Need-normalised-black-under-requires
 normalised-black-under-requires c κs = search needs
 
-at-least-requires : tie.Need-at-least-requires
-at-least-requires c κs = search needs
+price-from-normalised-requires : tie.Need-price-from-normalised-requires
+price-from-normalised-requires c κs = search needs
 
 returns : tie.Need-returns
 unfolding priceOf
-returns c = c .at-least .ensures ∙ rw (c .before .normalised-black-under .ensures, c .before .before .sqrt3 .ensures, c .before .before .before .ln .ensures, c .before .before .before .before .sqrt2 .ensures, c .before .before .before .before .before .sqrt .ensures, c .before .before .before .before .before .before .max .ensures, c .before .before .before .before .before .before .before .times .ensures)
+returns c = c .price-from-normalised .ensures ∙ rw (c .before .normalised-black-under .ensures, c .before .before .sqrt3 .ensures, c .before .before .before .ln .ensures, c .before .before .before .before .sqrt2 .ensures, c .before .before .before .before .before .sqrt .ensures, c .before .before .before .before .before .before .max .ensures, c .before .before .before .before .before .before .before .times .ensures)
 
 pub price-spec : {M : Type 1} → statement M
 price-spec =
@@ -44,5 +44,5 @@ price-spec =
     ln-requires
     sqrt-requires-3
     normalised-black-under-requires
-    at-least-requires
+    price-from-normalised-requires
     returns)

@@ -5,12 +5,12 @@ use borrow.Author.Needs.{needs}
 use Rattle.prices.proofs.black.series.Statement.{statement}
 use Rattle.prices.proofs.black.series.Tie as tie
 
-series-turns-requires : tie.Need-series-turns-requires
-series-turns-requires c κs = search needs
+series-terms-requires : tie.Need-series-terms-requires
+series-terms-requires c κs = search needs
 
 returns : tie.Need-returns
 unfolding seriesOf ofBits ofInt
-returns c = c .series-turns .ensures
+returns c = c .series-terms .ensures
 
 pub series-spec : {M : Type 1} → statement M
-series-spec = tie.close (tie.spec series-turns-requires returns)
+series-spec = tie.close (tie.spec series-terms-requires returns)

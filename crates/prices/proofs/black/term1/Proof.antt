@@ -5,12 +5,12 @@ use borrow.Author.Needs.{needs}
 use Rattle.prices.proofs.black.term1.Statement.{statement}
 use Rattle.prices.proofs.black.term1.Tie as tie
 
-first-requires : tie.Need-first-requires
-first-requires c κs = search needs
+innermost-requires : tie.Need-innermost-requires
+innermost-requires c κs = search needs
 
 returns : tie.Need-returns
 unfolding term1 ofBits ofInt
-returns c = rw (c .first .ensures)
+returns c = rw (c .innermost .ensures)
 
 pub term1-spec : {M : Type 1} → statement M
-term1-spec = tie.close (tie.spec first-requires returns)
+term1-spec = tie.close (tie.spec innermost-requires returns)

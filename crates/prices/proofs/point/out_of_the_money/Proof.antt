@@ -1,8 +1,16 @@
--- `point::out_of_the_money` meets its contract: each way out is the arm that the tests before it leave. Assumes nothing.
-use Rattle.prices.specs.Inside.Exponentials.{outOfTheMoneyWith}
+-- `point::out_of_the_money` meets its contract: each way out is the arm that the tests before it leave, and vega is the same on each. Assumes nothing.
+use Rattle.elementary.proofs.Laws.Compare.{not-le-of-lt}
+use Rattle.prices.specs.Black.{SMALL-T, smallTOf}
+use Rattle.prices.specs.Inside.Exponentials.{codysWith, regionWith, outOfTheMoneyWith}
 use borrow.Author.Needs.{needs}
 use Rattle.prices.proofs.point.out_of_the_money.Statement.{statement}
 use Rattle.prices.proofs.point.out_of_the_money.Tie as tie
+
+bell-requires : tie.Need-bell-requires
+bell-requires c κs = search needs
+
+vega-with-requires : tie.Need-vega-with-requires
+vega-with-requires c κs = c .bell .ensures
 
 abs-requires : tie.Need-abs-requires
 abs-requires c κs = search needs
@@ -10,27 +18,69 @@ abs-requires c κs = search needs
 normalised-intrinsic-requires : tie.Need-normalised-intrinsic-requires
 normalised-intrinsic-requires c κs = search needs
 
-priced-requires : tie.Need-priced-requires
-priced-requires c κs = search needs
+with-price-requires : tie.Need-with-price-requires
+with-price-requires c κs = search needs
 
 returns : tie.Need-returns
 unfolding outOfTheMoneyWith
-returns c = rw (c .priced .ensures, c .before .normalised-intrinsic .ensures, rw (c .before .before .before .abs .ensures) at (c .before .before .if1 .taken))
+returns c =
+    let test = c .before .before .before in
+    rw (c .with-price .ensures, c .before .normalised-intrinsic .ensures, test .before .vega-with .ensures, rw (test .abs .ensures) at (c .before .before .if1 .taken))
 
-in-region-requires : tie.Need-in-region-requires
-in-region-requires c κs = c .before .before .pre
+is-asymptotic-requires : tie.Need-is-asymptotic-requires
+is-asymptotic-requires c κs = search needs
+
+in-asymptotic-region-requires : tie.Need-in-asymptotic-region-requires
+in-asymptotic-region-requires c κs = search needs
 
 returns-2 : tie.Need-returns-2
-unfolding outOfTheMoneyWith
-returns-2 c = rw (rw (c .before .before .abs .ensures) at (c .before .if1 .left)) (c .in-region .ensures)
+unfolding outOfTheMoneyWith regionWith
+returns-2 c =
+    let elsewhere = c .before .before .before in
+    rw (c .in-asymptotic-region .ensures, elsewhere .before .before .vega-with .ensures, rw (elsewhere .before .abs .ensures) at (elsewhere .if1 .left), rw (c .before .before .is-asymptotic .ensures) at (c .before .if2 .taken))
+
+small-t-requires : tie.Need-small-t-requires
+small-t-requires c κs = c .before .before .before .before .before .before .bell .ensures
+
+with-price-requires-2 : tie.Need-with-price-requires-2
+with-price-requires-2 c κs = search needs
+
+returns-3 : tie.Need-returns-3
+unfolding outOfTheMoneyWith regionWith smallTOf
+returns-3 c =
+    let small = c .before .before in
+    let elsewhere = small .before .before .before in
+    rw (c .with-price2 .ensures, c .before .small-t .ensures, elsewhere .before .before .vega-with .ensures, rw (elsewhere .before .abs .ensures) at (elsewhere .if1 .left), rw (small .before .before .is-asymptotic .ensures) at (small .before .if2 .left), small .if3 .taken, not-le-of-lt _ SMALL-T (small .if3 .taken))
+
+codys-price-requires : tie.Need-codys-price-requires
+codys-price-requires c κs = search needs
+
+with-price-requires-3 : tie.Need-with-price-requires-3
+with-price-requires-3 c κs = search needs
+
+returns-4 : tie.Need-returns-4
+unfolding outOfTheMoneyWith regionWith codysWith
+returns-4 c =
+    let codys = c .before .before in
+    let elsewhere = codys .before .before .before in
+    rw (c .with-price3 .ensures, c .before .codys-price .ensures, elsewhere .before .before .before .bell .ensures, elsewhere .before .before .vega-with .ensures, rw (elsewhere .before .abs .ensures) at (elsewhere .if1 .left), rw (codys .before .before .is-asymptotic .ensures) at (codys .before .if2 .left), codys .if3 .left)
 
 pub out-of-the-money-spec : {M : Type 1} → statement M
 out-of-the-money-spec =
     tie.close
     (tie.spec
+    bell-requires
+    vega-with-requires
     abs-requires
     normalised-intrinsic-requires
-    priced-requires
+    with-price-requires
     returns
-    in-region-requires
-    returns-2)
+    is-asymptotic-requires
+    in-asymptotic-region-requires
+    returns-2
+    small-t-requires
+    with-price-requires-2
+    returns-3
+    codys-price-requires
+    with-price-requires-3
+    returns-4)

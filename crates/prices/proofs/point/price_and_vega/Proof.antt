@@ -1,4 +1,4 @@
--- `point::price_and_vega` meets its contract: in the money it asks for the two, else both have the one exponential. Assumes nothing.
+-- `point::price_and_vega` meets its contract: each way out is the arm that the test leaves. Assumes nothing.
 use borrow.Author.Needs.{needs}
 use Rattle.prices.proofs.point.price_and_vega.Statement.{statement}
 use Rattle.prices.proofs.point.price_and_vega.Tie as tie
@@ -9,23 +9,17 @@ normalised-black-call-under-requires c κs = search needs
 normalised-vega-requires : tie.Need-normalised-vega-requires
 normalised-vega-requires c κs = search needs
 
-told-requires : tie.Need-told-requires
-told-requires c κs = search needs
+price-and-vega-from-requires : tie.Need-price-and-vega-from-requires
+price-and-vega-from-requires c κs = search needs
 
 returns : tie.Need-returns
-returns c = rw (c .before .before .before .if1 .taken, ← c .before .before .normalised-black-call-under .ensures, ← c .before .normalised-vega .ensures) (c .told .ensures)
-
-bell-requires : tie.Need-bell-requires
-bell-requires c κs = search needs
-
-vega-with-requires : tie.Need-vega-with-requires
-vega-with-requires c κs = c .bell .ensures
+returns c = rw (c .before .before .before .if1 .taken, ← c .before .before .normalised-black-call-under .ensures, ← c .before .normalised-vega .ensures) (c .price-and-vega-from .ensures)
 
 out-of-the-money-requires : tie.Need-out-of-the-money-requires
-out-of-the-money-requires c κs = c .before .bell .ensures
+out-of-the-money-requires c κs = search needs
 
 returns-2 : tie.Need-returns-2
-returns-2 c = rw (c .before .before .before .if1 .left, ← c .before .vega-with .ensures) (c .out-of-the-money .ensures)
+returns-2 c = rw (c .before .if1 .left) (c .out-of-the-money .ensures)
 
 pub price-and-vega-spec : {M : Type 1} → statement M
 price-and-vega-spec =
@@ -33,9 +27,7 @@ price-and-vega-spec =
     (tie.spec
     normalised-black-call-under-requires
     normalised-vega-requires
-    told-requires
+    price-and-vega-from-requires
     returns
-    bell-requires
-    vega-with-requires
     out-of-the-money-requires
     returns-2)

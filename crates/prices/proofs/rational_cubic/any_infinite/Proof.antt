@@ -7,13 +7,13 @@ is-infinite-requires : tie.Need-is-infinite-requires
 is-infinite-requires c κs = search needs
 
 returns : tie.Need-returns
-returns c = rw (rw (c .before .is-infinite .ensures) at (c .if1 .taken))
+returns c = rw (c .if1 .taken, rw (c .before .is-infinite .ensures) at (c .if1 .taken))
 
 is-infinite-requires-2 : tie.Need-is-infinite-requires-2
 is-infinite-requires-2 c κs = search needs
 
 returns-2 : tie.Need-returns-2
-returns-2 c = rw (rw (c .before .before .before .is-infinite .ensures) at (c .before .before .if1 .left), rw (c .before .is-infinite2 .ensures) at (c .if2 .taken))
+returns-2 c = rw (c .if2 .taken, rw (c .before .before .before .is-infinite .ensures) at (c .before .before .if1 .left), rw (c .before .is-infinite2 .ensures) at (c .if2 .taken))
 
 is-infinite-requires-3 : tie.Need-is-infinite-requires-3
 is-infinite-requires-3 c κs = search needs
@@ -24,10 +24,4 @@ returns-3 c = rw (rw (c .before .before .before .before .is-infinite .ensures) a
 pub any-infinite-spec : {M : Type 1} → statement M
 any-infinite-spec =
     tie.close
-    (tie.spec
-    is-infinite-requires
-    returns
-    is-infinite-requires-2
-    returns-2
-    is-infinite-requires-3
-    returns-3)
+    (tie.spec is-infinite-requires is-infinite-requires-2 is-infinite-requires-3 returns returns-2 returns-3)

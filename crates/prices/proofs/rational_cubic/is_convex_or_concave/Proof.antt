@@ -7,7 +7,7 @@ is-convex-requires : tie.Need-is-convex-requires
 is-convex-requires c κs = search needs
 
 returns : tie.Need-returns
-returns c = rw (rw (c .before .is-convex .ensures) at (c .if1 .taken))
+returns c = rw (c .if1 .taken, rw (c .before .is-convex .ensures) at (c .if1 .taken))
 
 is-concave-requires : tie.Need-is-concave-requires
 is-concave-requires c κs = search needs
@@ -17,4 +17,4 @@ returns-2 c = rw (rw (c .before .before .is-convex .ensures) at (c .before .if1 
 
 pub is-convex-or-concave-spec : {M : Type 1} → statement M
 is-convex-or-concave-spec =
-    tie.close (tie.spec is-convex-requires returns is-concave-requires returns-2)
+    tie.close (tie.spec is-convex-requires is-concave-requires returns returns-2)

@@ -7,7 +7,7 @@ is-zero-requires : tie.Need-is-zero-requires
 is-zero-requires c κs = search needs
 
 returns : tie.Need-returns
-returns c = rw (rw (c .before .is-zero .ensures) at (c .if1 .taken))
+returns c = rw (c .if1 .taken, rw (c .before .is-zero .ensures) at (c .if1 .taken))
 
 is-infinite-requires : tie.Need-is-infinite-requires
 is-infinite-requires c κs = search needs
@@ -17,4 +17,4 @@ returns-2 c = rw (rw (c .before .before .is-zero .ensures) at (c .before .if1 .l
 
 pub is-zero-or-infinite-spec : {M : Type 1} → statement M
 is-zero-or-infinite-spec =
-    tie.close (tie.spec is-zero-requires returns is-infinite-requires returns-2)
+    tie.close (tie.spec is-zero-requires is-infinite-requires returns returns-2)

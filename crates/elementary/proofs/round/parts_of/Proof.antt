@@ -1,0 +1,40 @@
+-- `round::parts_of` meets its contract: a subnormal pattern has no leading digit, any other has (Decode). Assumes nothing.
+use mathlib.Core.Path.{sym, subst}
+use mathlib.Core.Bool.{Bool}
+use native.Mathlib.Omega.{arith}
+use lib.Dec.{T}
+use lib.Ieee.{binary64, fits}
+use Rattle.elementary.specs.Inside.Round.{PartsOf}
+use Rattle.elementary.proofs.Laws.Decode as decode
+use borrow.Author.Needs.{needs}
+use Rattle.elementary.proofs.round.parts_of.Statement.{statement}
+use Rattle.elementary.proofs.round.parts_of.Tie as tie
+
+-- what owning an `f64` tells: the format holds it
+held : (c : tie.Start) → T (fits binary64 (c .args .x))
+held c = subst T (sym (c .good .0 .1)) tt
+
+float-to-bits-b : tie.Need-float-to-bits-b
+float-to-bits-b c = decode.finite-no-nan (c .args .x) (c .pre)
+
+subnormal-parts-requires : tie.Need-subnormal-parts-requires
+subnormal-parts-requires c κs = search needs
+
+add-t9 : tie.Need-add-t9
+add-t9 c = search needs
+
+add-t10 : tie.Need-add-t10
+add-t10 c = search needs
+
+returns : tie.Need-returns
+returns c =
+    let a = c .before .before in
+    let r = c .subnormal-parts in
+    subst (λ (s : Bool). PartsOf (a .args .x) s (r .result .m) (r .result .e)) (sym (r .ensures .0)) (decode.low-value (a .args .x) (held a) (c .before .if1 .taken) (r .result .m) (r .result .e) (r .ensures .1))
+
+returns-2 : tie.Need-returns-2
+returns-2 c = decode.normal-value (c .before .args .x) (held (c .before)) (omega arith) (decode.finite-field (c .before .args .x) (held (c .before)) (c .before .pre))
+
+pub parts-of-spec : {M : Type 1} → statement M
+parts-of-spec =
+    tie.close (tie.spec float-to-bits-b subnormal-parts-requires add-t9 add-t10 returns returns-2)
