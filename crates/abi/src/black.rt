@@ -12,7 +12,7 @@ use elementary::methods::float_of;
 use prices::answer::Answer;
 use solver::book::is_kind;
 use solver::book::kind_from;
-use solver::numbers::OUTSIDE_THE_LAYOUT;
+use solver::numbers;
 
 #[no_mangle]
 pub extern "C" fn gintubalos_normalised_black_call_with_optimal_use_of_codys_functions(
@@ -83,7 +83,7 @@ fn normalised_black(x: f64, s: f64, kind: u8) -> Answer
     if is_kind(kind) {
         return prices::black::normalised_black(x, s, kind_from(kind));
     }
-    Answer::Refused(OUTSIDE_THE_LAYOUT)
+    Answer::Refused(numbers::OUTSIDE_THE_LAYOUT)
 }
 
 #[no_mangle]
@@ -100,7 +100,7 @@ fn black(forward: f64, strike: f64, sigma: f64, expiry: f64, kind: u8) -> Answer
     if is_kind(kind) {
         return prices::black::black(forward, strike, sigma, expiry, kind_from(kind));
     }
-    Answer::Refused(OUTSIDE_THE_LAYOUT)
+    Answer::Refused(numbers::OUTSIDE_THE_LAYOUT)
 }
 
 // Refused with 2, 3, 5 or 4 for an input that has no price, with 7 at the asymptotic region's edge.

@@ -13,7 +13,7 @@ use solver::answers::Checking;
 use solver::answers::Filing;
 use solver::book::file_quote;
 use solver::book::is_kind;
-use solver::numbers::OUTSIDE_THE_LAYOUT;
+use solver::numbers;
 use solver::quote::Quote;
 
 // The used count after it, 0 where it is refused.
@@ -40,7 +40,7 @@ fn file_for(kind: u8, quote: Quote, limit: i32, book: &mut [u8], used: u64) -> F
     if is_kind(kind) {
         return file_quote(RULE_SET_0, quote, limit, book, used);
     }
-    Filing::Refused(OUTSIDE_THE_LAYOUT, 0)
+    Filing::Refused(numbers::OUTSIDE_THE_LAYOUT, 0)
 }
 
 #[no_mangle]

@@ -8,7 +8,7 @@ use elementary::methods::float_of;
 use prices::answer::Answer;
 use solver::book::is_kind;
 use solver::book::kind_from;
-use solver::numbers::OUTSIDE_THE_LAYOUT;
+use solver::numbers;
 
 fn intrinsic(x: f64, kind: u8) -> Answer
     ensures { λ r. ⌜ r ≡ ofKind kind (intrinsicAnswer x) ⌝ }
@@ -16,7 +16,7 @@ fn intrinsic(x: f64, kind: u8) -> Answer
     if is_kind(kind) {
         return Answer::Value(prices::intrinsic::normalised_intrinsic(x, kind_from(kind)));
     }
-    Answer::Refused(OUTSIDE_THE_LAYOUT)
+    Answer::Refused(numbers::OUTSIDE_THE_LAYOUT)
 }
 
 #[no_mangle]

@@ -13,7 +13,7 @@ use elementary::rule_set::RULE_SET_0;
 use solver::answers::Solution;
 use solver::book::is_kind;
 use solver::book::kind_from;
-use solver::numbers::OUTSIDE_THE_LAYOUT;
+use solver::numbers;
 use solver::quote::Quote;
 use solver::solve::solve_quote;
 use solver::solve::solve_quote_with_trail;
@@ -62,7 +62,7 @@ fn solve_with_trail_for(kind: u8, quote: Quote, limit: i32, trail: &mut [u8]) ->
     if is_kind(kind) {
         return solve_quote_with_trail(RULE_SET_0, quote, steps_of(limit), trail);
     }
-    Solution::Refused(OUTSIDE_THE_LAYOUT, 0)
+    Solution::Refused(numbers::OUTSIDE_THE_LAYOUT, 0)
 }
 
 #[no_mangle]
@@ -90,7 +90,7 @@ fn solve_for(kind: u8, quote: Quote, steps: u32) -> Solution
     if is_kind(kind) {
         return solve_quote(RULE_SET_0, quote, steps);
     }
-    Solution::Refused(OUTSIDE_THE_LAYOUT, 0)
+    Solution::Refused(numbers::OUTSIDE_THE_LAYOUT, 0)
 }
 
 #[no_mangle]

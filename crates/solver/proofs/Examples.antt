@@ -15,7 +15,7 @@ use Rattle.prices.specs.declared.inputs.OptionType.{OptionType}
 use Rattle.prices.specs.declared.inputs.OptionType.the-variants.{Call, Put}
 use Rattle.prices.specs.Vega.{vegaOf}
 use Rattle.prices.specs.Intrinsic.{intrinsicOf}
-use Rattle.prices.specs.Black.{callAt, outOfTheMoney, regionOf, codysOf, smallTOf, smallTInner, taylorOf, term1, term2, term3, term4, term5, term6, asymptoticOf, asymptoticInner, seriesOf, seriesTurns}
+use Rattle.prices.specs.Black.{callAt, outOfTheMoney, regionOf, codysOf, smallTOf, smallTInner, taylorOf, term1, term2, term3, term4, term5, term6, asymptoticOf, asymptoticInner, seriesOf, seriesTerms}
 use Rattle.prices.specs.RationalCubic.{interpolationOf, curveOf, convexParameterOf, controlParameterOf, minimumParameterOf}
 use Rattle.elementary.specs.RuleSets.{rule-set-0}
 use Rattle.solver.specs.Loop.{run}
@@ -39,5 +39,5 @@ record Examples : Type 0 where
   put : volatilityBits 0x4008_0000_0000_0000 0x4059_0000_0000_0000 0x4056_8000_0000_0000 0x3fe0_0000_0000_0000 Put 1 ≡ 0x3fd0_740b_3534_6c6a
 
 examples : Examples
-unfolding solveOf solveKeeping resultFrom startOf inputNumber acceptedStart normalisedStart mappedStart lowerStart upperStart tailStart lowerGuess middleGuess upperGuess lowerMap upperMap inverseFLowerMap withValue onValue lowerStep upperStep generalStep lowerDs upperDs generalDs householderFactor isClose run callAt outOfTheMoney regionOf codysOf smallTOf smallTInner taylorOf term1 term2 term3 term4 term5 term6 asymptoticOf asymptoticInner seriesOf seriesTurns vegaOf intrinsicOf interpolationOf curveOf convexParameterOf controlParameterOf minimumParameterOf fma cdfOf inverseOf endsOf bisected inverseFUpperMapOf erfcOf erfcAbs erfcxOf erfcxAboveThreshold smoothenedExponentialOfNegativeSquare smoothenedExponentialOfPositiveSquare tildeOf sqrtOf roundRoot isqrt rootBy inUnits lnOf lnInner lnAt lnSum placeOf significandOf cubeRootOf expOf expInner expSum scaled floorOf maxOf signOf absOf add sub mul div neg sum ofBits toBits ofInt toSigned round units odd size lt le eq ne
+unfolding solveOf solveKeeping resultFrom startOf inputNumber acceptedStart normalisedStart mappedStart lowerStart upperStart tailStart lowerGuess middleGuess upperGuess lowerMap upperMap inverseFLowerMap withValue onValue lowerStep upperStep generalStep lowerDs upperDs generalDs householderFactor isClose run callAt outOfTheMoney regionOf codysOf smallTOf smallTInner taylorOf term1 term2 term3 term4 term5 term6 asymptoticOf asymptoticInner seriesOf seriesTerms vegaOf intrinsicOf interpolationOf curveOf convexParameterOf controlParameterOf minimumParameterOf fma cdfOf inverseOf endsOf bisected inverseFUpperMapOf erfcOf erfcAbs erfcxOf erfcxAboveThreshold smoothenedExponentialOfNegativeSquare smoothenedExponentialOfPositiveSquare tildeOf sqrtOf roundRoot isqrt rootBy inUnits lnOf lnInner lnAt lnSum placeOf significandOf cubeRootOf expOf expInner expSum scaled floorOf maxOf signOf absOf add sub mul div neg sum ofBits toBits ofInt toSigned round units odd size lt le eq ne
 examples = record { lower-tail = refl; middle = refl; upper-tail = refl; put = refl }

@@ -7,11 +7,7 @@ use crate::little_endian::float_at;
 use crate::little_endian::number_at;
 use crate::little_endian::put_float;
 use crate::little_endian::put_number_at;
-use crate::numbers::BOOK_FULL;
-use crate::numbers::LIMIT;
-use crate::numbers::NO_SUCH_RECORD;
-use crate::numbers::OUTSIDE_THE_LAYOUT;
-use crate::numbers::UPPER_REST;
+use crate::numbers;
 use crate::quote::Quote;
 use crate::solve::input_number;
 use crate::solve::solve_quote;
@@ -126,10 +122,10 @@ fn in_layout(r: &[u8]) -> bool
     if !is_kind(r[48]) {
         return false;
     }
-    if r[49] > UPPER_REST {
+    if r[49] > numbers::UPPER_REST {
         return false;
     }
-    if r[50] > LIMIT {
+    if r[50] > numbers::LIMIT {
         return false;
     }
     is_spare_zero(r)
@@ -157,7 +153,7 @@ pub(crate) fn solve_record(set: RuleSet, r: &[u8]) -> Solution
     if in_layout(r) {
         return solve_quote(set, quote_in(r), steps_from(number_at(r, 40, 4)));
     }
-    Solution::Refused(OUTSIDE_THE_LAYOUT, 0)
+    Solution::Refused(numbers::OUTSIDE_THE_LAYOUT, 0)
 }
 
 // Whether bytes 32 to 39, 44 to 47, 49 and 50 are this answer's.
@@ -208,10 +204,10 @@ pub fn file_quote(set: RuleSet, quote: Quote, limit: i32, book: &mut [u8], used:
     }
     let slots = (book.len() / RECORD_BYTES) as u64;
     if used > slots {
-        return Filing::Refused(NO_SUCH_RECORD, 0);
+        return Filing::Refused(numbers::NO_SUCH_RECORD, 0);
     }
     if used == slots {
-        return Filing::Refused(BOOK_FULL, 0);
+        return Filing::Refused(numbers::BOOK_FULL, 0);
     }
     file_in_slot(set, quote, limit, book, used)
 }
@@ -276,7 +272,7 @@ fn recheck_under(set: RuleSet, book: &[u8], used: u64, k: u64) -> Checking
         let end = at + RECORD_BYTES;
         return check_record(set, &book[at..end]);
     }
-    Checking::Refused(NO_SUCH_RECORD, 0)
+    Checking::Refused(numbers::NO_SUCH_RECORD, 0)
 }
 
 pub fn recheck(book: &[u8], used: u64, k: u64) -> Checking
@@ -296,6 +292,6 @@ pub fn read<'a>(book: &'a [u8], used: u64, k: u64, number: &mut u8) -> &'a [u8]
         let end = at + RECORD_BYTES;
         return &book[at..end];
     }
-    *number = NO_SUCH_RECORD;
+    *number = numbers::NO_SUCH_RECORD;
     &book[0..0]
 }

@@ -2,11 +2,7 @@
 // starting ends.
 use crate::normalised_market::NormalisedMarket;
 use crate::normalised_market::price_and_vega_at;
-use crate::numbers::LOWER;
-use crate::numbers::LOWER_MIDDLE;
-use crate::numbers::UPPER;
-use crate::numbers::UPPER_MIDDLE;
-use crate::numbers::UPPER_REST;
+use crate::numbers;
 use crate::state::MapAndDerivatives;
 use crate::state::Start;
 use crate::state::State;
@@ -280,10 +276,10 @@ fn lower_start(set: RuleSet, m: NormalisedMarket, s_c: f64, b_c: f64, v_c: f64) 
     let b_l = p.price;
     if m.beta < b_l {
         let guess = lower_guess(set, m.x, m.beta, b_l, s_l);
-        return start_loop(set, LOWER, m, MIN, s_l, guess);
+        return start_loop(set, numbers::LOWER, m, MIN, s_l, guess);
     }
     let guess = middle_guess(m.beta, b_l, b_c, s_l, s_c, p.vega, v_c, Side::Right);
-    start_loop(set, LOWER_MIDDLE, m, s_l, s_c, guess)
+    start_loop(set, numbers::LOWER_MIDDLE, m, s_l, s_c, guess)
 }
 
 // Above b_h: branches 4 and 5.
@@ -293,9 +289,9 @@ fn tail_start(set: RuleSet, m: NormalisedMarket, b_h: f64, s_h: f64) -> Start
 {
     let guess = upper_guess(set, m.x, m.beta, m.b_max, b_h, s_h);
     if m.beta > 0.5 * m.b_max {
-        return start_loop(set, UPPER, m, s_h, MAX, guess);
+        return start_loop(set, numbers::UPPER, m, s_h, MAX, guess);
     }
-    start_loop(set, UPPER_REST, m, s_h, MAX, guess)
+    start_loop(set, numbers::UPPER_REST, m, s_h, MAX, guess)
 }
 
 fn upper_place(b_max: f64, s_c: f64, b_c: f64, v_c: f64) -> f64
@@ -321,7 +317,7 @@ fn upper_start(set: RuleSet, m: NormalisedMarket, s_c: f64, b_c: f64, v_c: f64) 
     let b_h = p.price;
     if m.beta <= b_h {
         let guess = middle_guess(m.beta, b_c, b_h, s_c, s_h, v_c, p.vega, Side::Left);
-        return start_loop(set, UPPER_MIDDLE, m, s_c, s_h, guess);
+        return start_loop(set, numbers::UPPER_MIDDLE, m, s_c, s_h, guess);
     }
     tail_start(set, m, b_h, s_h)
 }

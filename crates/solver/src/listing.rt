@@ -1,7 +1,7 @@
 // A line of relist, byte by byte.
 use crate::answers::Solution;
 use crate::book::solve_record;
-use crate::numbers::NO_SUCH_RECORD;
+use crate::numbers;
 use elementary::methods::bits_of;
 use elementary::rule_set::RULE_SET_0;
 use elementary::rule_set::RuleSet;
@@ -100,7 +100,7 @@ fn answer_of(set: RuleSet, bytes: &[u8]) -> Solution
     ensures { λ r. ⌜ r ≡ answerAt set (now (bytes .entry)) ⌝ }
 {
     if bytes.len() < 64 {
-        return Solution::Refused(NO_SUCH_RECORD, 0);
+        return Solution::Refused(numbers::NO_SUCH_RECORD, 0);
     }
     solve_record(set, bytes)
 }

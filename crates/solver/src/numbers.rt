@@ -1,5 +1,5 @@
 // Document 01's numbers of this layer: refusals, branches and endings. Layer 2 has its own refusals.
-pub const PRICE_REFUSED: u8 = 1;
+pub const PRICE: u8 = 1;
 
 pub const TRAIL_TOO_SHORT: u8 = 21;
 

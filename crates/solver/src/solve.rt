@@ -4,12 +4,7 @@ use crate::answers::ImpliedVolatility;
 use crate::answers::Solution;
 use crate::guess::normalised_start;
 use crate::normalised_market::NormalisedMarket;
-use crate::numbers::LIMIT;
-use crate::numbers::NO_BRANCH;
-use crate::numbers::NO_LOOP;
-use crate::numbers::PRICE_REFUSED;
-use crate::numbers::STEP_TEST;
-use crate::numbers::TRAIL_TOO_SHORT;
+use crate::numbers;
 use crate::quote::Quote;
 use crate::state::LoopExit;
 use crate::state::Start;
@@ -28,6 +23,7 @@ use elementary::sqrt::sqrt;
 use prices::black::is_finite;
 use prices::black::is_positive_normal;
 use prices::inputs::OptionType;
+use prices::refusals;
 ghost use mathlib.Core.Path.{_≡_};
 ghost use mathlib.Core.Bool.{true};
 ghost use Prim.Native.Nat.{_*_, _≤_};
@@ -57,13 +53,13 @@ pub(crate) fn input_number(quote: Quote) -> u8
                 if is_positive_normal(quote.expiry) {
                     return 0;
                 }
-                return 4;
+                return refusals::EXPIRY;
             }
-            return 3;
+            return refusals::STRIKE;
         }
-        return 2;
+        return refusals::FORWARD;
     }
-    PRICE_REFUSED
+    numbers::PRICE
 }
 
 // ---- before the loop
@@ -143,11 +139,14 @@ fn run(
     let mut steps: u32 = 0;
     let exit = loop {
         if steps >= limit {
-            break LoopExit { ending: LIMIT, st };
+            break LoopExit {
+                ending: numbers::LIMIT,
+                st,
+            };
         }
         if is_close(st) {
             break LoopExit {
-                ending: STEP_TEST,
+                ending: numbers::STEP_TEST,
                 st,
             };
         }
@@ -186,13 +185,13 @@ fn solve(set: RuleSet, quote: Quote, limit: u32, trail: &mut [u8], keep: bool) -
         return Solution::Refused(number, 0);
     }
     if keep && trail.len() < limit as usize * 48 {
-        return Solution::Refused(TRAIL_TOO_SHORT, 0);
+        return Solution::Refused(numbers::TRAIL_TOO_SHORT, 0);
     }
     match accepted_start(set, quote) {
         Start::Answered(v) => Solution::Solved(ImpliedVolatility {
             volatility: v,
-            branch: NO_BRANCH,
-            ending: NO_LOOP,
+            branch: numbers::NO_BRANCH,
+            ending: numbers::NO_LOOP,
             steps: 0,
         }),
         Start::Stopped(n) => Solution::Refused(n, 0),
@@ -211,12 +210,7 @@ pub fn steps_of(limit: i32) -> u32
 
 // The volatility with its branch, ending and steps, and the steps' records in the trail, which has room
 // for as many as the limit allows; or the number of the refusal, with the completed steps.
-pub fn solve_quote_with_trail(
-    set: RuleSet,
-    quote: Quote,
-    limit: u32,
-    trail: &mut [u8],
-) -> Solution
+pub fn solve_quote_with_trail(set: RuleSet, quote: Quote, limit: u32, trail: &mut [u8]) -> Solution
     ensures { λ r. ⌜ r ≡ solveWithTrail set quote limit (length (now (trail .entry))) .answer ⌝ }
     ensures { λ _. ⌜ now (trail .exit) ≡ trailAfter (solveWithTrail set quote limit (length (now (trail .entry))) .records) (now (trail .entry)) ⌝ }
 {

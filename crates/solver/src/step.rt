@@ -2,8 +2,7 @@
 // and the general one's (branches 2, 3 and 5).
 use crate::normalised_market::NormalisedMarket;
 use crate::normalised_market::price_and_vega_at;
-use crate::numbers::LOWER;
-use crate::numbers::UPPER;
+use crate::numbers;
 use crate::state::Bracket;
 use crate::state::Record;
 use crate::state::State;
@@ -121,9 +120,9 @@ fn branch_ds(
 ) -> f64
     ensures { λ r. ⌜ r ≡ branchDs branch «b_max» x beta s b bp bracket ⌝ }
 {
-    if branch == LOWER {
+    if branch == numbers::LOWER {
         lower_ds(x, beta, s, b, bp, bracket)
-    } else if branch == UPPER {
+    } else if branch == numbers::UPPER {
         upper_ds(b_max, x, beta, s, b, bp, bracket)
     } else {
         general_ds(x, beta, s, b, bp, bracket)
@@ -134,9 +133,9 @@ fn branch_ds(
 fn branch_after(branch: u8, s: f64, ds: f64) -> f64
     ensures { λ r. ⌜ r ≡ branchAfter branch s ds ⌝ }
 {
-    if branch == LOWER {
+    if branch == numbers::LOWER {
         s + max(ds, -0.5 * s)
-    } else if branch == UPPER {
+    } else if branch == numbers::UPPER {
         s + max(ds, -0.5 * s)
     } else {
         s + ds

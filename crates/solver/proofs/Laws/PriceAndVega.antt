@@ -8,14 +8,14 @@ use Rattle.prices.specs.Vega.{vegaOf}
 use Rattle.prices.specs.Black.{callOf}
 use Rattle.prices.specs.Inside.Point.{priceAndVega}
 use Rattle.prices.proofs.Laws.Refusals.{call-answer}
-use Rattle.prices.proofs.Laws.Exponentials.{price-told, refusal-told, vega-told}
+use Rattle.prices.proofs.Laws.Exponentials.{answer-is-price, answer-is-refusal, same-vega}
 
 module _ (set : RuleSet) (x s : Float) (p : PriceAndVega) (e : p ≡ priceAndVega (callOf set x s) (vegaOf x s)) where
   pub price-is : p .number ≡ 0 → callOf set x s ≡ Value (p .price)
-  price-is n = price-told _ (call-answer 1 set x s) (vegaOf x s) p e n
+  price-is n = answer-is-price _ (call-answer 1 set x s) (vegaOf x s) p e n
 
   pub refusal-is : (p .number ≡ 0 → ⊥) → callOf set x s ≡ Refused (p .number)
-  refusal-is n = refusal-told _ (vegaOf x s) p e n
+  refusal-is n = answer-is-refusal _ (vegaOf x s) p e n
 
   pub vega-is : vegaOf x s ≡ p .vega
-  vega-is = vega-told (callOf set x s) (vegaOf x s) p e
+  vega-is = same-vega (callOf set x s) (vegaOf x s) p e

@@ -7,11 +7,9 @@ use Rattle.abi.proofs.solve.gintubalos_implied_volatility_from_a_transf
 
 returns : tie.Need-returns
 returns c =
-    let p = c .before .before .before .before .before .before .before .before .before .before .before in
+    let p = c .before .before .before .before .before .before .before .before in
     let z = toZ-ofZ w32 (p .args .limit) (p .fits .limit) in
     (cc, (cc, cc))
 
 pub gintubalos-implied-volatility-from-a-transformed-rational-guess-with-limited-iterations-spec : {M : Type 1} → statement M
-gintubalos-implied-volatility-from-a-transformed-rational-guess-with-limited-iterations-spec =
-    tie.close
-    (tie.spec (λ c κs. search needs) (λ c κs. search needs) (λ c κs. search needs) (λ c κs. search needs) (λ c κs. search needs) (λ c κs. search needs) (λ c. search needs) returns)
+gintubalos-implied-volatility-from-a-transformed-rational-guess-with-limited-iterations-spec = tie.close (tie.spec (λ c κs. search needs) (λ c κs. search needs) (λ c κs. search needs) (λ c. search needs) returns)

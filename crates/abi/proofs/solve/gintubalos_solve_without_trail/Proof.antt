@@ -7,11 +7,9 @@ use Rattle.abi.proofs.solve.gintubalos_solve_without_trail.Tie as tie
 
 returns : tie.Need-returns
 returns c =
-    let p = c .before .before .before .before .before .before .before .before in
+    let p = c .before .before .before .before .before in
     let z = toZ-ofZ w32 (p .args .limit) (p .fits .limit) in
     (cc, cc)
 
 pub gintubalos-solve-without-trail-spec : {M : Type 1} → statement M
-gintubalos-solve-without-trail-spec =
-    tie.close
-    (tie.spec (λ c κs. search needs) (λ c κs. search needs) (λ c κs. search needs) (λ c κs. search needs) (λ c κs. search needs) (λ c κs. search needs) (λ c κs. search needs) returns)
+gintubalos-solve-without-trail-spec = tie.close (tie.spec (λ c κs. search needs) (λ c κs. search needs) (λ c κs. search needs) (λ c κs. search needs) returns)
