@@ -6,7 +6,6 @@ use crate::methods::is_zero;
 use crate::round::float_of_fields;
 use crate::round::parts_of;
 ghost use mathlib.Core.Path.{_≡_};
-ghost use Prim.Native.Nat.{_≤_, _<_, _^_};
 ghost use lib.Dec.{T};
 ghost use lib.Ieee.Positive as Positive;
 ghost use Rattle.elementary.specs.Ops.{_⊘_, one, float};
