@@ -11,7 +11,6 @@ ghost use Rattle.elementary.specs.Ops.{one};
 ghost use Rattle.elementary.specs.Inside.Each.{Each};
 ghost use Rattle.elementary.specs.Exp as Exp;
 ghost use Rattle.elementary.specs.Inside.Exp.{Whole, BiasedExponent};
-ghost use Rattle.elementary.specs.Inside.Bounds.{AtMost};
 
 // `scale_by_power` for any power of two: the digits of p are rounded at their new place.
 fn scale_by_any_power(p: f64, e: u64) -> f64
@@ -117,14 +116,6 @@ fn biased_exponent(k: f64) -> u64
     (k + 2048.0) as u64
 }
 
-// exp between its two ends, from the sum q.
-fn exp_inner(y: f64, k: f64, q: f64) -> f64
-    requires { ⌜ AtMost y 746 ⌝ ∗ ⌜ k ≡ Exp.expK y ⌝ ∗ ⌜ q ≡ Exp.expSum 13 (Exp.expR y) one ⌝ }
-    ensures { λ r. ⌜ r ≡ Exp.expInner y ⌝ }
-{
-    scale_by_power(q, biased_exponent(k))
-}
-
 // exp from the sum q.
 fn exp_from_sum(y: f64, k: f64, q: f64) -> f64
     requires { ⌜ k ≡ Exp.expK y ⌝ ∗ ⌜ q ≡ Exp.expSum 13 (Exp.expR y) one ⌝ }
@@ -139,7 +130,7 @@ fn exp_from_sum(y: f64, k: f64, q: f64) -> f64
     if y < -746.0 {
         return 0.0;
     }
-    exp_inner(y, k, q)
+    scale_by_power(q, biased_exponent(k))
 }
 
 pub fn exp(y: f64) -> f64

@@ -6,11 +6,10 @@ use crate::methods::is_zero;
 use crate::round::float_of_fields;
 use crate::round::parts_of;
 ghost use mathlib.Core.Path.{_≡_};
-ghost use Prim.Native.Nat.{_≤_, _<_, _^_};
 ghost use lib.Dec.{T};
 ghost use lib.Ieee.Positive as Positive;
 ghost use Rattle.elementary.specs.Ops.{_⊘_, one, float};
-ghost use Rattle.elementary.specs.Ln.{exponentAt, lnSum, lnAt, lnInner, lnOf, cubeRootOf};
+ghost use Rattle.elementary.specs.Ln.{lnSum, lnAt, lnInner, lnOf, cubeRootOf};
 
 const SQRT_2: f64 = 1.4142135623730951;
 
@@ -37,15 +36,8 @@ fn ln_near_one(m: f64, e: f64) -> f64
     e * H + (2.0 * u * q + e * L)
 }
 
-// The exponent of the digit at this place, where the place of the smallest value is 0.
-fn exponent(place: u64) -> f64
-    requires { ⌜ place < 2 ^ 53 ⌝ }
-    ensures { λ r. ⌜ r ≡ exponentAt place ⌝ }
-{
-    place as f64 - 1074.0
-}
-
-// ln of a positive finite y. Its significand is halved where it is above √2.
+// ln of a positive finite y. Its significand is halved where it is above √2. The place of the smallest
+// value's digit is 0, and its exponent −1074.
 fn ln_inner(y: f64) -> f64
     requires { ⌜ T (Positive.positive y) ⌝ }
     ensures { λ r. ⌜ r ≡ lnInner y ⌝ }
@@ -57,7 +49,7 @@ fn ln_inner(y: f64) -> f64
         m = 0.5 * m;
         place += 1;
     }
-    ln_near_one(m, exponent(place))
+    ln_near_one(m, place as f64 - 1074.0)
 }
 
 // ln, with document 01's tests in their order.

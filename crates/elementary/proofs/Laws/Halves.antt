@@ -1,7 +1,6 @@
 -- A fraction to the nearest whole number, from its double cut to a whole number. Assumes nothing.
 use mathlib.Core.Path.{_≡_, sym, ap, _∙_}
 use mathlib.Core.Logic.{inl, inr}
-use mathlib.Core.Bool.{not}
 use Prim.Native.Nat.{ℕ, zero, suc, _+_, _-_, _*_, _/_, _%_, _<_, compare, Ordering, Ordering·lt, Ordering·eq, Ordering·gt}
 use native.Mathlib.Nat.{div-add-mod', add-mul, mul-right-comm, suc-mul, add-assoc, mod-lt, eq-zero-or-pos, add-zero}
 use native.Mathlib.Omega.{arith}

@@ -9,7 +9,7 @@ use native.Mathlib.Omega.{arith}
 use lib.Dec.{T, ltb, eqb}
 use lib.Arith.{le→nltb}
 use lib.Pow.{pow-pos}
-use lib.Ieee.{Float, nan, inf, fin, binary64, up, down, odd, units, round, sum, lt, le, eq, ne, ofBits}
+use lib.Ieee.{Float, nan, inf, fin, binary64, up, down, odd, units, round, lt, le, eq, ne, ofBits}
 use lib.Ieee.Bits.{cond-no}
 use lib.Ieee.Fits.{down-pos, round-fits}
 use lib.Ieee.Exact.{HasValue}

@@ -43,9 +43,6 @@ module _ (P ah al bh bl : ℕ) where
   pub high-le : al < P → bh * P + bl ≤ ah * P + al → bh ≤ ah
   high-le a h = le-of-suc-le-suc (lt-of-mul-lt-mul-right P (lt-of-lt-of-le (go (ah * P) (bh * P)) (le-of-eq (sym (suc-mul ah P)))))
     where
-      le' : bh * P + bl ≤ ah * P + al
-      le' = h
-
       go : (x y : ℕ) → bh * P < ah * P + P
       go x y = omega arith
 

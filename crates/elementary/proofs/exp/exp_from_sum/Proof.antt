@@ -1,10 +1,19 @@
 -- `exp::exp_from_sum` meets its contract: each way out is the arm that the tests before it leave. Assumes nothing.
-use lib.Ieee.{div, ofBits}
+use mathlib.Core.Path.{_≡_, _∙_}
+use Prim.Native.Nat.{ℕ}
+use borrow.Author.Needs.{needs}
+use lib.Ieee.{Float, binary64, minus, div, ofBits}
 use lib.Ieee.Compare.{differs-from-itself}
-use Rattle.elementary.specs.Exp.{expOf}
-use Rattle.elementary.proofs.exp.Range.{in-range}
+use Rattle.elementary.specs.Ops.{one}
+use Rattle.elementary.specs.Exp.{expSum, scaled, expK, expR, expInner, expOf}
+use Rattle.elementary.specs.Inside.Exp.{BiasedExponent}
+use Rattle.elementary.proofs.exp.Range.{whole-k, in-range}
 use Rattle.elementary.proofs.exp.exp_from_sum.Statement.{statement}
 use Rattle.elementary.proofs.exp.exp_from_sum.Tie as tie
+
+inner-is : (y k q r : Float) (e : ℕ) → k ≡ expK y → q ≡ expSum 13 (expR y) one → BiasedExponent k e → r ≡ scaled binary64 q (minus e 2048) → r ≡ expInner y
+unfolding expInner
+inner-is y k q r e a b c d = d ∙ rw (b, ← c .exponent, a)
 
 returns : tie.Need-returns
 unfolding expOf
@@ -18,12 +27,19 @@ returns-3 : tie.Need-returns-3
 unfolding expOf
 returns-3 c = rw (c .before .before .if1 .left, c .before .if2 .left, c .if3 .taken)
 
-exp-inner-requires : tie.Need-exp-inner-requires
-exp-inner-requires c κs = (in-range _ (c .before .before .if1 .left) (c .before .if2 .left) (c .if3 .left), c .before .before .before .pre)
+biased-exponent-requires : tie.Need-biased-exponent-requires
+biased-exponent-requires c κs =
+    rw (c .before .before .before .pre .0) (whole-k _ (in-range _ (c .before .before .if1 .left) (c .before .if2 .left) (c .if3 .left)))
+
+scale-by-power-requires : tie.Need-scale-by-power-requires
+scale-by-power-requires c κs = search needs
 
 returns-4 : tie.Need-returns-4
 unfolding expOf
-returns-4 c = rw (c .before .before .before .if1 .left, c .before .before .if2 .left, c .before .if3 .left) (c .exp-inner .ensures)
+returns-4 c =
+    let h = c .before .before .before .before .before .pre in
+    rw (c .before .before .before .before .if1 .left, c .before .before .before .if2 .left, c .before .before .if3 .left)
+    (inner-is _ _ _ _ _ (h .0) (h .1) (c .before .biased-exponent .ensures) (c .scale-by-power .ensures))
 
 pub exp-from-sum-spec : {M : Type 1} → statement M
-exp-from-sum-spec = tie.close (tie.spec returns returns-2 returns-3 exp-inner-requires returns-4)
+exp-from-sum-spec = tie.close (tie.spec returns returns-2 returns-3 biased-exponent-requires scale-by-power-requires returns-4)

@@ -3,11 +3,12 @@ use mathlib.Core.Path.{_≡_, sym, ap, _∙_, subst}
 use mathlib.Core.Logic.{⊎-elim}
 use Prim.Native.Nat.{ℕ, _+_, _-_, _*_, _^_, _≤_, _<_}
 use native.Mathlib.Omega.{arith}
-use lib.Dec.{T, lit<}
+use lib.Dec.{T, lit<, lit≤}
 use lib.Ieee.Exact.{HasValue}
 use lib.Ieee.Positive.{positive-finite}
 use Rattle.elementary.specs.Inside.Round.{Digits}
 use Rattle.elementary.specs.Ln.{lnAt, placeOf, significandOf}
+use Rattle.elementary.proofs.ln.Steps.{in-float, difference, unit}
 use Rattle.elementary.proofs.ln.Ends.{digits-of}
 use Rattle.elementary.proofs.ln.Place.{place-is, significand-is, in-upper-part, in-lower-part}
 use borrow.Author.Needs.{needs}
@@ -48,9 +49,9 @@ sub-place c = digits (c .before .before .before) .least
 add-place : tie.Need-add-place
 add-place c = search needs
 
-exponent-requires : tie.Need-exponent-requires
-exponent-requires c κs =
-    let g = digits (c .before .before .before .before) in ⊎-elim (λ w. omega arith) (λ w. omega arith) (c .if1 .came)
+int-to-float-ln-near-one : tie.Need-int-to-float-ln-near-one
+int-to-float-ln-near-one c =
+    let g = digits (c .before .before .before .before .before) in in-float _ (⊎-elim (λ w. omega arith) (λ w. omega arith) (c .before .if1 .came))
 
 ln-near-one-requires : tie.Need-ln-near-one-requires
 ln-near-one-requires c κs = search needs
@@ -60,8 +61,9 @@ returns c =
     let j = c .before .before in
     let a = j .before .before in
     let d = a .before .before in
+    let g = digits d in
     c .ln-near-one .ensures
-    ∙ ap (lnAt (j .if1 .m)) (c .before .exponent .ensures)
+    ∙ ap (lnAt (j .if1 .m)) (rw unit (difference (j .if1 .place) 1074 (⊎-elim (λ w. omega arith) (λ w. omega arith) (j .if1 .came)) (lit≤ tt)))
     ∙ ⊎-elim
     (λ w. in-upper-part (d .before .args .y) (a .float-of-fields .result) (j .if1 .m) (d .parts-of .result .e - 12) (j .if1 .place) (significand a) (place d) (w .0 .taken) (w .1) (w .2))
     (λ w. in-lower-part (d .before .args .y) (a .float-of-fields .result) (j .if1 .m) (d .parts-of .result .e - 12) (j .if1 .place) (significand a) (place d) (w .0 .left) (w .1) (w .2))
@@ -76,6 +78,6 @@ ln-inner-spec =
     float-of-fields-requires
     sub-place
     add-place
-    exponent-requires
+    int-to-float-ln-near-one
     ln-near-one-requires
     returns)

@@ -3,7 +3,7 @@ use mathlib.Core.Path.{refl, sym, subst}
 use mathlib.Core.Bool.{false≢true}
 use Prim.Native.Nat.{_%_, _^_}
 use lib.Dec.{T, ltb→lt}
-use lib.Ieee.{Float, binary64, toBits, ofBits, add, sub, mul}
+use lib.Ieee.{binary64, toBits, ofBits, add, sub, mul}
 use lib.Ieee.Fits.{add-fits, sub-fits}
 use borrow.Author.Needs.{needs}
 use Rattle.elementary.proofs.Laws.Bits.{abs-bits-no-nan, equal-left}
