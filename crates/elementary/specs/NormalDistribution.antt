@@ -31,12 +31,12 @@ abbrev pub midOf : Float → Float → Float
 midOf lo hi = half ⊗ (lo ⊕ hi)
 
 -- n times the middle becomes lo if its cdf is below p, else hi
-unfoldable pub bisected : (Float → Float) → ℕ → Float → Float → Float → Ends
-bisected cdf zero p lo hi = record { lo = lo; hi = hi }
-bisected cdf (suc n) p lo hi =
+unfoldable pub bisectionEnds : (Float → Float) → ℕ → Float → Float → Float → Ends
+bisectionEnds cdf zero p lo hi = record { lo = lo; hi = hi }
+bisectionEnds cdf (suc n) p lo hi =
     let mid = midOf lo hi in
     let below = lt (cdf mid) p in
-    bisected cdf n p (cond below mid lo) (cond below hi mid)
+    bisectionEnds cdf n p (cond below mid lo) (cond below hi mid)
 
 -- the first ends
 abbrev pub lowest : Float
@@ -47,7 +47,7 @@ highest = bits 0x4043_8000_0000_0000  -- 39
 
 -- the ends after the 64 steps
 unfoldable pub endsOf : RuleSet → Float → Ends
-endsOf set p = bisected (cdfOf set) 64 p lowest highest
+endsOf set p = bisectionEnds (cdfOf set) 64 p lowest highest
 
 -- the inverse cdf
 unfoldable pub inverseOf : RuleSet → Float → Float

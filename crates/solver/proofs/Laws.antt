@@ -7,7 +7,7 @@ pub mod Numbers
 pub mod Forms
 pub mod Loops
 pub mod PriceAndVega
-pub mod Reached
+pub mod LoopInvariant
 pub mod SolveCases
 -- Lists and bytes.
 pub mod Overwritten

@@ -80,9 +80,9 @@ module _ (x : Float) (F : T (fits binary64 x)) where
 
   -- the field of an infinity or a NaN is not a finite value's
   pub finite-field : T (finite x) → f < 2047
-  finite-field held = lt-of-not-le (λ (g : 2047 ≤ f). elim (eq-or-lt-of-le {n = 2047 * 2 ^ 52} {m = b % 2 ^ 63} (omega arith)) [
-    | inl e ↦ rw (← ofBits-toBits binary64 x F, value-inf b (sym e)) at held
-    | inr l ↦ rw (← ofBits-toBits binary64 x F, nan-pattern b l) at held
+  finite-field fit = lt-of-not-le (λ (g : 2047 ≤ f). elim (eq-or-lt-of-le {n = 2047 * 2 ^ 52} {m = b % 2 ^ 63} (omega arith)) [
+    | inl e ↦ rw (← ofBits-toBits binary64 x F, value-inf b (sym e)) at fit
+    | inr l ↦ rw (← ofBits-toBits binary64 x F, nan-pattern b l) at fit
   ])
 
 -- ---- the digits of a subnormal value

@@ -12,7 +12,7 @@ use Rattle.elementary.specs.Methods.{absOf}
 use Rattle.elementary.specs.Floor.{floorOf}
 use Rattle.elementary.specs.Exp.{expOf, expInner, expSum, scaled}
 use Rattle.elementary.specs.Cody.{erfcOf, erfcAbs, smoothenedExponentialOfNegativeSquare, tildeOf}
-use Rattle.elementary.specs.NormalDistribution.{cdfOf, midOf, bisected, lowest, highest, endsOf, inverseOf}
+use Rattle.elementary.specs.NormalDistribution.{cdfOf, midOf, bisectionEnds, lowest, highest, endsOf, inverseOf}
 use Rattle.elementary.proofs.Laws.Bounds.{side-finite, small-exact, half-at-most, add-at-most}
 use Rattle.elementary.specs.Promises.{Brackets}
 use Rattle.elementary.specs.Inside.Bounds.{AtMost}
@@ -37,8 +37,8 @@ record Around (cdf : Float → Float) (p lo hi : Float) : Type 0 where
 mid-range : {lo hi : Float} → AtMost lo 39 → AtMost hi 39 → AtMost (midOf lo hi) 39
 mid-range h k = half-at-most 39 (small-exact 39 (lit≤ tt)) (add-at-most 78 (small-exact 78 (lit≤ tt)) (lit≤ tt) h k)
 
-around : (cdf : Float → Float) (n : ℕ) (p lo hi : Float) → Around cdf p lo hi → Around cdf p (bisected cdf n p lo hi .lo) (bisected cdf n p lo hi .hi)
-unfolding bisected
+around : (cdf : Float → Float) (n : ℕ) (p lo hi : Float) → Around cdf p lo hi → Around cdf p (bisectionEnds cdf n p lo hi .lo) (bisectionEnds cdf n p lo hi .hi)
+unfolding bisectionEnds
 around cdf zero p lo hi h = h
 around cdf (suc n) p lo hi h = around cdf n p _ _ (go (lt (cdf (midOf lo hi)) p) refl)
   where
@@ -100,7 +100,7 @@ inverse-brackets set p above-0 below-1 =
     let start : Around (cdfOf set) p lowest highest =
     record { under = rw (at-lowest set) above-0; over = rw (at-highest set) (lt-asym p one below-1); lo-range = lowest-range; hi-range = highest-range } in
     let h = around (cdfOf set) 64 p lowest highest start in
-    let hi = bisected (cdfOf set) 64 p lowest highest .hi in
+    let hi = bisectionEnds (cdfOf set) 64 p lowest highest .hi in
     record {
       under = h .under;
       over = le-of-not-lt (cdfOf set hi) p (side-finite (cdf-at-most set (h .hi-range) .side)) (between-finite p above-0 below-1) (h .over);

@@ -8,26 +8,26 @@ use lib.ListN.{getD}
 use lib.Ieee.{Float, nan, lt}
 use Rattle.elementary.specs.declared.rule_set.RuleSet.{RuleSet}
 use Rattle.elementary.specs.Inside.Each.{Each}
-use Rattle.elementary.specs.NormalDistribution.{cdfOf, midOf, bisected, endsOf}
+use Rattle.elementary.specs.NormalDistribution.{cdfOf, midOf, bisectionEnds, endsOf}
 use Rattle.elementary.specs.Inside.Bisection.{AfterSteps}
 
 -- ---- one step
-step-up : (cdf : Float → Float) (n : ℕ) (p lo hi : Float) → lt (cdf (midOf lo hi)) p ≡ true → bisected cdf (suc n) p lo hi ≡ bisected cdf n p (midOf lo hi) hi
-unfolding bisected
+step-up : (cdf : Float → Float) (n : ℕ) (p lo hi : Float) → lt (cdf (midOf lo hi)) p ≡ true → bisectionEnds cdf (suc n) p lo hi ≡ bisectionEnds cdf n p (midOf lo hi) hi
+unfolding bisectionEnds
 step-up cdf n p lo hi t = rw t refl
 
-step-down : (cdf : Float → Float) (n : ℕ) (p lo hi : Float) → lt (cdf (midOf lo hi)) p ≡ false → bisected cdf (suc n) p lo hi ≡ bisected cdf n p lo (midOf lo hi)
-unfolding bisected
+step-down : (cdf : Float → Float) (n : ℕ) (p lo hi : Float) → lt (cdf (midOf lo hi)) p ≡ false → bisectionEnds cdf (suc n) p lo hi ≡ bisectionEnds cdf n p lo (midOf lo hi)
+unfolding bisectionEnds
 step-down cdf n p lo hi t = rw t refl
 
 -- ---- where the middle is an end, every later step leaves both ends
-stays-low : (cdf : Float → Float) (n : ℕ) (p lo hi : Float) → lt (cdf lo) p ≡ true → midOf lo hi ≡ lo → bisected cdf n p lo hi .hi ≡ hi
-unfolding bisected
+stays-low : (cdf : Float → Float) (n : ℕ) (p lo hi : Float) → lt (cdf lo) p ≡ true → midOf lo hi ≡ lo → bisectionEnds cdf n p lo hi .hi ≡ hi
+unfolding bisectionEnds
 stays-low cdf zero p lo hi u e = refl
 stays-low cdf (suc n) p lo hi u e = ap (λ z. z .hi) (step-up cdf n p lo hi (rw e u)) ∙ rw e (stays-low cdf n p lo hi u e)
 
-stays-high : (cdf : Float → Float) (n : ℕ) (p lo hi : Float) → lt (cdf hi) p ≡ false → midOf lo hi ≡ hi → bisected cdf n p lo hi .hi ≡ hi
-unfolding bisected
+stays-high : (cdf : Float → Float) (n : ℕ) (p lo hi : Float) → lt (cdf hi) p ≡ false → midOf lo hi ≡ hi → bisectionEnds cdf n p lo hi .hi ≡ hi
+unfolding bisectionEnds
 stays-high cdf zero p lo hi o e = refl
 stays-high cdf (suc n) p lo hi o e = ap (λ z. z .hi) (step-down cdf n p lo hi (rw e o)) ∙ rw e (stays-high cdf n p lo hi o e)
 
@@ -48,7 +48,7 @@ pub after-down : {set : RuleSet} (p lo hi : Float) (i : ℕ) → AfterSteps set 
 after-down {set} p lo hi i h l t = record { bound = omega arith; under = h .under; over = t; rest = h .rest ∙ rw (one-less i l) (step-down (cdfOf set) (64 - (i + 1)) p lo hi t) }
 
 pub no-steps-left : {set : RuleSet} (p lo hi : Float) (i : ℕ) → AfterSteps set p lo hi i → 64 ≤ i → hi ≡ endsOf set p .hi
-unfolding bisected
+unfolding bisectionEnds
 no-steps-left {set} p lo hi i h l = let z : 64 - i ≡ 0 = omega arith in sym (ap (λ e. e .hi) (rw z at (h .rest)))
 
 -- ---- what a test on a computed value says of the definition

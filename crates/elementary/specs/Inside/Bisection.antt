@@ -4,11 +4,11 @@ use mathlib.Core.Bool.{true, false}
 use Prim.Native.Nat.{ℕ, _-_, _≤_}
 use lib.Ieee.{Float, lt}
 use Rattle.elementary.specs.declared.rule_set.RuleSet.{RuleSet}
-use Rattle.elementary.specs.NormalDistribution.{cdfOf, bisected, endsOf}
+use Rattle.elementary.specs.NormalDistribution.{cdfOf, bisectionEnds, endsOf}
 
 -- the ends stand on both sides of p, and the steps that are left lead to the result
 pub record AfterSteps (set : RuleSet) (p lo hi : Float) (i : ℕ) : Type 0 where
   pub bound : i ≤ 64
   pub under : lt (cdfOf set lo) p ≡ true
   pub over : lt (cdfOf set hi) p ≡ false
-  pub rest : endsOf set p ≡ bisected (cdfOf set) (64 - i) p lo hi
+  pub rest : endsOf set p ≡ bisectionEnds (cdfOf set) (64 - i) p lo hi

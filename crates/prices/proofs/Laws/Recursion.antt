@@ -1,5 +1,5 @@
 -- A rule at depth 1 is the rule that calls itself: what is in the money is out of the money at −x, and for the other kind, since a product with −1 is the one with 1
--- and its sign turned. Assumes nothing.
+-- and its sign changed. Assumes nothing.
 use mathlib.Core.Path.{_≡_, refl, sym, ap, _∙_}
 use mathlib.Core.Bool.{Bool, true, false, cond}
 use Prim.Native.Nat.{ℕ, _*_}

@@ -38,9 +38,9 @@ half-power (negsuc k) h = go (decLe (suc k) 1073)
         (1073 - suc k, rw (mul-left-comm, ← pow-add 2 (1073 - suc k) (suc k), b))
     go (no a) = absurd (lt-irrefl _ (lt-of-lt-of-le h (pow-mono {i = 1074} {j = suc k} (omega arith))))
 
-held-facts : (m : ℕ) (e : ℤ) → T (fits binary64 (fin false m e)) → (m < 2 ^ 53) × (m * up e < 2 ^ 1024 * down e)
-held-facts zero e h = (lit< tt, rw zero-mul (mul-pos (pow-pos 1024) (down-pos e)))
-held-facts (suc m) e h = let d = holds binary64 false m e h in (d .0, d .2)
+format-facts : (m : ℕ) (e : ℤ) → T (fits binary64 (fin false m e)) → (m < 2 ^ 53) × (m * up e < 2 ^ 1024 * down e)
+format-facts zero e h = (lit< tt, rw zero-mul (mul-pos (pow-pos 1024) (down-pos e)))
+format-facts (suc m) e h = let d = holds binary64 false m e h in (d .0, d .2)
 
 deep : (m : ℕ) (e : ℤ) → m < 2 ^ 53 → down e ≤ m * up e * 2 ^ 1021 → down e < 2 ^ 1074
 deep m (pos k) s h = lit< tt
@@ -51,8 +51,8 @@ widen a b d = rw (mul-right-comm a d b) (mul-le-mul-left (a * b) (omega arith))
 
 exact : (m : ℕ) (e : ℤ) → T (fits binary64 (fin false m e)) → down e ≤ m * up e * 2 ^ 1021
     → (t : Bool) → HasValue (round binary64 t (m * up e) (2 * down e)) t (m * up e) (2 * down e)
-exact m e held large t =
-    let f = held-facts m e held in
+exact m e fit large t =
+    let f = format-facts m e fit in
     let j = half-power e (deep m e (f .0) large) in
     let p : m * up e * 2 ^ 1074 ≡ m * 2 ^ j .0 * (2 * down e) = rw (mul-assoc m (up e) (2 ^ 1074), mul-assoc m (2 ^ j .0) (2 * down e), j .1) in
     let under : m * 2 ^ j .0 * (2 * down e) < 2 ^ 1024 * 2 ^ 1074 * (2 * down e) = rw (← p) (lt-of-lt-of-le (mul-lt-mul-of-pos-right (f .1) (pow-pos 1074)) (widen (2 ^ 1024) (2 ^ 1074) (down e))) in

@@ -20,12 +20,12 @@ module _ (a : ℕ) (xs : List ℕ) where
   none-post : postOf a (length xs - a) xs ≡ []
   none-post = drop-of-length-le (drop a xs) {i = length xs - a} (simp length-drop (le-refl _))
 
-  pub part-laid : (bs ys : List ℕ) → ys ≡ bs ++ drop (length bs) (midOf a (length xs - a) xs) → putMid a (length xs - a) xs ys ≡ overwritten a bs xs
-  part-laid bs ys e = rw (e, whole-mid, none-post, drop-drop, append-nil)
+  pub part-overwritten : (bs ys : List ℕ) → ys ≡ bs ++ drop (length bs) (midOf a (length xs - a) xs) → putMid a (length xs - a) xs ys ≡ overwritten a bs xs
+  part-overwritten bs ys e = rw (e, whole-mid, none-post, drop-drop, append-nil)
 
   -- the same where the bytes are a number's
-  pub number-laid : (k n : ℕ) (ys : List ℕ) → ys ≡ bytesOf k n ++ drop k (midOf a (length xs - a) xs) → putMid a (length xs - a) xs ys ≡ overwritten a (bytesOf k n) xs
-  number-laid k n ys e = part-laid (bytesOf k n) ys (rw (length-bytes k n) e)
+  pub number-overwritten : (k n : ℕ) (ys : List ℕ) → ys ≡ bytesOf k n ++ drop k (midOf a (length xs - a) xs) → putMid a (length xs - a) xs ys ≡ overwritten a (bytesOf k n) xs
+  number-overwritten k n ys e = part-overwritten (bytesOf k n) ys (rw (length-bytes k n) e)
 
 -- bytes behind what stands in front
 pub behind : (fs bs old l l′ : List ℕ) → l ≡ fs ++ drop (length fs) old → l′ ≡ overwritten (length fs) bs l → l′ ≡ fs ++ bs ++ drop (length (fs ++ bs)) old

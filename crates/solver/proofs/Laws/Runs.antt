@@ -92,10 +92,10 @@ module _ {S R : Type 0} (next : S → Transition S R) where
   trace (suc n) s = follow-trace s (run next n) (trace n) (next s) refl
 
   -- what each state hands on to the next, and each step then says of its record, is so of every record
-  pub every : (held : S → Type 0) (says : R → Type 0) → ((s s′ : S) (r : R) → next s ≡ advance r s′ → held s → held s′ × says r)
-      → {s : S} {rs : List R} {i : ℕ} {r : R} → Trace s rs → held s → At rs i r → says r
-  every held says one-step (one {s} {s′} {r} e t) h here = one-step s s′ r e h .1
-  every held says one-step (one {s} {s′} {r} e t) h (there a) = every held says one-step t (one-step s s′ r e h .0) a
+  pub every : (invariant : S → Type 0) (says : R → Type 0) → ((s s′ : S) (r : R) → next s ≡ advance r s′ → invariant s → invariant s′ × says r)
+      → {s : S} {rs : List R} {i : ℕ} {r : R} → Trace s rs → invariant s → At rs i r → says r
+  every invariant says one-step (one {s} {s′} {r} e t) h here = one-step s s′ r e h .1
+  every invariant says one-step (one {s} {s′} {r} e t) h (there a) = every invariant says one-step t (one-step s s′ r e h .0) a
 
   -- an end of the state, and the same end after the step in its record
   module _ {A : Type 0} (end : S → A) (end′ : R → A) (kept : (s s′ : S) (r : R) → next s ≡ advance r s′ → end s′ ≡ end′ r) where

@@ -16,7 +16,7 @@ use Rattle.solver.specs.declared.state.Start.{Start as CodeStart}
 use Rattle.solver.specs.Inside.Start.{startMeaning}
 use Rattle.solver.specs.Solve.{acceptedStart, inputNumber, startOf, SolveResult, resultFrom, solveKeeping}
 use Rattle.solver.specs.Inside.Trail.{trailIfKept}
-use Rattle.solver.proofs.Laws.Reached.{none-wrote}
+use Rattle.solver.proofs.Laws.LoopInvariant.{no-record}
 
 module _ (keep : Bool) (bytes : ℕ) (set : RuleSet) (q : Quote) (n : ℕ) where
   abbrev w : SolveResult
@@ -53,7 +53,7 @@ module _ (keep : Bool) (bytes n : ℕ) where
 
 -- an answer without a record leaves the trail as it was
 pub untouched : (w : SolveResult) (answer : Solution) (keep : Bool) (old : List ℕ) → w ≡ record { records = []; answer = answer } → (answer ≡ w .answer) × (old ≡ trailIfKept keep (w .records) old)
-untouched w answer keep old e = (rw e refl, rw e (none-wrote keep old))
+untouched w answer keep old e = (rw e refl, rw e (no-record keep old))
 
 -- what the run answered and left, as solve's own
 pub result-of : (keep : Bool) (w q : SolveResult) (answer : Solution) (old trail : List ℕ) → w ≡ q → (answer ≡ q .answer) × (trail ≡ trailIfKept keep (q .records) old)

@@ -2,12 +2,12 @@
 use mathlib.Core.Path.{refl}
 use Prim.Native.Nat.{_≤_}
 use native.Mathlib.Omega.{arith}
-use Rattle.elementary.proofs.exp.Steps.{Left, sum-step, no-steps-left, in-float}
+use Rattle.elementary.proofs.exp.Steps.{StepsLeft, sum-step, no-steps-left, in-float}
 use Rattle.elementary.proofs.exp.sum.Statement.{statement}
 use Rattle.elementary.proofs.exp.sum.Tie as tie
 
 abbrev Inv-loop : tie.InvT-loop
-Inv-loop r p₀ i₀ p i = (i ≤ 13) × Left r p i
+Inv-loop r p₀ i₀ p i = (i ≤ 13) × StepsLeft r p i
 
 abbrev μ-loop : tie.MeasureT-loop
 μ-loop r p₀ i₀ p i = i

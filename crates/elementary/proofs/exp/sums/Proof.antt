@@ -5,7 +5,7 @@ use native.Mathlib.Omega.{arith}
 use borrow.Author.Needs.{needs}
 use Rattle.elementary.specs.Ops.{one}
 use Rattle.elementary.specs.Exp.{expSum}
-use Rattle.elementary.proofs.exp.Steps.{Left, sum-step, no-steps-left, in-float}
+use Rattle.elementary.proofs.exp.Steps.{StepsLeft, sum-step, no-steps-left, in-float}
 use Rattle.elementary.specs.Inside.Each.{Of}
 use Rattle.elementary.proofs.Laws.Eight.{eight}
 use Rattle.elementary.proofs.exp.sums.Statement.{statement}
@@ -13,7 +13,7 @@ use Rattle.elementary.proofs.exp.sums.Tie as tie
 
 abbrev Inv-loop : tie.InvT-loop
 Inv-loop r0 r1 r2 r3 r4 r5 r6 r7 p0₀ p1₀ p2₀ p3₀ p4₀ p5₀ p6₀ p7₀ n₀ p0 p1 p2 p3 p4 p5 p6 p7 n =
-    (n ≤ 13) × Left r0 p0 n × Left r1 p1 n × Left r2 p2 n × Left r3 p3 n × Left r4 p4 n × Left r5 p5 n × Left r6 p6 n × Left r7 p7 n
+    (n ≤ 13) × StepsLeft r0 p0 n × StepsLeft r1 p1 n × StepsLeft r2 p2 n × StepsLeft r3 p3 n × StepsLeft r4 p4 n × StepsLeft r5 p5 n × StepsLeft r6 p6 n × StepsLeft r7 p7 n
 
 abbrev μ-loop : tie.MeasureT-loop
 μ-loop r0 r1 r2 r3 r4 r5 r6 r7 p0₀ p1₀ p2₀ p3₀ p4₀ p5₀ p6₀ p7₀ n₀ p0 p1 p2 p3 p4 p5 p6 p7 n = n

@@ -11,8 +11,8 @@ use Rattle.elementary.proofs.round.parts_of.Statement.{statement}
 use Rattle.elementary.proofs.round.parts_of.Tie as tie
 
 -- what owning an `f64` tells: the format holds it
-held : (c : tie.Start) → T (fits binary64 (c .args .x))
-held c = subst T (sym (c .good .0 .1)) tt
+x-fits : (c : tie.Start) → T (fits binary64 (c .args .x))
+x-fits c = subst T (sym (c .good .0 .1)) tt
 
 float-to-bits-b : tie.Need-float-to-bits-b
 float-to-bits-b c = decode.finite-no-nan (c .args .x) (c .pre)
@@ -30,10 +30,10 @@ returns : tie.Need-returns
 returns c =
     let a = c .before .before in
     let r = c .subnormal-parts in
-    subst (λ (s : Bool). PartsOf (a .args .x) s (r .result .m) (r .result .e)) (sym (r .ensures .0)) (decode.low-value (a .args .x) (held a) (c .before .if1 .taken) (r .result .m) (r .result .e) (r .ensures .1))
+    subst (λ (s : Bool). PartsOf (a .args .x) s (r .result .m) (r .result .e)) (sym (r .ensures .0)) (decode.low-value (a .args .x) (x-fits a) (c .before .if1 .taken) (r .result .m) (r .result .e) (r .ensures .1))
 
 returns-2 : tie.Need-returns-2
-returns-2 c = decode.normal-value (c .before .args .x) (held (c .before)) (omega arith) (decode.finite-field (c .before .args .x) (held (c .before)) (c .before .pre))
+returns-2 c = decode.normal-value (c .before .args .x) (x-fits (c .before)) (omega arith) (decode.finite-field (c .before .args .x) (x-fits (c .before)) (c .before .pre))
 
 pub parts-of-spec : {M : Type 1} → statement M
 parts-of-spec =

@@ -63,19 +63,19 @@ module _ (x : Float) (f : T (fits binary64 x)) (h : lt (ofBits binary64 0) x ≡
       at-zero : toBits binary64 x ≡ 0 → ⊥
       at-zero e = true≢false (sym h ∙ ap (lt (ofBits binary64 0)) (sym back ∙ ap (ofBits binary64) e))
 
-held : (c : tie.Start) → T (fits binary64 (c .args .x))
-held c = rw (c .good .0 .1) tt
+x-fits : (c : tie.Start) → T (fits binary64 (c .args .x))
+x-fits c = rw (c .good .0 .1) tt
 
 sqrt-of-positive-requires : tie.Need-sqrt-of-positive-requires
-sqrt-of-positive-requires c κs = (bits-pos (c .before .before .args .x) (held (c .before .before)) (c .before .if1 .taken), c .if2 .taken)
+sqrt-of-positive-requires c κs = (bits-pos (c .before .before .args .x) (x-fits (c .before .before)) (c .before .if1 .taken), c .if2 .taken)
 
 returns : tie.Need-returns
-returns c = c .sqrt-of-positive .ensures ∙ ap (sqrtOf binary64) (ofBits-toBits binary64 (c .before .before .before .args .x) (held (c .before .before .before)))
+returns c = c .sqrt-of-positive .ensures ∙ ap (sqrtOf binary64) (ofBits-toBits binary64 (c .before .before .before .args .x) (x-fits (c .before .before .before)))
 
 returns-2 : tie.Need-returns-2
 returns-2 c =
     let x = c .before .before .args .x in
-    let f = held (c .before .before) in
+    let f = x-fits (c .before .before) in
     rw (back x f (c .before .if1 .taken)) at (root-top (toBits binary64 x) (bits-lt x f (c .before .if1 .taken)) (c .if2 .left))
 
 returns-3 : tie.Need-returns-3

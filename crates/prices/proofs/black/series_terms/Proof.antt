@@ -16,18 +16,18 @@ abbrev factor : ℕ → Float
 factor i = (two ⊗ float i ⊕ two) ⊗ (two ⊗ float i ⊕ ofBits binary64 0x4008_0000_0000_0000)
 
 -- what is left before term i
-record Left (z2 start first y sign term : Float) (i : ℕ) : Type 0 where
+record TermsLeft (z2 start first y sign term : Float) (i : ℕ) : Type 0 where
   bound : i ≤ 18
   rest : seriesTerms 15 3 z2 start (neg one) first ≡ seriesTerms (18 - i) i z2 y sign term
 
-one-term : (z2 start first y sign term : Float) (i : ℕ) → i ≤ 17 → Left z2 start first y sign term i
-    → Left z2 start first (y ⊕ sign ⊗ term) (neg sign) (term ⊗ (z2 ⊘ factor i)) (i + 1)
+one-term : (z2 start first y sign term : Float) (i : ℕ) → i ≤ 17 → TermsLeft z2 start first y sign term i
+    → TermsLeft z2 start first (y ⊕ sign ⊗ term) (neg sign) (term ⊗ (z2 ⊘ factor i)) (i + 1)
 unfolding seriesTerms ofBits ofInt
 one-term z2 start first y sign term i l h =
     let k : 18 - i ≡ suc (18 - (i + 1)) = omega arith in
     record { bound = omega arith; rest = rw (add-one i) (rw (k, add-one i) at (h .rest)) }
 
-done : (z2 start first y sign term : Float) (i : ℕ) → 17 < i → Left z2 start first y sign term i → y ≡ seriesTerms 15 3 z2 start (neg one) first
+done : (z2 start first y sign term : Float) (i : ℕ) → 17 < i → TermsLeft z2 start first y sign term i → y ≡ seriesTerms 15 3 z2 start (neg one) first
 unfolding seriesTerms
 done z2 start first y sign term i l h = let k : 18 - i ≡ 0 = omega arith in sym (rw k at (h .rest))
 
@@ -36,7 +36,7 @@ unfolding inFloat
 fits i l = le→leb i (2 ^ 53) (omega arith)
 
 abbrev Inv-loop : tie.InvT-loop
-Inv-loop z2 start first y₀ sign₀ term₀ i₀ y sign term i = Left z2 start first y sign term i
+Inv-loop z2 start first y₀ sign₀ term₀ i₀ y sign term i = TermsLeft z2 start first y sign term i
 
 abbrev μ-loop : tie.MeasureT-loop
 μ-loop z2 start first y₀ sign₀ term₀ i₀ y sign term i = 18 - i

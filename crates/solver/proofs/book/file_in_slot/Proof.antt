@@ -16,7 +16,7 @@ use Rattle.solver.specs.declared.answers.Solution.the-variants.{Solved, 
 use Rattle.solver.specs.declared.answers.Filing.{Filing}
 use Rattle.solver.specs.declared.answers.Filing.the-variants.{Filed, Refused as NotFiled}
 use Rattle.solver.specs.Book.{bookRecordBytes, fileAnswer}
-use Rattle.solver.proofs.Laws.Parts.{part-laid}
+use Rattle.solver.proofs.Laws.Parts.{part-overwritten}
 use borrow.Author.Needs.{needs}
 use Rattle.solver.proofs.book.file_in_slot.Statement.{statement}
 use Rattle.solver.proofs.book.file_in_slot.Tie as tie
@@ -39,7 +39,7 @@ module _ (q : Quote) (limit : ℤ) (book : List ℕ) (used : ℕ) (a w : Solutio
 
     files : (ys : List ℕ) → a ≡ Solved v → ys ≡ bytes ++ drop 64 (midOf (used * 64) (length book - used * 64) book)
         → Files (Filed (used + 1)) (putMid (used * 64) (length book - used * 64) book ys)
-    files ys s h = rw (← e, s) (refl, rw (mul-comm 64 used) (part-laid (used * 64) book bytes ys (rw bytes-length h)))
+    files ys s h = rw (← e, s) (refl, rw (mul-comm 64 used) (part-overwritten (used * 64) book bytes ys (rw bytes-length h)))
 
 put-book-record-requires : tie.Need-put-book-record-requires
 put-book-record-requires c κs = search needs

@@ -19,7 +19,7 @@ not-below (negsuc n) f e = absurd (true≢false (sym e))
 
 record Below (z : ℤ) : Type 0 where
   wide : SFits w64 z
-  turned : SFits w64 (pos 0 -ℤ z)
+  negated : SFits w64 (pos 0 -ℤ z)
   size : T (nonNeg (pos 0 -ℤ z)) × Fits w64 (natAbs (pos 0 -ℤ z))
   small : natAbs (pos 0 -ℤ z) ≤ 4294967296
   is : 4294967296 - natAbs (pos 0 -ℤ z) ≡ limitBits z
@@ -29,7 +29,7 @@ below (pos n) f e = absurd (true≢false (sym (leb·zero n) ∙ e))
 below (negsuc n) f e =
     record {
       wide = record { sfits = omega (arith, f .sfits) };
-      turned = record { sfits = omega (arith, f .sfits) };
+      negated = record { sfits = omega (arith, f .sfits) };
       size = (tt, omega (arith, f .sfits));
       small = omega (arith, f .sfits);
       is = omega arith;
@@ -48,16 +48,16 @@ cast-result-2 : tie.Need-cast-result-2
 cast-result-2 c = rw (toZ-ofZ w32 (c .before .args .limit) (c .before .fits .limit)) (left c .wide)
 
 sub-result : tie.Need-sub-result
-sub-result c = rw (toZ-ofZ w32 (c .before .args .limit) (c .before .fits .limit), toZ-ofZ w64 (c .before .args .limit) (left c .wide)) (left c .turned)
+sub-result c = rw (toZ-ofZ w32 (c .before .args .limit) (c .before .fits .limit), toZ-ofZ w64 (c .before .args .limit) (left c .wide)) (left c .negated)
 
 cast-result-3 : tie.Need-cast-result-3
 cast-result-3 c =
-    rw (toZ-ofZ w32 (c .before .args .limit) (c .before .fits .limit), toZ-ofZ w64 (c .before .args .limit) (left c .wide), toZ-ofZ w64 (pos 0 -ℤ c .before .args .limit) (left c .turned))
+    rw (toZ-ofZ w32 (c .before .args .limit) (c .before .fits .limit), toZ-ofZ w64 (c .before .args .limit) (left c .wide), toZ-ofZ w64 (pos 0 -ℤ c .before .args .limit) (left c .negated))
     (left c .size)
 
 sub-result-2 : tie.Need-sub-result-2
 sub-result-2 c =
-    rw (toZ-ofZ w32 (c .before .args .limit) (c .before .fits .limit), toZ-ofZ w64 (c .before .args .limit) (left c .wide), toZ-ofZ w64 (pos 0 -ℤ c .before .args .limit) (left c .turned))
+    rw (toZ-ofZ w32 (c .before .args .limit) (c .before .fits .limit), toZ-ofZ w64 (c .before .args .limit) (left c .wide), toZ-ofZ w64 (pos 0 -ℤ c .before .args .limit) (left c .negated))
     (left c .small)
 
 returns : tie.Need-returns
@@ -65,7 +65,7 @@ returns c = rw (toZ-ofZ w32 (c .before .args .limit) (c .before .fits .limit)) (
 
 returns-2 : tie.Need-returns-2
 returns-2 c =
-    rw (toZ-ofZ w32 (c .before .args .limit) (c .before .fits .limit), toZ-ofZ w64 (c .before .args .limit) (left c .wide), toZ-ofZ w64 (pos 0 -ℤ c .before .args .limit) (left c .turned))
+    rw (toZ-ofZ w32 (c .before .args .limit) (c .before .fits .limit), toZ-ofZ w64 (c .before .args .limit) (left c .wide), toZ-ofZ w64 (pos 0 -ℤ c .before .args .limit) (left c .negated))
     (left c .is)
 
 pub limit-bits-spec : {M : Type 1} → statement M

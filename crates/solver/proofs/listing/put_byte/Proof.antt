@@ -1,4 +1,4 @@
--- `listing::put_byte` meets its contract: one byte stored is a run of one byte laid there. Assumes nothing.
+-- `listing::put_byte` meets its contract: one byte stored is a run of one byte there. Assumes nothing.
 use mathlib.Core.Path.{refl}
 use borrow.Author.Needs.{needs}
 use Rattle.solver.proofs.Laws.Overwritten.{put-one}

@@ -1,7 +1,7 @@
 -- `little_endian::put_number_at` meets its contract: the part from `at` on comes back with the number's bytes at its start.
 use borrow.Author.Needs.{needs}
 use denote.Ref.{now}
-use Rattle.solver.proofs.Laws.Parts.{number-laid}
+use Rattle.solver.proofs.Laws.Parts.{number-overwritten}
 use Rattle.solver.proofs.little_endian.put_number_at.Statement.{statement}
 use Rattle.solver.proofs.little_endian.put_number_at.Tie as tie
 
@@ -24,7 +24,7 @@ returns : tie.Need-returns
 returns c =
     let put = c .before .before in
     let a = put .before .before .before .args in
-    number-laid (a .at) (now (a .out)) (a .width) (a .n) _ (put .put-number .ensures)
+    number-overwritten (a .at) (now (a .out)) (a .width) (a .n) _ (put .put-number .ensures)
 
 pub put-number-at-spec : {M : Type 1} → statement M
 put-number-at-spec =

@@ -6,8 +6,8 @@ use mathlib.Core.Logic.{⊎-elim}
 use lib.ListN.{length, length-append, length-take, length-drop}
 use native.Mathlib.Omega.{arith}
 use borrow.Author.Needs.{needs}
-use Rattle.solver.proofs.Laws.Reached.{Reached, none-wrote, one-more, goes-on, stops, runs-out, next-goes, next-refused, next-tested, ended}
-use Rattle.solver.proofs.Laws.Parts.{part-laid}
+use Rattle.solver.proofs.Laws.LoopInvariant.{Invariant, no-record, one-more, run-advances, stops, runs-out, next-advances, next-by-refusal, next-by-test, ended}
+use Rattle.solver.proofs.Laws.Parts.{part-overwritten}
 use Rattle.solver.specs.declared.state.State.{State}
 use Rattle.solver.specs.declared.state.StepResult.{StepResult}
 use Rattle.solver.specs.Loop.{by-test, by-limit, by-refusal, run}
@@ -18,13 +18,13 @@ use Rattle.solver.proofs.solve.run.Statement.{statement}
 use Rattle.solver.proofs.solve.run.Tie as tie
 
 abbrev Inv-loop : tie.InvT-loop
-Inv-loop set branch m root limit trail₀ keep st₀ steps₀ trail st steps = Reached (nextBy (branchStep set branch (m .«b_max») (m .x) (m .beta))) limit keep st₀ trail₀ trail st steps
+Inv-loop set branch m root limit trail₀ keep st₀ steps₀ trail st steps = Invariant (nextBy (branchStep set branch (m .«b_max») (m .x) (m .beta))) limit keep st₀ trail₀ trail st steps
 
 abbrev μ-loop : tie.MeasureT-loop
 μ-loop set branch m root limit trail₀ keep st₀ steps₀ trail st steps = limit - steps
 
 loop-holds : tie.Need-loop-holds Inv-loop μ-loop
-loop-holds c = record { rs = []; count = refl; within = omega arith; rest = let k : c .before .args .limit - 0 ≡ c .before .args .limit = omega arith in rw k; wrote = none-wrote (c .before .args .keep) _; long = refl }
+loop-holds c = record { rs = []; count = refl; within = omega arith; rest = let k : c .before .args .limit - 0 ≡ c .before .args .limit = omega arith in rw k; wrote = no-record (c .before .args .keep) _; long = refl }
 
 is-close-requires : tie.Need-is-close-requires Inv-loop μ-loop
 is-close-requires c κs = search needs
@@ -81,9 +81,9 @@ loop-again c =
       rs = inv .rs ++ (r ∷ []);
       count = omega (arith, length-append (inv .rs) (r ∷ []));
       within = omega arith;
-      rest = goes-on (nextBy step-of) (a .limit) (at .loop .steps) _ (inv .rs) (at .loop .st) (inv .rest) (room .if1 .left) r st′ (next-goes step-of (at .loop .st) _ _ (test .before .is-close .ensures) (step .step .ensures) (test .if2 .left) st′ r (next .1));
+      rest = run-advances (nextBy step-of) (a .limit) (at .loop .steps) _ (inv .rs) (at .loop .st) (inv .rest) (room .if1 .left) r st′ (next-advances step-of (at .loop .st) _ _ (test .before .is-close .ensures) (step .step .ensures) (test .if2 .left) st′ r (next .1));
       wrote = ⊎-elim
-          (λ w. rw (w .0 .taken) (one-more (inv .rs) r _ (at .loop .trail) _ _ (inv .count) (rw (w .0 .taken) at (inv .wrote)) (w .5 ∙ part-laid (at .loop .steps * 48) (at .loop .trail) (recordBytes r) _ (w .2 .ensures))))
+          (λ w. rw (w .0 .taken) (one-more (inv .rs) r _ (at .loop .trail) _ _ (inv .count) (rw (w .0 .taken) at (inv .wrote)) (w .5 ∙ part-overwritten (at .loop .steps * 48) (at .loop .trail) (recordBytes r) _ (w .2 .ensures))))
           (λ w. rw (w .0 .left) (w .1 ∙ (rw (w .0 .left) at (inv .wrote))))
           (c .if3 .came);
       long = ⊎-elim (λ w. omega (arith, ap length (w .5))) (λ w. omega (arith, ap length (w .1))) (c .if3 .came);
@@ -107,7 +107,7 @@ returns c =
     let n = c .before .n .given in
     let next = nextBy step-of in
     let w = run next (a .limit) (a .start) in
-    let leads = next-refused step-of (at .loop .st) _ _ (test .before .is-close .ensures) (step .step .ensures) (test .if2 .left) (n .0 .0) (n .1) in
+    let leads = next-by-refusal step-of (at .loop .st) _ _ (test .before .is-close .ensures) (step .step .ensures) (test .if2 .left) (n .0 .0) (n .1) in
     ended w (inv .rs) (by-refusal (n .0 .0)) (a .branch) (a .root) (a .keep) _ _ _ (stops next (a .limit) (at .loop .steps) w (inv .rs) (at .loop .st) (inv .rest) (room .if1 .left) _ leads) (inv .count) (inv .wrote)
 
 same-length-2 : tie.Need-same-length-2 Inv-loop μ-loop
@@ -124,7 +124,7 @@ returns-2 c =
     let st = at .loop .st in
     ⊎-elim
     (λ w. rw (w .1) (ended all (inv .rs) (by-limit st) (a .branch) (a .root) (a .keep) _ _ _ (runs-out next (a .limit) (at .loop .steps) all (inv .rs) st (inv .rest) (w .0 .taken)) (inv .count) (inv .wrote)))
-    (λ w. rw (w .3) (ended all (inv .rs) (by-test st) (a .branch) (a .root) (a .keep) _ _ _ (stops next (a .limit) (at .loop .steps) all (inv .rs) st (inv .rest) (w .0 .left) _ (next-tested step-of st _ (w .1 .ensures) (w .2 .taken))) (inv .count) (inv .wrote)))
+    (λ w. rw (w .3) (ended all (inv .rs) (by-test st) (a .branch) (a .root) (a .keep) _ _ _ (stops next (a .limit) (at .loop .steps) all (inv .rs) st (inv .rest) (w .0 .left) _ (next-by-test step-of st _ (w .1 .ensures) (w .2 .taken))) (inv .count) (inv .wrote)))
     (c .before .before .if1 .came)
 
 pub run-spec : {M : Type 1} → statement M

@@ -1,4 +1,4 @@
--- What `run`'s loop has reached: the records of its completed steps, what the run is from there on, and the trail. Assumes nothing.
+-- What holds before each turn of `run`'s loop: the records of its completed steps, what the run is from there on, and the trail. Assumes nothing.
 use mathlib.Core.Path.{_≡_, refl}
 use mathlib.Core.Bool.{Bool, true, false}
 use mathlib.Core.List.{List, [], _∷_, _++_, append-assoc, append-nil}
@@ -20,7 +20,7 @@ use Rattle.solver.specs.Inside.Trail.{trailIfKept}
 use Rattle.solver.proofs.Laws.Trails.{all-length, all-append}
 use Rattle.solver.proofs.Laws.Parts.{behind}
 
-pub record Reached (next : State → Transition State Record) (limit : ℕ) (keep : Bool) (st₀ : State) (old trail : List ℕ) (st : State) (steps : ℕ) : Type 0 where
+pub record Invariant (next : State → Transition State Record) (limit : ℕ) (keep : Bool) (st₀ : State) (old trail : List ℕ) (st : State) (steps : ℕ) : Type 0 where
   pub rs : List Record
   pub count : length rs ≡ steps
   pub within : steps ≤ limit
@@ -30,24 +30,24 @@ pub record Reached (next : State → Transition State Record) (limit : ℕ) (kee
 
 -- one turn of any loop, from what a state leads to
 module _ {S R : Type 0} (next : S → Transition S R) where
-  turn-goes : (n : ℕ) (s s′ : S) (r : R) → next s ≡ advance r s′ → run next (suc n) s ≡ after (r ∷ []) (run next n s′)
+  one-advance : (n : ℕ) (s s′ : S) (r : R) → next s ≡ advance r s′ → run next (suc n) s ≡ after (r ∷ []) (run next n s′)
   unfolding run
-  turn-goes n s s′ r e = rw e
+  one-advance n s s′ r e = rw e
 
-  turn-ends : (n : ℕ) (s : S) (e : Ending S) → next s ≡ stop e → run next (suc n) s ≡ record { records = []; ending = e }
+  one-stop : (n : ℕ) (s : S) (e : Ending S) → next s ≡ stop e → run next (suc n) s ≡ record { records = []; ending = e }
   unfolding run
-  turn-ends n s e h = rw h
+  one-stop n s e h = rw h
 
 module _ {S R : Type 0} (next : S → Transition S R) (limit steps : ℕ) (w : Run S R) (rs : List R) (s : S) (rest : w ≡ after rs (run next (limit - steps) s)) where
-  pub goes-on : steps < limit → (r : R) (s′ : S) → next s ≡ advance r s′ → w ≡ after (rs ++ (r ∷ [])) (run next (limit - (steps + 1)) s′)
-  goes-on h r s′ e =
+  pub run-advances : steps < limit → (r : R) (s′ : S) → next s ≡ advance r s′ → w ≡ after (rs ++ (r ∷ [])) (run next (limit - (steps + 1)) s′)
+  run-advances h r s′ e =
       let k : limit - steps ≡ suc (limit - (steps + 1)) = omega arith in
-      rw (rest, k, turn-goes next _ s s′ r e, append-assoc)
+      rw (rest, k, one-advance next _ s s′ r e, append-assoc)
 
   pub stops : steps < limit → (e : Ending S) → next s ≡ stop e → w ≡ record { records = rs; ending = e }
   stops h e n =
       let k : limit - steps ≡ suc (limit - (steps + 1)) = omega arith in
-      rw (rest, k, turn-ends next _ s e n, append-nil)
+      rw (rest, k, one-stop next _ s e n, append-nil)
 
   pub runs-out : limit ≤ steps → w ≡ record { records = rs; ending = by-limit s }
   unfolding run
@@ -56,12 +56,12 @@ module _ {S R : Type 0} (next : S → Transition S R) (limit steps : ℕ) (w : R
       rw (rest, k, append-nil)
 
 -- where nothing is written
-pub none-wrote : (keep : Bool) (old : List ℕ) → old ≡ trailIfKept keep [] old
+pub no-record : (keep : Bool) (old : List ℕ) → old ≡ trailIfKept keep [] old
 unfolding trailAfter
-none-wrote true old = refl
-none-wrote false old = refl
+no-record true old = refl
+no-record false old = refl
 
--- a record laid behind the others
+-- a record behind the others
 pub one-more : (rs : List Record) (r : Record) (old trail trail′ : List ℕ) (steps : ℕ) → length rs ≡ steps → trail ≡ trailAfter rs old → trail′ ≡ overwritten (steps * 48) (recordBytes r) trail → trail′ ≡ trailAfter (rs ++ (r ∷ [])) old
 unfolding trailAfter
 one-more rs r old trail trail′ steps n e f =
@@ -70,14 +70,14 @@ one-more rs r old trail trail′ steps n e f =
 
 -- what the test and the step found, as what the state leads to
 module _ (stepOf : State → StepResult) (st : State) (close : Bool) (stepped : StepResult) (c : close ≡ isClose st) (s : stepped ≡ stepOf st) where
-  pub next-goes : close ≡ false → (st′ : State) (r : Record) → stepped ≡ Completed st′ r → nextBy stepOf st ≡ advance r st′
-  next-goes n st′ r e = rw (← c, n, ← s, e)
+  pub next-advances : close ≡ false → (st′ : State) (r : Record) → stepped ≡ Completed st′ r → nextBy stepOf st ≡ advance r st′
+  next-advances n st′ r e = rw (← c, n, ← s, e)
 
-  pub next-refused : close ≡ false → (k : ℕ) → stepped ≡ Refused k → nextBy stepOf st ≡ stop (by-refusal k)
-  next-refused n k e = rw (← c, n, ← s, e)
+  pub next-by-refusal : close ≡ false → (k : ℕ) → stepped ≡ Refused k → nextBy stepOf st ≡ stop (by-refusal k)
+  next-by-refusal n k e = rw (← c, n, ← s, e)
 
-pub next-tested : (stepOf : State → StepResult) (st : State) (close : Bool) → close ≡ isClose st → close ≡ true → nextBy stepOf st ≡ stop (by-test st)
-next-tested stepOf st close c n = rw (← c, n)
+pub next-by-test : (stepOf : State → StepResult) (st : State) (close : Bool) → close ≡ isClose st → close ≡ true → nextBy stepOf st ≡ stop (by-test st)
+next-by-test stepOf st close c n = rw (← c, n)
 
 -- a run that has ended, and what it answers and leaves in the trail
 pub ended : (w : Run State Record) (rs : List Record) (e : Ending State) (branch : ℕ) (root : Float) (keep : Bool) (old trail : List ℕ) (steps : ℕ)
