@@ -1,4 +1,4 @@
--- The proofs of the promises of specs/Promises, each under the promise's own name. A run is `solvingOf` what it begins with, so each sentence is a law of Loops.
+-- The proofs of the promises of specs/Promises, each under the promise's own name. A run is `resultFrom` its start, so each sentence is a law of Loops.
 -- Assumes nothing.
 use mathlib.Core.Path.{_≡_, refl, sym, ap, _∙_}
 use mathlib.Core.Bool.{Bool, false}
@@ -18,7 +18,7 @@ use Rattle.solver.proofs.Laws.Loops.{longer-run, run-steps, one-run, an
 use Rattle.solver.proofs.Laws.Lines as lines
 use Rattle.solver.proofs.Table.{rows}
 
--- ---- a run is `solvingOf` what it begins with
+-- ---- a run is `resultFrom` its start
 
 -- whether the trail is too short
 abbrev isShort : ℤ → Trail → Bool

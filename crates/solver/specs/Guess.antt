@@ -123,9 +123,9 @@ upperGuess set x beta b-max b-h s-h =
     let instead = (m .f ⊗ (one ⊖ t) ⊕ half ⊗ h ⊗ t) ⊗ (one ⊖ t) in
     onValue (upperF beta b-max b-h m) (λ f. inverseFUpperMapOf set (cond (le f +0) instead f))
 
--- ---- where a run begins
+-- ---- where a run starts
 
--- what a run begins with
+-- where a run starts
 pub data Start : Type 0 where
   -- answered before a guess: branch 0, ending 0
   answered : Float → Start

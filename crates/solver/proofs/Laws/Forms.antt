@@ -28,7 +28,7 @@ pub data LoopForm : ℕ → Float → (State → StepResult) → State → Type 
   upper-middle : (set : RuleSet) (x : Float) {beta : Float} {st : State} → LoopForm 3 beta (generalStep set x beta) st
   upper-tail : (set : RuleSet) (x : Float) {beta : Float} {st : State} → LoopForm 5 beta (generalStep set x beta) st
 
--- what a run can begin with; `short` says whether its trail is too short
+-- where a run can start; `short` says whether its trail is too short
 pub data StartForm (short : Bool) : Start → Type 0 where
   known : {v : Float} → StartForm short (answered v)
   ended : {n : ℕ} → Refusal short n → StartForm short (stopped n)

@@ -1,4 +1,4 @@
--- What solve's run is, by what it begins with: the sentences of demand 3 for `solvingOf`, with a short limit and a long one, and of every record of a loop. Assumes
+-- What solve's run is, by where it starts: the sentences of demand 3 for `resultFrom`, with a short limit and a long one, and of every record of a loop. Assumes
 -- nothing.
 use mathlib.Core.Path.{_≡_, refl, sym, ap, _∙_, subst}
 use mathlib.Core.Bool.{Bool, true, false, cond, true≢false}

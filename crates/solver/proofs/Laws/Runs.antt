@@ -91,7 +91,7 @@ module _ {S R : Type 0} (next : S → Transition S R) where
   trace zero s = none
   trace (suc n) s = follow-trace s (run next n) (trace n) (next s) refl
 
-  -- what each state hands on to the next, and each step then says of its record, is so of every record
+  -- what holds of each state and so of the next, and what each step then says of its record, is so of every record
   pub every : (invariant : S → Type 0) (says : R → Type 0) → ((s s′ : S) (r : R) → next s ≡ advance r s′ → invariant s → invariant s′ × says r)
       → {s : S} {rs : List R} {i : ℕ} {r : R} → Trace s rs → invariant s → At rs i r → says r
   every invariant says one-step (one {s} {s′} {r} e t) h here = one-step s s′ r e h .1

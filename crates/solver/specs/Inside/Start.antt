@@ -1,4 +1,4 @@
--- The exponentials that the code hands along with x, and what it yields where a run begins. Definitions only.
+-- The exponentials that travel with x, and what the code's start of a run means. Definitions only.
 use mathlib.Core.Path.{_≡_}
 use Rattle.elementary.specs.declared.rule_set.RuleSet.{RuleSet}
 use Rattle.prices.specs.Inside.Exponentials.{upOf, downOf}
@@ -19,13 +19,13 @@ HasExponentialsIn (Answered v) = Unit
 HasExponentialsIn (Stopped n) = Unit
 HasExponentialsIn (Looping branch m st) = HasExponentials m
 
--- what the code's three cases say; the branch tells the loop's step
+-- what the code's three cases say; the branch says which step the loop takes
 abbrev pub startMeaning : RuleSet → CodeStart → Start
 startMeaning set (Answered v) = answered v
 startMeaning set (Stopped n) = stopped n
 startMeaning set (Looping branch m st) = looping branch (m .beta) (branchStep set branch (m .«b_max») (m .x) (m .beta)) st
 
--- the code's start says what b says, and a loop's exponentials are those of its x
+-- the code's start means b, and a loop's exponentials are those of its x
 pub record Implements (set : RuleSet) (start : CodeStart) (b : Start) : Type 0 where
   pub meaning : startMeaning set start ≡ b
   pub exponentials : HasExponentialsIn start

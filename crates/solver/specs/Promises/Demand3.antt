@@ -35,7 +35,7 @@ module _ (set : RuleSet) (q : Quote) where
   runOf limit none = solveOf set q (stepsOf limit)
   runOf limit (of-bytes n) = solveWithTrail set q (stepsOf limit) n
 
-  -- what it begins with: an answer, a refusal, or a loop with its branch, its target and its starting state
+  -- where it starts: an answer, a refusal, or a loop with its branch, its target and its starting state
   abbrev pub beginOf : ℤ → Trail → Start
   beginOf limit none = startOf set false q
   beginOf limit (of-bytes n) = startOf set (ltb n (48 * stepsOf limit)) q
@@ -96,7 +96,7 @@ pub record LoopAnswer (limit branch : ℕ) (a : Solution) : Type 0 where
   pub branch-is : numberIn a ≡ 0 → branchIn a ≡ branch
   pub ending-is : numberIn a ≡ 0 → ((endingIn a ≡ 1) × (stepsIn a < limit)) ⊎ ((endingIn a ≡ 2) × (stepsIn a ≡ limit))
 
--- one run, by what it begins with: without a loop it has no records, and an answer has branch 0 and ending 0
+-- one run, by where it starts: without a loop it has no records, and an answer has branch 0 and ending 0
 abbrev pub OneRun : ℕ → Start → SolveResult → Type 0
 OneRun limit (answered v) w = (w .records ≡ []) × (numberIn (w .answer) ≡ 0) × (volatilityIn (w .answer) ≡ v) × (branchIn (w .answer) ≡ 0) × (endingIn (w .answer) ≡ 0)
 OneRun limit (stopped n) w = (w .records ≡ []) × (numberIn (w .answer) ≡ n)

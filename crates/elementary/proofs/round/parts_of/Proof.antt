@@ -10,7 +10,7 @@ use borrow.Author.Needs.{needs}
 use Rattle.elementary.proofs.round.parts_of.Statement.{statement}
 use Rattle.elementary.proofs.round.parts_of.Tie as tie
 
--- what owning an `f64` tells: the format holds it
+-- an `f64` is a value of the format
 x-fits : (c : tie.Start) → T (fits binary64 (c .args .x))
 x-fits c = subst T (sym (c .good .0 .1)) tt
 

@@ -1,4 +1,4 @@
--- `guess::tail_start` meets its contract: each way out is the arm that the test leaves, and the branch tells its step by computing. Assumes nothing.
+-- `guess::tail_start` meets its contract: each way out is the arm that the test leaves, and the step of a branch is found by computing. Assumes nothing.
 use Rattle.solver.specs.Step.{upperStep, generalStep}
 use Rattle.solver.specs.Guess.{tailStart}
 use borrow.Author.Needs.{needs}

@@ -1,4 +1,4 @@
--- `guess::upper_start` meets its contract: the number and the test say which case it is, and the branch tells its step by computing. Assumes nothing.
+-- `guess::upper_start` meets its contract: the number and the test say which case it is, and the step of a branch is found by computing. Assumes nothing.
 use mathlib.Core.Path.{refl}
 use Rattle.solver.specs.Step.{generalStep}
 use Rattle.solver.specs.Guess.{withValue, upperStart}
