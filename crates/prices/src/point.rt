@@ -1,5 +1,5 @@
 // The price and the vega of one s, which the solver asks for together: exp(−(h² + t²) / 2) is computed
-// once for both, and nothing is an enum on the way, since copies of one cost more than the tests.
+// once for both.
 use crate::answer::Answer;
 use crate::black::MINUS_FRAC_1_SQRT_2;
 use crate::black::SMALL_T;
@@ -18,41 +18,24 @@ use crate::vega::vega_with;
 use elementary::methods::abs;
 use elementary::rule_set::RuleSet;
 ghost use mathlib.Core.Path.{_≡_};
-ghost use Rattle.prices.specs.declared.answer.Answer.the-variants.{Value};
 ghost use Rattle.prices.specs.Vega.{vegaOf};
 ghost use Rattle.prices.specs.Black.{asymptoticOf};
 ghost use Rattle.prices.specs.Inside.Exponentials.{outOfTheMoneyWith, callWith};
 ghost use Rattle.prices.specs.Inside.Point.{priceAndVega};
 
-// Document 01's number, 0 where there is a price.
-pub struct PriceAndVega {
-    pub number: u8,
-    pub price: f64,
-    pub vega: f64,
+// A price and a vega, or document 01's number.
+pub enum PriceAndVega {
+    Both(f64, f64),
+    Refused(u8),
 }
 
-// A price, with no number.
-fn with_price(price: f64, vega: f64) -> PriceAndVega
-    ensures { λ r. ⌜ r ≡ priceAndVega (Value price) vega ⌝ }
-{
-    PriceAndVega {
-        number: 0,
-        price,
-        vega,
-    }
-}
-
-// The price or the number of an answer, beside a vega.
+// The price or the number of an answer, with a vega.
 fn price_and_vega_from(answer: Answer, vega: f64) -> PriceAndVega
     ensures { λ r. ⌜ r ≡ priceAndVega answer vega ⌝ }
 {
     match answer {
-        Answer::Value(b) => with_price(b, vega),
-        Answer::Refused(n) => PriceAndVega {
-            number: n,
-            price: 0.0,
-            vega,
-        },
+        Answer::Value(b) => PriceAndVega::Both(b, vega),
+        Answer::Refused(n) => PriceAndVega::Refused(n),
     }
 }
 
@@ -61,13 +44,9 @@ fn in_asymptotic_region(h: f64, t: f64, vega: f64) -> PriceAndVega
     ensures { λ r. ⌜ r ≡ priceAndVega (asymptoticOf h t) vega ⌝ }
 {
     if is_outside_asymptotic_region(h, t) {
-        return PriceAndVega {
-            number: refusals::OUTSIDE_ASYMPTOTIC_REGION,
-            price: 0.0,
-            vega,
-        };
+        return PriceAndVega::Refused(refusals::OUTSIDE_ASYMPTOTIC_REGION);
     }
-    with_price(asymptotic(h, t), vega)
+    PriceAndVega::Both(asymptotic(h, t), vega)
 }
 
 // The three regions of normalised_black_call, after the test that makes the price intrinsic: s is 0 or
@@ -80,17 +59,17 @@ fn out_of_the_money(set: RuleSet, x: f64, s: f64, up: f64, down: f64) -> PriceAn
     let exp_term = bell(h, t);
     let vega = vega_with(x, s, exp_term);
     if s <= abs(x) * 0.0 {
-        return with_price(normalised_intrinsic(x, OptionType::Call), vega);
+        return PriceAndVega::Both(normalised_intrinsic(x, OptionType::Call), vega);
     }
     if is_asymptotic(x, s) {
         return in_asymptotic_region(h, t, vega);
     }
     if t < SMALL_T {
-        return with_price(small_t(h, t, exp_term), vega);
+        return PriceAndVega::Both(small_t(h, t, exp_term), vega);
     }
     let q1 = MINUS_FRAC_1_SQRT_2 * (h + t);
     let q2 = MINUS_FRAC_1_SQRT_2 * (h - t);
-    with_price(codys_price(set, up, down, exp_term, q1, q2), vega)
+    PriceAndVega::Both(codys_price(set, up, down, exp_term, q1, q2), vega)
 }
 
 // `up` is exp(x / 2) and `down` exp(−x / 2), which the caller has for every s.

@@ -21,6 +21,7 @@ use elementary::sqrt::sqrt;
 use prices::answer::Answer;
 use prices::inputs::OptionType;
 use prices::intrinsic::normalised_intrinsic;
+use prices::point::PriceAndVega;
 use prices::rational_cubic::Side;
 use prices::rational_cubic::convex_rational_cubic_control_parameter;
 use prices::rational_cubic::rational_cubic_interpolation;
@@ -269,17 +270,17 @@ fn lower_start(set: RuleSet, m: NormalisedMarket, s_c: f64, b_c: f64, v_c: f64) 
     ensures { λ r. ⌜ Implements set r (lowerStart set (m .x) (m .beta) «s_c» «b_c» «v_c») ⌝ }
 {
     let s_l = s_c - b_c / v_c;
-    let p = price_and_vega_at(set, m, s_l);
-    if p.number != 0 {
-        return Start::Stopped(p.number);
+    match price_and_vega_at(set, m, s_l) {
+        PriceAndVega::Both(b_l, v_l) => {
+            if m.beta < b_l {
+                let guess = lower_guess(set, m.x, m.beta, b_l, s_l);
+                return start_loop(set, numbers::LOWER, m, MIN, s_l, guess);
+            }
+            let guess = middle_guess(m.beta, b_l, b_c, s_l, s_c, v_l, v_c, Side::Right);
+            start_loop(set, numbers::LOWER_MIDDLE, m, s_l, s_c, guess)
+        }
+        PriceAndVega::Refused(n) => Start::Stopped(n),
     }
-    let b_l = p.price;
-    if m.beta < b_l {
-        let guess = lower_guess(set, m.x, m.beta, b_l, s_l);
-        return start_loop(set, numbers::LOWER, m, MIN, s_l, guess);
-    }
-    let guess = middle_guess(m.beta, b_l, b_c, s_l, s_c, p.vega, v_c, Side::Right);
-    start_loop(set, numbers::LOWER_MIDDLE, m, s_l, s_c, guess)
 }
 
 // Above b_h: branches 4 and 5.
@@ -310,16 +311,16 @@ fn upper_start(set: RuleSet, m: NormalisedMarket, s_c: f64, b_c: f64, v_c: f64) 
     ensures { λ r. ⌜ Implements set r (upperStart set (m .x) (m .beta) (m .«b_max») «s_c» «b_c» «v_c») ⌝ }
 {
     let s_h = upper_place(m.b_max, s_c, b_c, v_c);
-    let p = price_and_vega_at(set, m, s_h);
-    if p.number != 0 {
-        return Start::Stopped(p.number);
+    match price_and_vega_at(set, m, s_h) {
+        PriceAndVega::Both(b_h, v_h) => {
+            if m.beta <= b_h {
+                let guess = middle_guess(m.beta, b_c, b_h, s_c, s_h, v_c, v_h, Side::Left);
+                return start_loop(set, numbers::UPPER_MIDDLE, m, s_c, s_h, guess);
+            }
+            tail_start(set, m, b_h, s_h)
+        }
+        PriceAndVega::Refused(n) => Start::Stopped(n),
     }
-    let b_h = p.price;
-    if m.beta <= b_h {
-        let guess = middle_guess(m.beta, b_c, b_h, s_c, s_h, v_c, p.vega, Side::Left);
-        return start_loop(set, numbers::UPPER_MIDDLE, m, s_c, s_h, guess);
-    }
-    tail_start(set, m, b_h, s_h)
 }
 
 // From the price at √(2 |x|) on.
@@ -328,14 +329,15 @@ fn guessed_start(set: RuleSet, m: NormalisedMarket) -> Start
     ensures { λ r. ⌜ Implements set r (guessedStart set (m .x) (m .beta) (m .«b_max»)) ⌝ }
 {
     let s_c = sqrt(2.0 * abs(m.x));
-    let p = price_and_vega_at(set, m, s_c);
-    if p.number != 0 {
-        return Start::Stopped(p.number);
+    match price_and_vega_at(set, m, s_c) {
+        PriceAndVega::Both(b_c, v_c) => {
+            if m.beta < b_c {
+                return lower_start(set, m, s_c, b_c, v_c);
+            }
+            upper_start(set, m, s_c, b_c, v_c)
+        }
+        PriceAndVega::Refused(n) => Start::Stopped(n),
     }
-    if m.beta < p.price {
-        return lower_start(set, m, s_c, p.price, p.vega);
-    }
-    upper_start(set, m, s_c, p.price, p.vega)
 }
 
 // From the target and x after all mapping.

@@ -34,7 +34,7 @@ ghost use Rattle.solver.specs.Step.{nextBy};
 ghost use Rattle.solver.specs.Inside.Branch.{branchStep};
 ghost use Rattle.solver.specs.Inside.Start.{HasExponentials, HasExponentialsIn, startMeaning, Implements};
 ghost use Rattle.solver.specs.Inside.Trail.{trailIfKept};
-ghost use Rattle.solver.specs.Solve.{capOf, overExpiry, acceptedStart, inputNumber, resultOfRun, solveKeeping, solveOf, solveWithTrail, quoteOf, stepsOf};
+ghost use Rattle.solver.specs.Solve.{capOf, overExpiry, acceptedStart, inputNumber, solved as solvedOf, resultOfRun, solveKeeping, solveOf, solveWithTrail, quoteOf, stepsOf};
 ghost use Rattle.solver.specs.Trail.{trailAfter};
 
 const IMPLIED_VOLATILITY_MAXIMUM_ITERATIONS: u32 = 2;
@@ -118,6 +118,17 @@ fn accepted_start(set: RuleSet, quote: Quote) -> Start
     )
 }
 
+fn solved(volatility: f64, branch: u8, ending: u8, steps: u32) -> Solution
+    ensures { λ r. ⌜ r ≡ solvedOf volatility branch ending steps ⌝ }
+{
+    Solution::Solved(ImpliedVolatility {
+        volatility,
+        branch,
+        ending,
+        steps,
+    })
+}
+
 // ---- the loop
 
 // The branch's loop from its starting state, with the trail's records where `keep` is true.
@@ -165,12 +176,7 @@ fn run(
         }
     };
     let last = exit.st;
-    Solution::Solved(ImpliedVolatility {
-        volatility: last.s / root,
-        branch,
-        ending: exit.ending,
-        steps,
-    })
+    solved(last.s / root, branch, exit.ending, steps)
 }
 
 // ---- solve
@@ -188,12 +194,7 @@ fn solve(set: RuleSet, quote: Quote, limit: u32, trail: &mut [u8], keep: bool) -
         return Solution::Refused(numbers::TRAIL_TOO_SHORT, 0);
     }
     match accepted_start(set, quote) {
-        Start::Answered(v) => Solution::Solved(ImpliedVolatility {
-            volatility: v,
-            branch: numbers::NO_BRANCH,
-            ending: numbers::NO_LOOP,
-            steps: 0,
-        }),
+        Start::Answered(v) => solved(v, numbers::NO_BRANCH, numbers::NO_LOOP, 0),
         Start::Stopped(n) => Solution::Refused(n, 0),
         Start::Looping(branch, m, st) => {
             run(set, branch, m, sqrt(quote.expiry), st, limit, trail, keep)

@@ -14,6 +14,7 @@ use elementary::methods::abs;
 use elementary::methods::max;
 use elementary::methods::powi_2;
 use elementary::rule_set::RuleSet;
+use prices::point::PriceAndVega;
 ghost use mathlib.Core.Path.{_≡_};
 ghost use Rattle.solver.specs.Inside.Start.{HasExponentials};
 ghost use Rattle.solver.specs.Step.{householderFactor, bracketAfter, toMiddle, halleyOf, hh3Of, lowerDs, upperDs, generalDs, isClose};
@@ -148,34 +149,33 @@ pub(crate) fn step(set: RuleSet, branch: u8, m: NormalisedMarket, st: State) -> 
     ensures { λ r. ⌜ r ≡ branchStep set branch (m .«b_max») (m .x) (m .beta) st ⌝ }
 {
     let s = st.s;
-    let p = price_and_vega_at(set, m, s);
-    if p.number != 0 {
-        return StepResult::Refused(p.number);
+    match price_and_vega_at(set, m, s) {
+        PriceAndVega::Both(b, vega) => {
+            let bracket = bracket_after(b, m.beta, s, st.left, st.right);
+            let ds = branch_ds(branch, m.b_max, m.x, m.beta, s, b, vega, bracket);
+            let after = branch_after(branch, s, ds);
+            let left = bracket.left;
+            let right = bracket.right;
+            StepResult::Completed(
+                State {
+                    s: after,
+                    ds,
+                    previous: st.ds,
+                    left,
+                    right,
+                },
+                Record {
+                    s,
+                    b,
+                    vega,
+                    left,
+                    right,
+                    after,
+                },
+            )
+        }
+        PriceAndVega::Refused(n) => StepResult::Refused(n),
     }
-    let b = p.price;
-    let vega = p.vega;
-    let bracket = bracket_after(b, m.beta, s, st.left, st.right);
-    let ds = branch_ds(branch, m.b_max, m.x, m.beta, s, b, vega, bracket);
-    let after = branch_after(branch, s, ds);
-    let left = bracket.left;
-    let right = bracket.right;
-    StepResult::Completed(
-        State {
-            s: after,
-            ds,
-            previous: st.ds,
-            left,
-            right,
-        },
-        Record {
-            s,
-            b,
-            vega,
-            left,
-            right,
-            after,
-        },
-    )
 }
 
 // The step test.

@@ -1,16 +1,16 @@
--- A price over given exponentials is the plain one at those of x; and what price_and_vega's number says of the answer behind it. Assumes nothing.
+-- A price over given exponentials is the plain one at those of x; and what price_and_vega yields is the answer's. Assumes nothing.
 use mathlib.Core.Path.{_≡_, refl}
 use mathlib.Core.Bool.{Bool, true, false, cond}
+use Prim.Native.Nat.{ℕ}
 use lib.Ieee.{Float, lt}
 use Rattle.elementary.specs.Ops.{+0}
 use Rattle.elementary.specs.declared.rule_set.RuleSet.{RuleSet}
 use Rattle.prices.specs.declared.answer.Answer.{Answer}
 use Rattle.prices.specs.declared.answer.Answer.the-variants.{Value, Refused}
 use Rattle.prices.specs.Black.{codysOf, regionOf, outOfTheMoney, callAt, callOf}
-use Rattle.prices.specs.declared.point.PriceAndVega.{PriceAndVega}
+use Rattle.prices.specs.declared.point.PriceAndVega.the-variants.{Both, Refused as Number}
 use Rattle.prices.specs.Inside.Exponentials.{upOf, downOf, twoBWith, codysWith, regionWith, outOfTheMoneyWith, callWith}
 use Rattle.prices.specs.Inside.Point.{priceAndVega}
-use Rattle.prices.proofs.Laws.Refusals.{CallAnswer, outside-the-region, seven-not-0}
 
 -- at exp(x / 2) and exp(−x / 2)
 module _ (set : RuleSet) (x s : Float) where
@@ -34,15 +34,11 @@ at-own-exponentials set x s = go (lt +0 x) refl
     go true e = refl
     go false e = rw (e, out-own set x s)
 
--- number 0 stands for a price, and any other for a refusal
-pub answer-is-price : (a : Answer) → CallAnswer a → (v : Float) (p : PriceAndVega) → p ≡ priceAndVega a v → p .number ≡ 0 → a ≡ Value (p .price)
-answer-is-price (Value b) h v p e n = rw e refl
-answer-is-price (Refused k) outside-the-region v p e n = absurd (seven-not-0 (rw e at n))
+-- a price with a vega is the answer's, and so is a number
+pub answer-is-price : (a : Answer) (v b w : Float) → Both b w ≡ priceAndVega a v → (a ≡ Value b) × (v ≡ w)
+answer-is-price (Value c) v b w e = (cc, cc)
+answer-is-price (Refused k) v b w e = (cc, cc)
 
-pub answer-is-refusal : (a : Answer) (v : Float) (p : PriceAndVega) → p ≡ priceAndVega a v → (p .number ≡ 0 → ⊥) → a ≡ Refused (p .number)
-answer-is-refusal (Value b) v p e n = absurd (n (rw e refl))
-answer-is-refusal (Refused k) v p e n = rw e refl
-
-pub same-vega : (a : Answer) (v : Float) (p : PriceAndVega) → p ≡ priceAndVega a v → v ≡ p .vega
-same-vega (Value b) v p e = rw e refl
-same-vega (Refused k) v p e = rw e refl
+pub answer-is-refusal : (a : Answer) (v : Float) (n : ℕ) → Number n ≡ priceAndVega a v → a ≡ Refused n
+answer-is-refusal (Value c) v n e = cc
+answer-is-refusal (Refused k) v n e = cc

@@ -14,13 +14,10 @@ returns c = rw (rw (c .before .is-outside-asymptotic-region .ensures) at (c .if1
 asymptotic-requires : tie.Need-asymptotic-requires
 asymptotic-requires c κs = search needs
 
-with-price-requires : tie.Need-with-price-requires
-with-price-requires c κs = search needs
-
 returns-2 : tie.Need-returns-2
 unfolding asymptoticOf
-returns-2 c = rw (c .with-price .ensures, c .before .asymptotic .ensures, rw (c .before .before .before .is-outside-asymptotic-region .ensures) at (c .before .before .if1 .left))
+returns-2 c = rw (c .asymptotic .ensures, rw (c .before .before .is-outside-asymptotic-region .ensures) at (c .before .if1 .left))
 
 pub in-asymptotic-region-spec : {M : Type 1} → statement M
 in-asymptotic-region-spec =
-    tie.close (tie.spec is-outside-asymptotic-region-requires returns asymptotic-requires with-price-requires returns-2)
+    tie.close (tie.spec is-outside-asymptotic-region-requires returns asymptotic-requires returns-2)

@@ -18,14 +18,11 @@ abs-requires c κs = search needs
 normalised-intrinsic-requires : tie.Need-normalised-intrinsic-requires
 normalised-intrinsic-requires c κs = search needs
 
-with-price-requires : tie.Need-with-price-requires
-with-price-requires c κs = search needs
-
 returns : tie.Need-returns
 unfolding outOfTheMoneyWith
 returns c =
-    let test = c .before .before .before in
-    rw (c .with-price .ensures, c .before .normalised-intrinsic .ensures, test .before .vega-with .ensures, rw (test .abs .ensures) at (c .before .before .if1 .taken))
+    let test = c .before .before in
+    rw (c .normalised-intrinsic .ensures, test .before .vega-with .ensures, rw (test .abs .ensures) at (c .before .if1 .taken))
 
 is-asymptotic-requires : tie.Need-is-asymptotic-requires
 is-asymptotic-requires c κs = search needs
@@ -42,28 +39,22 @@ returns-2 c =
 small-t-requires : tie.Need-small-t-requires
 small-t-requires c κs = c .before .before .before .before .before .before .bell .ensures
 
-with-price-requires-2 : tie.Need-with-price-requires-2
-with-price-requires-2 c κs = search needs
-
 returns-3 : tie.Need-returns-3
 unfolding outOfTheMoneyWith regionWith smallTOf
 returns-3 c =
-    let small = c .before .before in
+    let small = c .before in
     let elsewhere = small .before .before .before in
-    rw (c .with-price2 .ensures, c .before .small-t .ensures, elsewhere .before .before .vega-with .ensures, rw (elsewhere .before .abs .ensures) at (elsewhere .if1 .left), rw (small .before .before .is-asymptotic .ensures) at (small .before .if2 .left), small .if3 .taken, not-le-of-lt _ SMALL-T (small .if3 .taken))
+    rw (c .small-t .ensures, elsewhere .before .before .vega-with .ensures, rw (elsewhere .before .abs .ensures) at (elsewhere .if1 .left), rw (small .before .before .is-asymptotic .ensures) at (small .before .if2 .left), small .if3 .taken, not-le-of-lt _ SMALL-T (small .if3 .taken))
 
 codys-price-requires : tie.Need-codys-price-requires
 codys-price-requires c κs = search needs
 
-with-price-requires-3 : tie.Need-with-price-requires-3
-with-price-requires-3 c κs = search needs
-
 returns-4 : tie.Need-returns-4
 unfolding outOfTheMoneyWith regionWith codysWith
 returns-4 c =
-    let codys = c .before .before in
+    let codys = c .before in
     let elsewhere = codys .before .before .before in
-    rw (c .with-price3 .ensures, c .before .codys-price .ensures, elsewhere .before .before .before .bell .ensures, elsewhere .before .before .vega-with .ensures, rw (elsewhere .before .abs .ensures) at (elsewhere .if1 .left), rw (codys .before .before .is-asymptotic .ensures) at (codys .before .if2 .left), codys .if3 .left)
+    rw (c .codys-price .ensures, elsewhere .before .before .before .bell .ensures, elsewhere .before .before .vega-with .ensures, rw (elsewhere .before .abs .ensures) at (elsewhere .if1 .left), rw (codys .before .before .is-asymptotic .ensures) at (codys .before .if2 .left), codys .if3 .left)
 
 pub out-of-the-money-spec : {M : Type 1} → statement M
 out-of-the-money-spec =
@@ -73,14 +64,11 @@ out-of-the-money-spec =
     vega-with-requires
     abs-requires
     normalised-intrinsic-requires
-    with-price-requires
     returns
     is-asymptotic-requires
     in-asymptotic-region-requires
     returns-2
     small-t-requires
-    with-price-requires-2
     returns-3
     codys-price-requires
-    with-price-requires-3
     returns-4)

@@ -6,18 +6,15 @@ use Rattle.prices.proofs.point.price_and_vega_from.Tie as tie
 enum-known-answer : tie.Need-enum-known-answer
 enum-known-answer c = search needs
 
-with-price-requires : tie.Need-with-price-requires
-with-price-requires c κs = search needs
-
 enum-known-answer-2 : tie.Need-enum-known-answer-2
 enum-known-answer-2 c = search needs
 
 returns : tie.Need-returns
-returns c = rw (c .with-price .ensures, c .before .before .answer .given .1)
+returns c = rw (c .before .answer .given .1)
 
 returns-2 : tie.Need-returns-2
 returns-2 c = rw (c .before .answer2 .given .1)
 
 pub price-and-vega-from-spec : {M : Type 1} → statement M
 price-and-vega-from-spec =
-    tie.close (tie.spec enum-known-answer with-price-requires enum-known-answer-2 returns returns-2)
+    tie.close (tie.spec enum-known-answer enum-known-answer-2 returns returns-2)

@@ -1,4 +1,4 @@
--- `guess::guessed_start` meets its contract: the number and the test say which case it is. Assumes nothing.
+-- `guess::guessed_start` meets its contract: the case met and the test say which start it is. Assumes nothing.
 use mathlib.Core.Path.{_≡_, refl}
 use mathlib.Core.Bool.{cond}
 use lib.Ieee.{lt}
@@ -17,46 +17,46 @@ sqrt-requires c κs = search needs
 price-and-vega-at-requires : tie.Need-price-and-vega-at-requires
 price-and-vega-at-requires c κs = c .before .before .pre
 
--- the place and its price, from where both ways go on
-guessed : (c : tie.Else1) →
-    let p = c .before .before .price-and-vega-at .result in
-    let s-c = c .before .before .before .sqrt .result in
-    let m = c .before .before .before .before .before .args .m in
-    let set = c .before .before .before .before .before .args .set in
-    guessedStart set (m .x) (m .beta) (m .«b_max»)
-    ≡ cond (lt (m .beta) (p .price)) (lowerStart set (m .x) (m .beta) s-c (p .price) (p .vega)) (upperStart set (m .x) (m .beta) (m .«b_max») s-c (p .price) (p .vega))
+enum-known-b-c : tie.Need-enum-known-b-c
+enum-known-b-c c = search needs
+
+-- from where both ways go on
+guessed : (c : tie.After-b-c) →
+    let sqrt = c .before .before .before in
+    let a = sqrt .before .before .args in
+    let m = a .m in
+    let b = c .b-c .given .0 .0 in
+    let v = c .b-c .given .0 .1 .0 in
+    guessedStart (a .set) (m .x) (m .beta) (m .«b_max»)
+    ≡ cond (lt (m .beta) b) (lowerStart (a .set) (m .x) (m .beta) (sqrt .sqrt .result) b v) (upperStart (a .set) (m .x) (m .beta) (m .«b_max») (sqrt .sqrt .result) b v)
 unfolding withValue
 guessed c =
-    let found = c .before .before .price-and-vega-at .ensures in
-    rw (← c .before .before .before .before .abs .ensures, ← c .before .before .before .sqrt .ensures, price-is _ _ _ _ found (c .if1 .left), vega-is _ _ _ _ found)
-
-returns : tie.Need-returns
-unfolding withValue
-returns c = rw (← c .before .before .before .before .abs .ensures, ← c .before .before .before .sqrt .ensures, refusal-is _ _ _ _ (c .before .before .price-and-vega-at .ensures) (c .if1 .taken)) (record { meaning = refl; exponentials = tt })
+    let price = c .before .before in
+    let found = price .price-and-vega-at .ensures in
+    rw (← price .before .before .abs .ensures, ← price .before .sqrt .ensures, price-is _ _ _ _ found _ _ (c .b-c .given .1), vega-is _ _ _ _ found _ _ (c .b-c .given .1))
 
 lower-start-requires : tie.Need-lower-start-requires
 lower-start-requires c κs = c .before .before .before .before .before .before .before .before .pre
 
-returns-2 : tie.Need-returns-2
+returns : tie.Need-returns
 unfolding withValue
-returns-2 c = rw (guessed (c .before .before .before .before), c .before .if2 .taken) (c .lower-start .ensures)
+returns c = rw (guessed (c .before .before .before .before), c .before .if1 .taken) (c .lower-start .ensures)
 
 upper-start-requires : tie.Need-upper-start-requires
 upper-start-requires c κs = c .before .before .before .before .before .before .before .before .pre
 
+enum-known-n : tie.Need-enum-known-n
+enum-known-n c = search needs
+
+returns-2 : tie.Need-returns-2
+unfolding withValue
+returns-2 c = rw (guessed (c .before .before .before .before), c .before .if1 .left) (c .upper-start .ensures)
+
 returns-3 : tie.Need-returns-3
 unfolding withValue
-returns-3 c = rw (guessed (c .before .before .before .before), c .before .if2 .left) (c .upper-start .ensures)
+returns-3 c =
+    let n = c .before in
+    rw (← n .before .before .before .before .abs .ensures, ← n .before .before .before .sqrt .ensures, refusal-is _ _ _ _ (n .before .before .price-and-vega-at .ensures) _ (n .n .given .1)) (record { meaning = refl; exponentials = tt })
 
 pub guessed-start-spec : {M : Type 1} → statement M
-guessed-start-spec =
-    tie.close
-    (tie.spec
-    abs-requires
-    sqrt-requires
-    price-and-vega-at-requires
-    returns
-    lower-start-requires
-    returns-2
-    upper-start-requires
-    returns-3)
+guessed-start-spec = tie.close (tie.spec abs-requires sqrt-requires price-and-vega-at-requires enum-known-b-c lower-start-requires returns upper-start-requires enum-known-n returns-2 returns-3)

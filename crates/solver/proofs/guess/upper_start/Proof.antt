@@ -1,4 +1,4 @@
--- `guess::upper_start` meets its contract: the number and the test say which case it is, and the step of a branch is found by computing. Assumes nothing.
+-- `guess::upper_start` meets its contract: the case met and the test say which start it is, and the step of a branch is found by computing. Assumes nothing.
 use mathlib.Core.Path.{refl}
 use Rattle.solver.specs.Step.{generalStep}
 use Rattle.solver.specs.Guess.{withValue, upperStart}
@@ -13,43 +13,43 @@ upper-place-requires c κs = search needs
 price-and-vega-at-requires : tie.Need-price-and-vega-at-requires
 price-and-vega-at-requires c κs = c .before .pre
 
-returns : tie.Need-returns
-unfolding upperStart withValue
-returns c = rw (← c .before .before .before .upper-place .ensures, refusal-is _ _ _ _ (c .before .before .price-and-vega-at .ensures) (c .if1 .taken)) (record { meaning = refl; exponentials = tt })
+enum-known-b-h : tie.Need-enum-known-b-h
+enum-known-b-h c = search needs
 
 middle-guess-requires : tie.Need-middle-guess-requires
 middle-guess-requires c κs = search needs
 
 start-loop-requires : tie.Need-start-loop-requires
-start-loop-requires c κs = c .before .before .before .before .before .before .before .pre
+start-loop-requires c κs = c .before .before .before .before .before .before .before .before .pre
 
-returns-2 : tie.Need-returns-2
+returns : tie.Need-returns
 unfolding upperStart withValue generalStep
-returns-2 c =
-    let at-if2 = c .before .before in
-    let at-if1 = at-if2 .before .before in
-    let found = at-if1 .before .before .price-and-vega-at .ensures in
-    rw (← at-if1 .before .before .before .upper-place .ensures, price-is _ _ _ _ found (at-if1 .if1 .left), at-if2 .if2 .taken, vega-is _ _ _ _ found, ← c .before .middle-guess .ensures) (c .start-loop .ensures)
+returns c =
+    let test = c .before .before in
+    let met = test .before .before .before in
+    let price = met .before .before in
+    let found = price .price-and-vega-at .ensures in
+    rw (← price .before .upper-place .ensures, price-is _ _ _ _ found _ _ (met .b-h .given .1), test .if1 .taken, vega-is _ _ _ _ found _ _ (met .b-h .given .1), ← c .before .middle-guess .ensures) (c .start-loop .ensures)
 
 tail-start-requires : tie.Need-tail-start-requires
-tail-start-requires c κs = c .before .before .before .before .before .before .pre
+tail-start-requires c κs = c .before .before .before .before .before .before .before .pre
+
+enum-known-n : tie.Need-enum-known-n
+enum-known-n c = search needs
+
+returns-2 : tie.Need-returns-2
+unfolding upperStart withValue
+returns-2 c =
+    let test = c .before in
+    let met = test .before .before .before in
+    let price = met .before .before in
+    rw (← price .before .upper-place .ensures, price-is _ _ _ _ (price .price-and-vega-at .ensures) _ _ (met .b-h .given .1), test .if1 .left) (c .tail-start .ensures)
 
 returns-3 : tie.Need-returns-3
 unfolding upperStart withValue
 returns-3 c =
-    let at-if2 = c .before in
-    let at-if1 = at-if2 .before .before in
-    rw (← at-if1 .before .before .before .upper-place .ensures, price-is _ _ _ _ (at-if1 .before .before .price-and-vega-at .ensures) (at-if1 .if1 .left), at-if2 .if2 .left) (c .tail-start .ensures)
+    let n = c .before in
+    rw (← n .before .before .before .upper-place .ensures, refusal-is _ _ _ _ (n .before .before .price-and-vega-at .ensures) _ (n .n .given .1)) (record { meaning = refl; exponentials = tt })
 
 pub upper-start-spec : {M : Type 1} → statement M
-upper-start-spec =
-    tie.close
-    (tie.spec
-    upper-place-requires
-    price-and-vega-at-requires
-    returns
-    middle-guess-requires
-    start-loop-requires
-    returns-2
-    tail-start-requires
-    returns-3)
+upper-start-spec = tie.close (tie.spec upper-place-requires price-and-vega-at-requires enum-known-b-h middle-guess-requires start-loop-requires returns tail-start-requires enum-known-n returns-2 returns-3)
