@@ -51,8 +51,7 @@ acceptedStart set q =
 
 -- 1, 2, 3, 4 in this order, or 0 where none is met
 unfoldable pub inputNumber : Quote → ℕ
-inputNumber q =
-    cond (isFinite (q .price)) (cond (isPositiveNormal (q .forward)) (cond (isPositiveNormal (q .strike)) (cond (isPositiveNormal (q .expiry)) 0 4) 3) 2) 1
+inputNumber q = cond (isFinite (q .price)) (cond (isPositiveNormal (q .forward)) (cond (isPositiveNormal (q .strike)) (cond (isPositiveNormal (q .expiry)) 0 4) 3) 2) 1
 
 -- 1 to 4, then 21 where the trail is too short
 unfoldable pub startOf : RuleSet → Bool → Quote → Start

@@ -11,7 +11,7 @@ ghost use Prim.Native.Nat.{_+_, _≤_};
 ghost use lib.ListN.{length};
 ghost use Rattle.elementary.specs.RuleSets.{rule-set-0};
 ghost use Rattle.solver.specs.LittleEndian.{overwritten};
-ghost use Rattle.solver.specs.Listing.{decimalBy, hexDigit, hexBy, spaceAndCount, answerBytes, answerAt, lineOf, lineIn};
+ghost use Rattle.solver.specs.Listing.{decimalBy, hexDigit, hexBy, spaceAndCount, answerBytes, answerAt, lineIn};
 
 // The bytes that any line fits in.
 const LINE_BYTES: usize = 128;

@@ -7,7 +7,7 @@ use native.Mathlib.Nat.{le-trans, le-of-eq, le-of-lt, lt-of-le-of-lt, eq-zero-or
 use native.Mathlib.Omega.{arith}
 use lib.Dec.{T, leb, le→leb, leb→le}
 use lib.Pow.{pow-add, pow-pos, pow-mono, pow-lt, shl-lt}
-use lib.Ieee.{Float, nan, inf, fin, binary64, unlike, sum, add, sub, mul, fits, isNan, ofBits, toBits, nanBits, eq, ne}
+use lib.Ieee.{Float, nan, inf, fin, binary64, unlike, add, sub, mul, fits, isNan, ofBits, toBits, nanBits, eq, ne}
 use lib.Ieee.Fits.{add-fits}
 use lib.Ieee.Exact.{HasValue}
 use lib.Ieee.Scale.{finite}

@@ -5,7 +5,6 @@ use mathlib.Core.List.{List, [], _∷_, List·Memᴰ as OneOf}
 use Prim.Native.Nat.{ℕ, _<_, _≤_}
 use lib.IntN.{ℤ}
 use lib.ListN.{length}
-use lib.Ieee.{Float}
 use Rattle.solver.specs.declared.quote.Quote.{Quote}
 use Rattle.solver.specs.declared.answers.Solution.{Solution}
 use Rattle.elementary.specs.declared.rule_set.RuleSet.{RuleSet}

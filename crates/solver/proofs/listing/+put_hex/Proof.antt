@@ -1,9 +1,9 @@
 -- `listing::put_hex` meets its contract. It calls itself with one digit less, so its measure is `digits`. Assumes nothing.
 use mathlib.Core.List.{[], _∷_}
-use Prim.Native.Nat.{ℕ, _+_, _-_, _/_, _%_, _<_}
+use Prim.Native.Nat.{ℕ, _+_, _-_, _/_, _<_}
 use native.Mathlib.Omega.{arith}
 use borrow.Author.Needs.{needs}
-use Rattle.solver.specs.Listing.{hexDigit, hexBy}
+use Rattle.solver.specs.Listing.{hexBy}
 use Rattle.solver.proofs.Laws.Overwritten.{put-both, put-none}
 use Rattle.solver.proofs.Laws.Lines.{hex-length}
 use Rattle.solver.proofs.listing.Digits.{not-zero, hex-none, hex-more}
