@@ -1,5 +1,5 @@
 -- Laws, by subject. Nobody has to believe them: each is proved.
 pub mod Blocks
-pub mod Listed
+pub mod Listing
 pub mod Parts
 pub mod Steps

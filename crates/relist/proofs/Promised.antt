@@ -7,7 +7,7 @@ use native.Mathlib.Omega.{arith}
 use lib.ListN.{length}
 use Rattle.relist.specs.Lines.{linesOf, stepOf, linesOfBlocks}
 use Rattle.relist.specs.Promises.{inputOf, Full-but-last, none, last, full, Blocks-join}
-use Rattle.relist.proofs.Laws.Blocks.{lines-none, lines-joined}
+use Rattle.relist.proofs.Laws.Blocks.{lines-none, lines-append}
 use Rattle.relist.proofs.Laws.Steps.{after-full}
 
 either-none : (b : Bool) → _≡_ {A = List ℕ} (cond b [] []) []
@@ -18,7 +18,7 @@ from-number : (first : ℕ) (blocks : List (List ℕ)) → Full-but-last blocks 
 unfolding linesOfBlocks inputOf
 from-number first [] none = rw (lines-none first [] refl)
 from-number first (block ∷ []) last = rw (either-none (stepOf first (length block) .more), append-nil (linesOf first block), append-nil block)
-from-number first (block ∷ blocks) (full e f) = rw (after-full first (length block) e, lines-joined 1024 first block (inputOf blocks) (omega arith), from-number (first + 1024) blocks f)
+from-number first (block ∷ blocks) (full e f) = rw (after-full first (length block) e, lines-append 1024 first block (inputOf blocks) (omega arith), from-number (first + 1024) blocks f)
 
 pub blocks-join : Blocks-join
 blocks-join blocks f = from-number 0 blocks f

@@ -25,9 +25,9 @@ const BLOCK_RECORDS: u64 = 1024;
 const INDEX_END: u64 = 0x8000000000000000;
 
 // How many bytes came, and whether no read failed.
-struct Filled {
+struct ReadResult {
     count: usize,
-    is_read: bool,
+    is_ok: bool,
 }
 
 // Where a block leaves the run: whether it goes on, and the next record's number.
@@ -69,15 +69,15 @@ fn relist_block(index: u64, block: &mut [u8], lines: &mut [u8]) -> Step
     requires { ⌜ 131200 ≤ length (now lines) ⌝ }
     ensures { λ r. ⌜ After index (now (block .exit)) (now (lines .entry)) (now (lines .exit)) r ⌝ }
 {
-    let filled = fill(block);
-    if !filled.is_read {
+    let result = fill(block);
+    if !result.is_ok {
         os::fail(b"relist: read");
         return Step {
             more: false,
             next: index,
         };
     }
-    let n = filled.count;
+    let n = result.count;
     let used = list(index, &block[..n], lines);
     if !io::write_all(STDOUT_FILENO, &lines[..used]) {
         os::fail(b"relist: write");
@@ -108,13 +108,13 @@ fn step_after(first: u64, n: usize) -> Step
 }
 
 // Reads until the block is full, the input ends or a read fails.
-fn fill(block: &mut [u8]) -> Filled
+fn fill(block: &mut [u8]) -> ReadResult
     ensures { λ r. ⌜ r .count ≤ length (now (block .exit)) ⌝ }
 {
     let mut count: usize = 0;
     while count < block.len() {
         let more = read_at(block, count);
-        if !more.is_read {
+        if !more.is_ok {
             return more;
         }
         let n = more.count;
@@ -123,28 +123,28 @@ fn fill(block: &mut [u8]) -> Filled
         }
         count += n;
     }
-    Filled {
+    ReadResult {
         count: count,
-        is_read: true,
+        is_ok: true,
     }
 }
 
 // One read, to a place of the block.
-fn read_at(block: &mut [u8], at: usize) -> Filled
+fn read_at(block: &mut [u8], at: usize) -> ReadResult
     requires { ⌜ at ≤ length (now block) ⌝ }
     ensures { λ r. ⌜ at + r .count ≤ length (now (block .exit)) ⌝ }
 {
     read_some(&mut block[at..])
 }
 
-fn read_some(part: &mut [u8]) -> Filled
+fn read_some(part: &mut [u8]) -> ReadResult
     ensures { λ r. ⌜ r .count ≤ length (now (part .exit)) ⌝ }
 {
     let got = libc::read(STDIN_FILENO, part);
     let count = io::count(got, part);
-    Filled {
+    ReadResult {
         count: count,
-        is_read: got >= 0,
+        is_ok: got >= 0,
     }
 }
 

@@ -2,17 +2,20 @@
 use crate::list::Line;
 use crate::records;
 use crate::records::Word;
+use crate::records::kind_byte;
 use elementary::cody;
 use elementary::methods::bits_of;
 use elementary::methods::float_of;
 use elementary::normal_distribution;
 use prices::answer::Answer;
 use prices::black;
-use prices::inputs::OptionType;
 use prices::intrinsic;
 use prices::rational_cubic;
 use prices::rational_cubic::Side;
 use prices::vega;
+use solver::book::is_kind;
+use solver::book::kind_from;
+use solver::numbers::OUTSIDE_THE_LAYOUT;
 
 // How many there are.
 pub const COUNT: u64 = 41;
@@ -27,15 +30,15 @@ const RECORDS: u64 = 37;
 pub fn agrees(line: Line) -> bool {
     let function = line.function;
     if function < PRICES {
-        if line.refused == 0 {
+        if line.number == 0 {
             elementary(function, line.a, line.b, line.c) == line.bits
         } else {
             false
         }
     } else if function < RECORDS {
-        says(price(line), line.bits, line.refused)
+        says(price(line), line.bits, line.number)
     } else {
-        is_word(record(line), line.bits, line.refused)
+        is_word(record(line), line.bits, line.number)
     }
 }
 
@@ -51,8 +54,8 @@ fn record(line: Line) -> Word {
     }
 }
 
-fn is_word(word: Word, bits: u64, refused: u64) -> bool {
-    if word.number == refused {
+fn is_word(word: Word, bits: u64, number: u64) -> bool {
+    if word.number == number {
         word.bits == bits
     } else {
         false
@@ -105,16 +108,16 @@ fn apart(a: u64, b: u64) -> u64 {
 // ---- prices
 
 // Whether an answer has these bits, or is refused with this number.
-fn says(answer: Answer, bits: u64, refused: u64) -> bool {
+fn says(answer: Answer, bits: u64, number: u64) -> bool {
     match answer {
         Answer::Value(v) => {
-            if refused == 0 {
+            if number == 0 {
                 bits_of(v) == bits
             } else {
                 false
             }
         }
-        Answer::Refused(n) => n as u64 == refused,
+        Answer::Refused(n) => n as u64 == number,
     }
 }
 
@@ -123,53 +126,33 @@ fn price(line: Line) -> Answer {
     let x = float_of(line.a);
     let s = float_of(line.b);
     match function {
-        24 => normalised_intrinsic(x, line.b),
+        24 => price_of_kind(line, kind_byte(line.b)),
         25 => Answer::Value(vega::normalised_vega(x, s)),
         26 => Answer::Value(black::normalised_black_call_with_optimal_use_of_codys_functions(x, s)),
         27 => Answer::Value(black::normalised_black_call_using_erfcx(x, s)),
         28 => black::small_t_expansion_of_normalised_black_call(x, s),
         29 => black::asymptotic_expansion_of_normalised_black_call(x, s),
         30 => black::normalised_black_call(x, s),
-        31 => normalised_black(x, s, line.c),
-        32 => black_price(line),
+        31 => price_of_kind(line, kind_byte(line.c)),
+        32 => price_of_kind(line, kind_byte(line.e)),
         _ => cubic(function, line),
     }
 }
 
 // A kind is document 01's byte; its number for any other is 24.
-fn normalised_intrinsic(x: f64, kind: u64) -> Answer {
-    match kind {
-        1 => Answer::Value(intrinsic::normalised_intrinsic(x, OptionType::Call)),
-        2 => Answer::Value(intrinsic::normalised_intrinsic(x, OptionType::Put)),
-        _ => Answer::Refused(24),
+fn price_of_kind(line: Line, byte: u8) -> Answer {
+    if !is_kind(byte) {
+        return Answer::Refused(OUTSIDE_THE_LAYOUT);
     }
-}
-
-fn normalised_black(x: f64, s: f64, kind: u64) -> Answer {
-    match kind {
-        1 => black::normalised_black(x, s, OptionType::Call),
-        2 => black::normalised_black(x, s, OptionType::Put),
-        _ => Answer::Refused(24),
+    let function = line.function;
+    let kind = kind_from(byte);
+    let a = float_of(line.a);
+    let b = float_of(line.b);
+    match function {
+        24 => Answer::Value(intrinsic::normalised_intrinsic(a, kind)),
+        31 => black::normalised_black(a, b, kind),
+        _ => black::black(a, b, float_of(line.c), float_of(line.d), kind),
     }
-}
-
-fn black_price(line: Line) -> Answer {
-    let kind = line.e;
-    match kind {
-        1 => black_of(line, OptionType::Call),
-        2 => black_of(line, OptionType::Put),
-        _ => Answer::Refused(24),
-    }
-}
-
-fn black_of(line: Line, kind: OptionType) -> Answer {
-    black::black(
-        float_of(line.a),
-        float_of(line.b),
-        float_of(line.c),
-        float_of(line.d),
-        kind,
-    )
 }
 
 fn cubic(function: u64, line: Line) -> Answer {

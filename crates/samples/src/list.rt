@@ -19,7 +19,7 @@ pub struct Line {
     pub h: u64,
     pub i: u64,
     pub bits: u64,
-    pub refused: u64,
+    pub number: u64,
 }
 
 pub fn line_at(text: &[u8], at: usize) -> Line
@@ -37,7 +37,7 @@ pub fn line_at(text: &[u8], at: usize) -> Line
         h: word_at(text, at + 122),
         i: word_at(text, at + 139),
         bits: word_at(text, at + 156),
-        refused: number_at(text, at + 173),
+        number: number_at(text, at + 173),
     }
 }
 

@@ -10,7 +10,7 @@ use functions::print;
 
 // The lines of one function, and how many of them have the answer that the proved function gives.
 struct Tally {
-    met: u64,
+    count: u64,
     agree: u64,
 }
 
@@ -29,7 +29,7 @@ fn report(text: &[u8]) {
 }
 
 fn report_function(text: &[u8], function: u64) {
-    let t = counted(text, function);
+    let t = tally_of(text, function);
     functions::print_name(function);
     print(b" ");
     print_tally(t);
@@ -38,30 +38,27 @@ fn report_function(text: &[u8], function: u64) {
 
 // The count alone where all agree.
 fn print_tally(t: Tally) {
-    if t.agree != t.met {
+    if t.agree != t.count {
         io::print_decimal(1, t.agree);
         print(b" of ");
     }
-    io::print_decimal(1, t.met);
+    io::print_decimal(1, t.count);
 }
 
-fn counted(text: &[u8], function: u64) -> Tally {
+fn tally_of(text: &[u8], function: u64) -> Tally {
     let lines = text.len() / list::WIDTH;
-    let mut met: u64 = 0;
+    let mut count: u64 = 0;
     let mut agree: u64 = 0;
     let mut i: usize = 0;
     while i < lines {
         let at = i * list::WIDTH;
         if list::number_at(text, at) == function {
-            met += 1;
+            count += 1;
             agree += agrees(text, at);
         }
         i += 1;
     }
-    Tally {
-        met: met,
-        agree: agree,
-    }
+    Tally { count, agree }
 }
 
 // 1 where the proved function has the answer of the line at this place, else 0.

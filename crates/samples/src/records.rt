@@ -1,14 +1,13 @@
 // solve with its trail, file, recheck and read, a word of what they leave to a line of the list.
-ghost use mathlib.Core.Path.{_≡_};
-ghost use Prim.Native.Nat.{_+_, _≤_};
-ghost use lib.ListN.{length};
 use crate::list::Line;
 use elementary::methods::bits_of;
 use elementary::methods::float_of;
-use prices::inputs::OptionType;
 use solver::answers::Checking;
 use solver::answers::Filing;
 use solver::answers::Solution;
+use solver::book::kind_from;
+use solver::little_endian::number_at;
+use solver::little_endian::put_number_at;
 use solver::solve::implied_volatility_from_a_transformed_rational_guess_with_limited_iterations;
 
 // A word, and document 01's number, 0 for none.
@@ -17,26 +16,13 @@ pub struct Word {
     pub number: u64,
 }
 
-// The eight bytes from `at` on, the lowest first.
-fn word_at(bytes: &[u8], at: usize) -> u64
-    requires { ⌜ at + 8 ≤ length (now bytes) ⌝ }
-{
-    let mut word: u64 = 0;
-    let mut i: usize = 0;
-    while i < 8 {
-        word = word / 256 + bytes[at + i] as u64 * 0x100_0000_0000_0000;
-        i += 1;
-    }
-    word
-}
-
 // Word i of some bytes, 0 where they do not reach so far.
 fn nth_word(bytes: &[u8], i: u64) -> u64 {
     if i < 1000 {
         let at = i as usize * 8;
         let end = at + 8;
         if end <= bytes.len() {
-            return word_at(bytes, at);
+            return number_at(bytes, at, 8);
         }
     }
     0
@@ -47,12 +33,9 @@ fn limit_of(word: u64) -> i32 {
     if word < 1000 { word as i32 } else { -1 }
 }
 
-fn kind_of(word: u64) -> OptionType {
-    if word == 1 {
-        OptionType::Call
-    } else {
-        OptionType::Put
-    }
+// A kind's byte; 0, which says no kind, for a word that is no byte.
+pub fn kind_byte(word: u64) -> u8 {
+    if word < 256 { word as u8 } else { 0 }
 }
 
 // ---- solve
@@ -63,58 +46,49 @@ fn outcome(branch: u8, ending: u8, steps: u32) -> u64 {
 }
 
 // The word that the line asks for: 0 the volatility, 1 the outcome, else one of the trail.
-fn told(answer: Solution, which: u64, trail: &[u8]) -> Word {
+fn word_of(answer: Solution, which: u64, trail: &[u8]) -> Word {
     match answer {
-        Solution::Solved(v, branch, ending, steps) => match which {
-            0 => Word {
-                bits: bits_of(v),
-                number: 0,
-            },
-            1 => Word {
-                bits: outcome(branch, ending, steps),
-                number: 0,
-            },
-            _ => Word {
-                bits: nth_word(trail, which - 2),
-                number: 0,
-            },
-        },
-        Solution::Refused(n, steps) => match which {
-            0 => Word {
-                bits: 0,
+        Solution::Solved(a) => {
+            let bits = match which {
+                0 => bits_of(a.volatility),
+                1 => outcome(a.branch, a.ending, a.steps),
+                _ => nth_word(trail, which - 2),
+            };
+            Word { bits, number: 0 }
+        }
+        Solution::Refused(n, steps) => {
+            let bits = match which {
+                0 => 0,
+                1 => outcome(0, 0, steps),
+                _ => nth_word(trail, which - 2),
+            };
+            Word {
+                bits,
                 number: n as u64,
-            },
-            1 => Word {
-                bits: outcome(0, 0, steps),
-                number: n as u64,
-            },
-            _ => Word {
-                bits: nth_word(trail, which - 2),
-                number: n as u64,
-            },
-        },
+            }
+        }
     }
 }
 
-fn solved(line: Line, trail: &mut [u8]) -> Solution {
+fn solve_line(line: Line, trail: &mut [u8]) -> Solution {
     implied_volatility_from_a_transformed_rational_guess_with_limited_iterations(
         float_of(line.a),
         float_of(line.b),
         float_of(line.c),
         float_of(line.d),
-        kind_of(line.e),
+        kind_from(kind_byte(line.e)),
         limit_of(line.f),
         trail,
     )
 }
 
-fn solved_in(line: Line, trail: &mut [u8]) -> Word {
+fn solve_in(line: Line, trail: &mut [u8]) -> Word {
     let size = line.g;
     if size <= 960 {
         let n = size as usize;
         if n <= trail.len() {
-            let answer = solved(line, &mut trail[..n]);
-            return told(answer, line.h, trail);
+            let answer = solve_line(line, &mut trail[..n]);
+            return word_of(answer, line.h, trail);
         }
     }
     Word { bits: 0, number: 0 }
@@ -124,18 +98,18 @@ fn solved_in(line: Line, trail: &mut [u8]) -> Word {
 // each byte before.
 pub fn solve(line: Line) -> Word {
     let mut trail = [165u8; 960];
-    solved_in(line, &mut trail)
+    solve_in(line, &mut trail)
 }
 
 // ---- the book
 
-fn filed(line: Line, book: &mut [u8]) -> Filing {
+fn file_line(line: Line, book: &mut [u8]) -> Filing {
     solver::book::file(
         float_of(line.a),
         float_of(line.b),
         float_of(line.c),
         float_of(line.d),
-        kind_of(line.e),
+        kind_from(kind_byte(line.e)),
         limit_of(line.f),
         book,
         line.g,
@@ -146,7 +120,7 @@ fn filed(line: Line, book: &mut [u8]) -> Filing {
 // one of the book, which has three slots and a part, with 90 in each byte before.
 pub fn file(line: Line) -> Word {
     let mut book = [90u8; 200];
-    let answer = filed(line, &mut book);
+    let answer = file_line(line, &mut book);
     let which = line.h;
     let mut bits: u64 = 0;
     if which > 0 {
@@ -157,43 +131,26 @@ pub fn file(line: Line) -> Word {
             if which == 0 {
                 bits = used;
             }
-            Word {
-                bits: bits,
-                number: 0,
-            }
+            Word { bits, number: 0 }
         }
         Filing::Refused(n, _) => Word {
-            bits: bits,
+            bits,
             number: n as u64,
         },
-    }
-}
-
-// Writes a word's eight bytes, the lowest first.
-fn put(book: &mut [u8], at: usize, word: u64)
-    requires { ⌜ at + 8 ≤ length (now book) ⌝ }
-    ensures { λ _. ⌜ length (now (book .exit)) ≡ length (now (book .entry)) ⌝ }
-{
-    let mut rest = word;
-    let mut i: usize = 0;
-    while i < 8 {
-        book[at + i] = (rest % 256) as u8;
-        rest = rest / 256;
-        i += 1;
     }
 }
 
 // The eight words of a record, and the record's number in a book that has this one alone.
 pub fn recheck(line: Line) -> Word {
     let mut book = [0u8; 64];
-    put(&mut book, 0, line.a);
-    put(&mut book, 8, line.b);
-    put(&mut book, 16, line.c);
-    put(&mut book, 24, line.d);
-    put(&mut book, 32, line.e);
-    put(&mut book, 40, line.f);
-    put(&mut book, 48, line.g);
-    put(&mut book, 56, line.h);
+    put_number_at(&mut book, 0, 8, line.a);
+    put_number_at(&mut book, 8, 8, line.b);
+    put_number_at(&mut book, 16, 8, line.c);
+    put_number_at(&mut book, 24, 8, line.d);
+    put_number_at(&mut book, 32, 8, line.e);
+    put_number_at(&mut book, 40, 8, line.f);
+    put_number_at(&mut book, 48, 8, line.g);
+    put_number_at(&mut book, 56, 8, line.h);
     match solver::book::recheck(&book, 1, line.i) {
         Checking::Agrees => Word { bits: 1, number: 0 },
         Checking::Differs => Word { bits: 0, number: 0 },
@@ -208,15 +165,15 @@ pub fn recheck(line: Line) -> Word {
 // whose words 0, 8, 16 and 24 have 1, 2, 3 and 4.
 pub fn read(line: Line) -> Word {
     let mut book = [0u8; 200];
-    put(&mut book, 0, 1);
-    put(&mut book, 64, 2);
-    put(&mut book, 128, 3);
-    put(&mut book, 192, 4);
+    put_number_at(&mut book, 0, 8, 1);
+    put_number_at(&mut book, 64, 8, 2);
+    put_number_at(&mut book, 128, 8, 3);
+    put_number_at(&mut book, 192, 8, 4);
     let mut number: u8 = 0;
     let part = solver::book::read(&book, line.a, line.b, &mut number);
     let bits = nth_word(part, line.c);
     Word {
-        bits: bits,
+        bits,
         number: number as u64,
     }
 }

@@ -19,10 +19,10 @@ lines-more i bytes h =
     let e : (length bytes + 63) / 64 ≡ suc ((length (drop 64 bytes) + 63) / 64) = simp length-drop (omega arith) in
     rw e
 
-pub lines-joined : (k i : ℕ) (xs ys : List ℕ) → length xs ≡ 64 * k → linesOf i (xs ++ ys) ≡ linesOf i xs ++ linesOf (i + k) ys
-lines-joined zero i [] ys e = let z : i + 0 ≡ i = omega arith in rw (lines-none i [] refl, z)
-lines-joined zero i (x ∷ xs) ys e = absurd (omega arith)
-lines-joined (suc k) i xs ys e =
+pub lines-append : (k i : ℕ) (xs ys : List ℕ) → length xs ≡ 64 * k → linesOf i (xs ++ ys) ≡ linesOf i xs ++ linesOf (i + k) ys
+lines-append zero i [] ys e = let z : i + 0 ≡ i = omega arith in rw (lines-none i [] refl, z)
+lines-append zero i (x ∷ xs) ys e = absurd (omega arith)
+lines-append (suc k) i xs ys e =
     let long : 64 ≤ length xs = omega arith in
     let some : 1 ≤ length (xs ++ ys) = simp length-append (omega arith) in
     let rest : length (drop 64 xs) ≡ 64 * k = simp length-drop (omega arith) in
@@ -31,7 +31,7 @@ lines-joined (suc k) i xs ys e =
       lines-more i (xs ++ ys) some,
       take-append-le 64 xs ys long,
       drop-append-le 64 xs ys long,
-      lines-joined k (i + 1) (drop 64 xs) ys rest,
+      lines-append k (i + 1) (drop 64 xs) ys rest,
       lines-more i xs (omega arith),
       append-assoc,
       next,

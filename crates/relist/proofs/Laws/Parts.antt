@@ -1,4 +1,4 @@
--- A line laid into the part of a buffer from a place on is laid at that place of the buffer. Assumes nothing.
+-- A line put into the part of a buffer from a place on stands at that place of the buffer. Assumes nothing.
 use mathlib.Core.Path.{_≡_, refl, _∙_}
 use mathlib.Core.List.{List, [], _++_, append-nil}
 use Prim.Native.Nat.{ℕ, _+_, _-_, _≤_}
@@ -19,14 +19,14 @@ module _ (at : ℕ) (out : List ℕ) where
   none-post : postOf at (length out - at) out ≡ []
   none-post = drop-of-length-le (drop at out) {i = length out - at} (simp length-drop (le-refl _))
 
-  part-laid : (bs ys : List ℕ) → ys ≡ overwritten 0 bs (drop at out) → putMid at (length out - at) out ys ≡ overwritten at bs out
-  part-laid bs ys e = rw (e, none-post, append-nil, zero-add (length bs), drop-drop)
+  put-in-part : (bs ys : List ℕ) → ys ≡ overwritten 0 bs (drop at out) → putMid at (length out - at) out ys ≡ overwritten at bs out
+  put-in-part bs ys e = rw (e, none-post, append-nil, zero-add (length bs), drop-drop)
 
-  pub line-laid : (i : ℕ) (bytes ys : List ℕ) (n : ℕ) → at + 128 ≤ length out
+  pub line-in-part : (i : ℕ) (bytes ys : List ℕ) (n : ℕ) → at + 128 ≤ length out
       → n ≡ lineIn rule-set-0 i bytes (midOf at (length out - at) out) .count
       → ys ≡ lineIn rule-set-0 i bytes (midOf at (length out - at) out) .bytes
       → (n ≡ length (lineOf rule-set-0 i bytes)) × (putMid at (length out - at) out ys ≡ overwritten at (lineOf rule-set-0 i bytes) out)
-  line-laid i bytes ys n room count held =
+  line-in-part i bytes ys n room count held =
       let there : 128 ≤ length (drop at out) = simp length-drop (omega arith) in
       let e = line-in rule-set-0 i bytes (drop at out) there in
-      (rw (whole-mid, e) at count, part-laid (lineOf rule-set-0 i bytes) ys (rw (whole-mid, e) at held))
+      (rw (whole-mid, e) at count, put-in-part (lineOf rule-set-0 i bytes) ys (rw (whole-mid, e) at held))

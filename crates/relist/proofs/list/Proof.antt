@@ -3,7 +3,7 @@ use Prim.Native.Nat.{_-_}
 use native.Mathlib.Omega.{arith}
 use lib.ListN.{length}
 use borrow.Author.Needs.{needs}
-use Rattle.relist.proofs.Laws.Listed.{So-far, none-yet, one-more, all, short-line}
+use Rattle.relist.proofs.Laws.Listing.{So-far, none-yet, one-more, all, short-line}
 use Rattle.relist.proofs.list.Statement.{statement}
 use Rattle.relist.proofs.list.Tie as tie
 
@@ -43,15 +43,15 @@ loop-less c = search needs
 loop-again : tie.Need-loop-again Inv-loop μ-loop
 loop-again c =
     let put = c .before .before in
-    let ended = put .before .before .before in
-    let inside = ended .before in
+    let stop = put .before .before .before in
+    let inside = stop .before in
     let l = inside .before in
     let a = l .before .before .before .args in
-    one-more (a .first) (a .block .now) (a .lines .now) (l .loop .lines) (l .loop .index) (l .loop .at) (l .loop .used) (l .loop .inv) (ended .end-of .result)
+    one-more (a .first) (a .block .now) (a .lines .now) (l .loop .lines) (l .loop .index) (l .loop .at) (l .loop .used) (l .loop .inv) (stop .end-of .result)
     (put .line-at .result)
     _
     (inside .loop-test .taken)
-    (ended .end-of .ensures)
+    (stop .end-of .ensures)
     (put .line-at .ensures .0)
     (put .line-at .ensures .1)
     (omega arith)

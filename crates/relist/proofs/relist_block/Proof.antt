@@ -7,7 +7,7 @@ use lib.ListN.{length, take}
 use lib.Seq.{length-take-le}
 use Rattle.relist.specs.Lines.{linesOf}
 use Rattle.relist.specs.Inside.Steps.{failure, listing}
-use Rattle.relist.proofs.Laws.Listed.{laid-within}
+use Rattle.relist.proofs.Laws.Listing.{put-within}
 use borrow.Author.Needs.{needs}
 use Rattle.relist.proofs.relist_block.Statement.{statement}
 use Rattle.relist.proofs.relist_block.Tie as tie
@@ -48,7 +48,7 @@ used : (c : tie.After-list) → c .list .result ≤ length (c .list .last .1 .1 
 used c =
     let f = c .before .before .before .before .before .before .before in
     let a = f .before .before .before .before .args in
-    laid-within (linesOf (a .index) (take (f .fill .result .count) (f .fill .last .0))) (a .lines .now) _ _ (c .list .ensures .0) (c .list .ensures .1)
+    put-within (linesOf (a .index) (take (f .fill .result .count) (f .fill .last .0))) (a .lines .now) _ _ (c .list .ensures .0) (c .list .ensures .1)
 
 slice-reshare-prefix-write-all : tie.Need-slice-reshare-prefix-write-all
 slice-reshare-prefix-write-all c = used (c .before .before)

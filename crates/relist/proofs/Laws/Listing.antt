@@ -1,4 +1,4 @@
--- The lines of a block, one record at a time: what is written so far, and what is left. Assumes nothing.
+-- The lines of a block, one record at a time: the text so far, and what is left. Assumes nothing.
 use mathlib.Core.Path.{_≡_, refl, sym, _∙_}
 use mathlib.Core.Logic.{⊎-elim}
 use mathlib.Core.List.{List, [], _++_, append-assoc, append-nil}
@@ -33,17 +33,17 @@ module _ (block : List ℕ) (at end : ℕ) (inside : at < length block) (stop : 
       (eq-zero-or-pos (at + 64 - length block))
 
 pub record So-far (first : ℕ) (block old lines : List ℕ) (index at used : ℕ) : Type 0 where
-  written : List ℕ
-  pub put : Put 0 written old used lines
-  rest : linesOf first block ≡ written ++ linesOf index (drop at block)
+  text : List ℕ
+  pub put : Put 0 text old used lines
+  rest : linesOf first block ≡ text ++ linesOf index (drop at block)
   pub within : at ≤ length block
   pub long : length lines ≡ length old
   pub room : used + 128 * ((length block - at + 63) / 64) ≤ length old
-  pub counted : index + (length block - at) ≤ first + length block
+  pub numbers : index + (length block - at) ≤ first + length block
 
 module _ (first : ℕ) (block old : List ℕ) where
   pub none-yet : 2 * length block + 128 ≤ length old → So-far first block old old first 0 0
-  none-yet room = record { written = []; put = put-none 0 old; rest = refl; within = omega arith; long = refl; room = omega arith; counted = omega arith }
+  none-yet room = record { text = []; put = put-none 0 old; rest = refl; within = omega arith; long = refl; room = omega arith; numbers = omega arith }
 
   module _ (lines : List ℕ) (index at used : ℕ) (so-far : So-far first block old lines index at used) where
     pub one-more : (end n : ℕ) (lines′ : List ℕ) → at < length block → end ≡ min (at + 64) (length block)
@@ -56,24 +56,24 @@ module _ (first : ℕ) (block old : List ℕ) where
         let short = line-length rule-set-0 index bytes in
         let left : 1 ≤ length (drop at block) = simp length-drop (omega arith) in
         record {
-          written = so-far .written ++ line;
-          put = put-both 0 (so-far .written) line old used lines (used + n) lines′ (omega arith) (so-far .put) (rw count, held);
+          text = so-far .text ++ line;
+          put = put-both 0 (so-far .text) line old used lines (used + n) lines′ (omega arith) (so-far .put) (rw count, held);
           rest = so-far .rest ∙ rw (lines-more index (drop at block) left, ← one-record block at end inside stop, behind-it block at end inside stop, append-assoc);
           within = omega arith;
           long = long ∙ so-far .long;
           room = omega arith;
-          counted = omega arith;
+          numbers = omega arith;
         }
 
     pub all : length block ≤ at → (used ≡ length (linesOf first block)) × (lines ≡ overwritten 0 (linesOf first block) old)
     all past =
         let none : length (drop at block) ≡ 0 = simp length-drop (omega arith) in
-        let e : linesOf first block ≡ so-far .written = so-far .rest ∙ rw (lines-none index (drop at block) none, append-nil) in
+        let e : linesOf first block ≡ so-far .text = so-far .rest ∙ rw (lines-none index (drop at block) none, append-nil) in
         rw e (so-far .put .0 ∙ zero-add _, so-far .put .1)
 
 pub short-line : (i : ℕ) (bytes : List ℕ) (n : ℕ) → n ≡ length (lineOf rule-set-0 i bytes) → n ≤ 101
 short-line i bytes n e = omega (arith, line-length rule-set-0 i bytes)
 
--- what is laid into a buffer lies within it
-pub laid-within : (bs old new : List ℕ) (n : ℕ) → n ≡ length bs → new ≡ overwritten 0 bs old → n ≤ length new
-laid-within bs old new n e f = rw f (simp length-append (omega arith))
+-- what is put into a buffer lies within it
+pub put-within : (bs old new : List ℕ) (n : ℕ) → n ≡ length bs → new ≡ overwritten 0 bs old → n ≤ length new
+put-within bs old new n e f = rw f (simp length-append (omega arith))

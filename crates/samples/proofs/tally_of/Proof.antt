@@ -1,17 +1,17 @@
--- `samples::counted` is safe and ends: each line read lies within the text, and both counts are at most the lines passed.
+-- `samples::tally_of` is safe and ends: each line read lies within the text, and both counts are at most the lines passed.
 -- Assumes nothing.
 use Prim.Native.Nat.{_≤_, _-_}
 use mathlib.Core.Logic.{⊎-elim}
 use native.Mathlib.Omega.{arith}
 use borrow.Author.Needs.{needs}
-use Rattle.samples.proofs.counted.Statement.{statement}
-use Rattle.samples.proofs.counted.Tie as tie
+use Rattle.samples.proofs.tally_of.Statement.{statement}
+use Rattle.samples.proofs.tally_of.Tie as tie
 
 abbrev Inv-loop : tie.InvT-loop
-Inv-loop text function lines met₀ agree₀ i₀ met agree i = (i ≤ lines) × (met ≤ i) × (agree ≤ i)
+Inv-loop text function lines count₀ agree₀ i₀ count agree i = (i ≤ lines) × (count ≤ i) × (agree ≤ i)
 
 abbrev μ-loop : tie.MeasureT-loop
-μ-loop text function lines met₀ agree₀ i₀ met agree i = lines - i
+μ-loop text function lines count₀ agree₀ i₀ count agree i = lines - i
 
 loop-holds : tie.Need-loop-holds Inv-loop μ-loop
 loop-holds c = omega arith
@@ -22,8 +22,8 @@ mul-at c = omega arith
 number-at-requires : tie.Need-number-at-requires Inv-loop μ-loop
 number-at-requires c κs = omega arith
 
-add-met : tie.Need-add-met Inv-loop μ-loop
-add-met c = omega arith
+add-count : tie.Need-add-count Inv-loop μ-loop
+add-count c = omega arith
 
 agrees-requires : tie.Need-agrees-requires Inv-loop μ-loop
 agrees-requires c κs = omega arith
@@ -43,8 +43,8 @@ loop-again c = ⊎-elim (λ w. omega arith) (λ w. omega arith) (c .if1 .came)
 returns : tie.Need-returns Inv-loop μ-loop
 returns c = search needs
 
-pub counted-spec : {M : Type 1} → statement M
-counted-spec =
+pub tally-of-spec : {M : Type 1} → statement M
+tally-of-spec =
     tie.close
     (tie.spec
     Inv-loop
@@ -52,7 +52,7 @@ counted-spec =
     loop-holds
     mul-at
     number-at-requires
-    add-met
+    add-count
     agrees-requires
     add-agree
     add-i
