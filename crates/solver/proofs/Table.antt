@@ -14,10 +14,10 @@ use Rattle.solver.specs.declared.answers.Solution.{Solution}
 use Rattle.solver.specs.Guess.{normalisedStart, mappedStart}
 use Rattle.solver.specs.Book.{bookRecordBytes, solveRecord}
 use Rattle.solver.specs.Listing.{decimalBy, hexBy, answerAt, lineOf}
-use Rattle.solver.specs.Solve.{acceptedStart, inputNumber, startOf, solved, resultFrom, solveKeeping, solveOf, solveWithTrail}
+use Rattle.solver.specs.Solve.{acceptedStart, inputNumber, startOf, solutionOf, resultFrom, solveKeeping, solveOf, solveWithTrail}
 use Rattle.solver.specs.Table.{Gives, Table}
 
-gives : (a : Solution) (v : Float) → a ≡ solved v 0 0 0 → Gives a v
+gives : (a : Solution) (v : Float) → a ≡ solutionOf v 0 0 0 → Gives a v
 gives a v e = rw e (record { number = refl; value = refl; branch = refl; ending = refl; steps = refl })
 
 pub rows : Table

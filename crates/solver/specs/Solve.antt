@@ -68,13 +68,13 @@ pub record SolveResult : Type 0 where
   pub answer : Solution
 
 -- a volatility with its branch, ending and steps
-abbrev pub solved : Float → ℕ → ℕ → ℕ → Solution
-solved v branch ending steps = Solved (record { volatility = v; branch = branch; ending = ending; steps = steps })
+abbrev pub solutionOf : Float → ℕ → ℕ → ℕ → Solution
+solutionOf v branch ending steps = Solved (record { volatility = v; branch = branch; ending = ending; steps = steps })
 
 -- ending 1 step test, 2 limit; a number met inside the loop comes with the completed steps
 abbrev pub answerOf : ℕ → Float → Ending State → ℕ → Solution
-answerOf branch root (by-test st) steps = solved (st .s ⊘ root) branch 1 steps
-answerOf branch root (by-limit st) steps = solved (st .s ⊘ root) branch 2 steps
+answerOf branch root (by-test st) steps = solutionOf (st .s ⊘ root) branch 1 steps
+answerOf branch root (by-limit st) steps = solutionOf (st .s ⊘ root) branch 2 steps
 answerOf branch root (by-refusal n) steps = Refused n steps
 
 -- what a loop's run records and answers
@@ -83,7 +83,7 @@ resultOfRun branch root w = record { records = w .records; answer = answerOf bra
 
 -- with a limit of n steps
 unfoldable pub resultFrom : Start → Float → ℕ → SolveResult
-resultFrom (answered v) expiry n = record { records = []; answer = solved v 0 0 0 }
+resultFrom (answered v) expiry n = record { records = []; answer = solutionOf v 0 0 0 }
 resultFrom (stopped k) expiry n = record { records = []; answer = Refused k 0 }
 resultFrom (looping branch beta step st) expiry n = resultOfRun branch (sqrtOf binary64 expiry) (run (nextBy step) n st)
 

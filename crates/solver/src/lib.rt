@@ -6,7 +6,7 @@ pub mod answers; // what solve, file and recheck answer
 pub mod numbers; // refusals, branches and endings
 pub mod state; // what the loops carry
 mod step; // the three Householder steps
-mod guess; // where a run begins, after normalising
+mod guess; // where a run starts, after normalising
 pub mod little_endian; // numbers and floats in a slice
 mod trail; // the bytes of a step's record
 pub mod solve; // solve, with a trail and without, and the wrapper with limit 2

@@ -34,7 +34,7 @@ ghost use Rattle.solver.specs.Step.{nextBy};
 ghost use Rattle.solver.specs.Inside.Branch.{branchStep};
 ghost use Rattle.solver.specs.Inside.Start.{HasExponentials, HasExponentialsIn, startMeaning, Implements};
 ghost use Rattle.solver.specs.Inside.Trail.{trailIfKept};
-ghost use Rattle.solver.specs.Solve.{capOf, overExpiry, acceptedStart, inputNumber, solved as solvedOf, resultOfRun, solveKeeping, solveOf, solveWithTrail, quoteOf, stepsOf};
+ghost use Rattle.solver.specs.Solve.{capOf, overExpiry, acceptedStart, inputNumber, solutionOf, resultOfRun, solveKeeping, solveOf, solveWithTrail, quoteOf, stepsOf};
 ghost use Rattle.solver.specs.Trail.{trailAfter};
 
 const IMPLIED_VOLATILITY_MAXIMUM_ITERATIONS: u32 = 2;
@@ -118,8 +118,8 @@ fn accepted_start(set: RuleSet, quote: Quote) -> Start
     )
 }
 
-fn solved(volatility: f64, branch: u8, ending: u8, steps: u32) -> Solution
-    ensures { λ r. ⌜ r ≡ solvedOf volatility branch ending steps ⌝ }
+fn solution_of(volatility: f64, branch: u8, ending: u8, steps: u32) -> Solution
+    ensures { λ r. ⌜ r ≡ solutionOf volatility branch ending steps ⌝ }
 {
     Solution::Solved(ImpliedVolatility {
         volatility,
@@ -176,7 +176,7 @@ fn run(
         }
     };
     let last = exit.st;
-    solved(last.s / root, branch, exit.ending, steps)
+    solution_of(last.s / root, branch, exit.ending, steps)
 }
 
 // ---- solve
@@ -194,7 +194,7 @@ fn solve(set: RuleSet, quote: Quote, limit: u32, trail: &mut [u8], keep: bool) -
         return Solution::Refused(numbers::TRAIL_TOO_SHORT, 0);
     }
     match accepted_start(set, quote) {
-        Start::Answered(v) => solved(v, numbers::NO_BRANCH, numbers::NO_LOOP, 0),
+        Start::Answered(v) => solution_of(v, numbers::NO_BRANCH, numbers::NO_LOOP, 0),
         Start::Stopped(n) => Solution::Refused(n, 0),
         Start::Looping(branch, m, st) => {
             run(set, branch, m, sqrt(quote.expiry), st, limit, trail, keep)

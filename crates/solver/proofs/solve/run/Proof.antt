@@ -113,8 +113,8 @@ returns c =
 same-length-2 : tie.Need-same-length-2 Inv-loop μ-loop
 same-length-2 c = search needs
 
-solved-requires : tie.Need-solved-requires Inv-loop μ-loop
-solved-requires c κs = search needs
+solution-of-requires : tie.Need-solution-of-requires Inv-loop μ-loop
+solution-of-requires c κs = search needs
 
 returns-2 : tie.Need-returns-2 Inv-loop μ-loop
 returns-2 c =
@@ -127,8 +127,8 @@ returns-2 c =
     let all = run next (a .limit) (a .start) in
     let st = at .loop .st in
     ⊎-elim
-    (λ w. rw (c .solved .ensures, w .1) (ended all (inv .rs) (by-limit st) (a .branch) (a .root) (a .keep) _ _ _ (runs-out next (a .limit) (at .loop .steps) all (inv .rs) st (inv .rest) (w .0 .taken)) (inv .count) (inv .wrote)))
-    (λ w. rw (c .solved .ensures, w .3) (ended all (inv .rs) (by-test st) (a .branch) (a .root) (a .keep) _ _ _ (stops next (a .limit) (at .loop .steps) all (inv .rs) st (inv .rest) (w .0 .left) _ (next-by-test step-of st _ (w .1 .ensures) (w .2 .taken))) (inv .count) (inv .wrote)))
+    (λ w. rw (c .solution-of .ensures, w .1) (ended all (inv .rs) (by-limit st) (a .branch) (a .root) (a .keep) _ _ _ (runs-out next (a .limit) (at .loop .steps) all (inv .rs) st (inv .rest) (w .0 .taken)) (inv .count) (inv .wrote)))
+    (λ w. rw (c .solution-of .ensures, w .3) (ended all (inv .rs) (by-test st) (a .branch) (a .root) (a .keep) _ _ _ (stops next (a .limit) (at .loop .steps) all (inv .rs) st (inv .rest) (w .0 .left) _ (next-by-test step-of st _ (w .1 .ensures) (w .2 .taken))) (inv .count) (inv .wrote)))
     (join .if1 .came)
 
 pub run-spec : {M : Type 1} → statement M
@@ -153,6 +153,6 @@ run-spec =
     enum-known-n
     same-length
     returns
-    solved-requires
+    solution-of-requires
     same-length-2
     returns-2)

@@ -36,8 +36,8 @@ accepted-start-requires c κs = search needs
 enum-known-v : tie.Need-enum-known-v
 enum-known-v c = search needs
 
-solved-requires : tie.Need-solved-requires
-solved-requires c κs = search needs
+solution-of-requires : tie.Need-solution-of-requires
+solution-of-requires c κs = search needs
 
 enum-known-n : tie.Need-enum-known-n
 enum-known-n c = search needs
@@ -63,7 +63,7 @@ returns-3 c =
     let start = met .before .before in
     let test = start .before in
     let a = test .before .before .before .before .args in
-    rw (c .solved .ensures) (untouched _ _ (a .keep) (now (a .trail)) (by-start (a .keep) (length (now (a .trail))) (a .set) (a .quote) (a .limit) _ (test .before .before .input-number .ensures) (test .before .if1 .left) (long (a .keep) (length (now (a .trail))) (a .limit) (came test)) _ (start .accepted-start .ensures .meaning) _ (met .v .given .1)))
+    rw (c .solution-of .ensures) (untouched _ _ (a .keep) (now (a .trail)) (by-start (a .keep) (length (now (a .trail))) (a .set) (a .quote) (a .limit) _ (test .before .before .input-number .ensures) (test .before .if1 .left) (long (a .keep) (length (now (a .trail))) (a .limit) (came test)) _ (start .accepted-start .ensures .meaning) _ (met .v .given .1)))
 
 returns-4 : tie.Need-returns-4
 unfolding resultFrom
@@ -99,7 +99,7 @@ solve-spec =
     returns-2
     accepted-start-requires
     enum-known-v
-    solved-requires
+    solution-of-requires
     enum-known-n
     enum-known-branch
     sqrt-requires
