@@ -371,9 +371,9 @@ pub(crate) fn normalised_start(set: RuleSet, beta: f64, x: f64, option_type: Opt
     ensures { λ r. ⌜ Implements set r (normalisedStart set beta x «option_type») ⌝ }
 {
     let mapped_x = option_type.times(x);
+    let mut target = beta;
     if mapped_x > 0.0 {
-        let mapped = max(beta - normalised_intrinsic(x, option_type), 0.0);
-        return mapped_start(set, mapped_x, mapped);
+        target = max(beta - normalised_intrinsic(x, option_type), 0.0);
     }
-    mapped_start(set, mapped_x, beta)
+    mapped_start(set, mapped_x, target)
 }

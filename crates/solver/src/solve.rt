@@ -103,18 +103,16 @@ fn accepted_start(set: RuleSet, quote: Quote) -> Start
     }
     let x = ln(forward / strike);
     let root = sqrt(forward) * sqrt(strike);
+    let mut mapped = price;
+    let mut mapped_type = option_type;
     if option_type.times(x) > 0.0 {
-        let mapped = max(price - intrinsic, 0.0);
-        return over_expiry(
-            set,
-            expiry,
-            normalised_start(set, mapped / root, x, option_type.neg()),
-        );
+        mapped = max(price - intrinsic, 0.0);
+        mapped_type = option_type.neg();
     }
     over_expiry(
         set,
         expiry,
-        normalised_start(set, price / root, x, option_type),
+        normalised_start(set, mapped / root, x, mapped_type),
     )
 }
 

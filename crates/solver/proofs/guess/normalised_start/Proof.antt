@@ -1,4 +1,5 @@
--- `guess::normalised_start` meets its contract: each way out is the arm that the tests before it leave. Assumes nothing.
+-- `guess::normalised_start` meets its contract: the target is the arm that the test leaves. Assumes nothing.
+use mathlib.Core.Logic.{⊎-elim}
 use Rattle.solver.specs.Guess.{normalisedStart}
 use borrow.Author.Needs.{needs}
 use Rattle.solver.proofs.guess.normalised_start.Statement.{statement}
@@ -18,23 +19,12 @@ mapped-start-requires c κs = search needs
 
 returns : tie.Need-returns
 unfolding normalisedStart
-returns c = rw (← c .before .before .before .before .times .ensures, c .before .before .before .if1 .taken, ← c .before .before .normalised-intrinsic .ensures, ← c .before .max .ensures) (c .mapped-start .ensures)
-
-mapped-start-requires-2 : tie.Need-mapped-start-requires-2
-mapped-start-requires-2 c κs = search needs
-
-returns-2 : tie.Need-returns-2
-unfolding normalisedStart
-returns-2 c = rw (← c .before .before .times .ensures, c .before .if1 .left) (c .mapped-start2 .ensures)
+returns c =
+    let join = c .before in
+    ⊎-elim
+    (λ w. rw (← join .before .times .ensures, w .0 .taken, ← w .1 .ensures, ← w .2 .ensures, ← w .3) (c .mapped-start .ensures))
+    (λ w. rw (← join .before .times .ensures, w .0 .left, ← w .1) (c .mapped-start .ensures))
+    (join .if1 .came)
 
 pub normalised-start-spec : {M : Type 1} → statement M
-normalised-start-spec =
-    tie.close
-    (tie.spec
-    times-requires
-    normalised-intrinsic-requires
-    max-requires
-    mapped-start-requires
-    returns
-    mapped-start-requires-2
-    returns-2)
+normalised-start-spec = tie.close (tie.spec times-requires normalised-intrinsic-requires max-requires mapped-start-requires returns)

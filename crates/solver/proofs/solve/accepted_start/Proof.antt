@@ -1,6 +1,7 @@
 -- `solve::accepted_start` meets its contract: each way out is the arm that the tests before it leave. Assumes nothing.
 use mathlib.Core.Path.{_≡_, refl}
 use mathlib.Core.Bool.{cond}
+use mathlib.Core.Logic.{⊎-elim}
 use lib.Ieee.{lt}
 use Rattle.elementary.specs.Ops.{_⊖_, _⊗_, _⊘_, +0}
 use Rattle.elementary.specs.Methods.{maxOf}
@@ -72,20 +73,12 @@ guessed c =
 
 returns-3 : tie.Need-returns-3
 returns-3 c =
-    let at-neg = c .before .before in
-    let at-if3 = at-neg .before .before in
-    rw (guessed (at-if3 .before), at-if3 .if3 .taken, ← at-neg .before .max2 .ensures, ← at-neg .neg .ensures, ← c .before .normalised-start .ensures .meaning) (c .over-expiry .ensures)
-
-normalised-start-requires-2 : tie.Need-normalised-start-requires-2
-normalised-start-requires-2 c κs = search needs
-
-over-expiry-requires-2 : tie.Need-over-expiry-requires-2
-over-expiry-requires-2 c κs = c .normalised-start2 .ensures .exponentials
-
-returns-4 : tie.Need-returns-4
-returns-4 c =
-    let at-if3 = c .before .before in
-    rw (guessed (at-if3 .before), at-if3 .if3 .left, ← c .before .normalised-start2 .ensures .meaning) (c .over-expiry2 .ensures)
+    let start = c .before in
+    let join = start .before in
+    ⊎-elim
+    (λ w. rw (guessed (join .before), w .0 .taken, ← w .1 .ensures, ← w .2 .ensures, ← w .3, ← w .4, ← start .normalised-start .ensures .meaning) (c .over-expiry .ensures))
+    (λ w. rw (guessed (join .before), w .0 .left, ← w .1, ← w .2, ← start .normalised-start .ensures .meaning) (c .over-expiry .ensures))
+    (join .if3 .came)
 
 pub accepted-start-spec : {M : Type 1} → statement M
 accepted-start-spec =
@@ -104,7 +97,4 @@ accepted-start-spec =
     neg-requires
     normalised-start-requires
     over-expiry-requires
-    returns-3
-    normalised-start-requires-2
-    over-expiry-requires-2
-    returns-4)
+    returns-3)
