@@ -3,7 +3,8 @@ pub struct RuleSet {
     // From which price on solve looks for no volatility: the textbook's forward for a Call and strike
     // for a Put, or the Rust's strike for a Call and forward for a Put.
     pub textbook_cap: bool,
-    // Whether erfc's exponential factor multiplies the 0 of its far arm too, which is NaN at infinity.
+    // Whether erfc's exponential factor multiplies the 0 of its far arm too, so that erfc is NaN from
+    // 2^1020 on, where the factor is.
     pub far_factor: bool,
 }
 

@@ -7,5 +7,5 @@ pub mod Black
 pub mod RationalCubic
 -- Promises: statements alone, no proof.
 pub mod Promises
--- Words of private contracts: what functions inside the build say of each other.
+-- Definitions that only private contracts use: what functions inside the build say of each other.
 pub mod Inside

@@ -1,2 +1,2 @@
--- Words that only the contracts of private functions use; no promise leans on them.
+-- Definitions that only the contracts of private functions use. No promise depends on them.
 pub mod Steps

@@ -2,5 +2,5 @@
 pub mod Lines
 -- Promises: statements alone, no proof.
 pub mod Promises
--- Words of private contracts.
+-- Definitions that only private contracts use.
 pub mod Inside

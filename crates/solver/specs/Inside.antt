@@ -1,4 +1,4 @@
--- Words that only the contracts of private functions use; no promise leans on them.
+-- Definitions that only the contracts of private functions use. No promise depends on them.
 pub mod Start
 pub mod Branch
 pub mod Trail

@@ -11,5 +11,5 @@ pub mod Listing
 -- Promises: statements alone, no proof.
 pub mod Promises
 pub mod Table
--- Words of private contracts.
+-- Definitions that only private contracts use.
 pub mod Inside

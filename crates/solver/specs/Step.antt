@@ -145,4 +145,4 @@ transitionOf (Refused n) = stop (by-refusal n)
 
 -- The test comes before the step. `iterations` stays 0 in the Rust, so its bisection after three reversals is never taken.
 abbrev pub nextBy : (State → StepResult) → State → Transition State Record
-nextBy step st = let turn = transitionOf (step st) in cond (isClose st) (stop (by-test st)) turn
+nextBy step st = let taken = transitionOf (step st) in cond (isClose st) (stop (by-test st)) taken

@@ -75,10 +75,7 @@ fn put_book_record(out: &mut [u8], quote: Quote, limit: i32, a: ImpliedVolatilit
 pub fn is_kind(byte: u8) -> bool
     ensures { λ r. ⌜ r ≡ isKind byte ⌝ }
 {
-    if byte == 1 {
-        return true;
-    }
-    byte == 2
+    byte == 1 || byte == 2
 }
 
 // The kind that a byte says; Put where it says none.
