@@ -20,6 +20,7 @@ pub mod Sign
 pub mod Decode
 pub mod Fields
 pub mod Adding
+pub mod Errors
 -- The functions.
 pub mod Greatest
 pub mod Isqrt

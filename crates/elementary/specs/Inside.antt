@@ -3,6 +3,7 @@ pub mod Round
 pub mod Bounds
 pub mod Sqrt
 pub mod MulAdd
+pub mod Errors
 pub mod Exp
 pub mod Each
 pub mod Bisection

@@ -4,7 +4,7 @@ use mathlib.Core.Bool.{false≢true}
 use lib.Dec.{T}
 use lib.Ieee.{binary64, fits}
 use borrow.Author.Needs.{needs}
-use Rattle.elementary.proofs.mul_add.ByErrors.{high-number, middle-number, sum-number, by-errors-is}
+use Rattle.elementary.proofs.Laws.Errors.Fused.{high-number, middle-number, sum-number, by-errors-is}
 use Rattle.elementary.proofs.mul_add.fma_by_errors.Statement.{statement}
 use Rattle.elementary.proofs.mul_add.fma_by_errors.Tie as tie
 

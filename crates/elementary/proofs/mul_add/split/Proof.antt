@@ -2,7 +2,7 @@
 use mathlib.Core.Path.{sym, subst}
 use lib.Dec.{T}
 use borrow.Author.Needs.{needs}
-use Rattle.elementary.proofs.mul_add.Whole.{high-number, split-is}
+use Rattle.elementary.proofs.Laws.Errors.Whole.{high-number, split-is}
 use Rattle.elementary.proofs.mul_add.split.Statement.{statement}
 use Rattle.elementary.proofs.mul_add.split.Tie as tie
 

@@ -13,9 +13,9 @@ use lib.Ieee.Scale.{round-same}
 use Rattle.elementary.proofs.Laws.Values.{recast}
 use Rattle.elementary.proofs.Laws.Leaf.{zero-of-mul}
 use Rattle.elementary.proofs.Laws.Adding.{sub-mul}
-use Rattle.elementary.proofs.mul_add.Nearest.{ex, ex-lt, dist, Mult, mult-down, Short, short-top, near, near-mult, near-exact, near-best}
-use Rattle.elementary.proofs.mul_add.Pairs.{bound, near-in, near-zero, Is, add-exact, sub-exact, relabel, round-value, value-range}
-use Rattle.elementary.proofs.mul_add.TwoSum.{dist-comm, same-dist}
+use Rattle.elementary.proofs.Laws.Errors.Digits.{ex, ex-lt, dist, Mult, mult-down, Short, short-top, near, near-mult, near-exact, near-best}
+use Rattle.elementary.proofs.Laws.Errors.Pairs.{bound, near-in, near-zero, Is, add-exact, sub-exact, relabel, round-value, value-range}
+use Rattle.elementary.proofs.Laws.Errors.TwoSum.{dist-comm, same-dist}
 use Rattle.elementary.proofs.mul_add.Carry.{mul-lt}
 
 -- ---- products by the values of the factors

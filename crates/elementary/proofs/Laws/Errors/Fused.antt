@@ -20,12 +20,12 @@ use Rattle.elementary.proofs.Laws.Values.{recast, value-low, value-mid}
 use Rattle.elementary.proofs.Laws.Adding.{sum-value}
 use Rattle.elementary.proofs.Laws.Decode.{finite-field}
 use Rattle.elementary.proofs.mul_add.Exactly.{fma-at}
-use Rattle.elementary.proofs.mul_add.Nearest.{dist, Short, short-of, near, near-short}
-use Rattle.elementary.proofs.mul_add.Pairs.{bound, Is, NearPair, sum-is, dist-add, add-near, add-rounds}
-use Rattle.elementary.proofs.mul_add.TwoSum as two-sum
-use Rattle.elementary.proofs.mul_add.TwoProduct as two-product
-use Rattle.elementary.proofs.mul_add.TwoProduct.{Rel, plain, Cuts}
-use Rattle.elementary.proofs.mul_add.Between.{from-below, from-above, between, equal-values}
+use Rattle.elementary.proofs.Laws.Errors.Digits.{dist, Short, short-of, near, near-short}
+use Rattle.elementary.proofs.Laws.Errors.Pairs.{bound, Is, NearPair, sum-is, dist-add, add-near, add-rounds}
+use Rattle.elementary.proofs.Laws.Errors.TwoSum as two-sum
+use Rattle.elementary.proofs.Laws.Errors.TwoProduct as two-product
+use Rattle.elementary.proofs.Laws.Errors.TwoProduct.{Rel, plain, Cuts}
+use Rattle.elementary.proofs.Laws.Errors.Between.{from-below, from-above, between, equal-values}
 
 -- ---- a finite float as a whole number of units
 record AsUnits (x : Float) (e : ℕ) : Type 0 where

@@ -19,9 +19,9 @@ use Rattle.elementary.proofs.Laws.Order.{Le, fractions→le}
 use Rattle.elementary.proofs.Laws.Compare as compare
 use Rattle.elementary.proofs.Laws.Leaf.{zero-of-mul}
 use Rattle.elementary.proofs.Laws.Values.{recast, value-unique}
-use Rattle.elementary.proofs.mul_add.Nearest.{ex, dist, Short, near, near-mono}
-use Rattle.elementary.proofs.mul_add.TwoSum.{dist-comm, near-part}
-use Rattle.elementary.proofs.mul_add.Pairs.{Is, NearPair, round-units, round-value, near-zero}
+use Rattle.elementary.proofs.Laws.Errors.Digits.{ex, dist, Short, near, near-mono}
+use Rattle.elementary.proofs.Laws.Errors.TwoSum.{dist-comm, near-part}
+use Rattle.elementary.proofs.Laws.Errors.Pairs.{Is, NearPair, round-units, round-value, near-zero}
 
 -- ---- the order of two floats as that of their differences
 signs-le : (s t : Bool) (p q a b c d : ℕ) → a + cond s p 0 ≡ b + cond s 0 p → c + cond t q 0 ≡ d + cond t 0 q → a + d ≤ c + b → Le s (p * 2 ^ 1074) t (q * 2 ^ 1074)

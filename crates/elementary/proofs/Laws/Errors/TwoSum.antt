@@ -6,8 +6,8 @@ use native.Mathlib.Decide.{decLe}
 use native.Mathlib.Omega.{arith}
 use lib.Pow.{pow-pos, pow-lt}
 use lib.Ieee.{Float, binary64, add, sub}
-use Rattle.elementary.proofs.mul_add.Nearest.{ex, ex-lt, ex-mono, dist, Mult, mult-down, mult-add, mult-dist, Short, short-of, near, near-short, near-exact, near-mono, near-best, plus-above, plus-first, plus-rest, minus-below, minus-first, minus-rest}
-use Rattle.elementary.proofs.mul_add.Pairs.{near-dist, no-rest, Is, dist-add, add-exact, add-near, sub-exact, sub-near, relabel}
+use Rattle.elementary.proofs.Laws.Errors.Digits.{ex, ex-lt, ex-mono, dist, Mult, mult-down, mult-add, mult-dist, Short, short-of, near, near-short, near-exact, near-mono, near-best, plus-above, plus-first, plus-rest, minus-below, minus-first, minus-rest}
+use Rattle.elementary.proofs.Laws.Errors.Pairs.{near-dist, no-rest, Is, dist-add, add-exact, add-near, sub-exact, sub-near, relabel}
 
 pub dist-comm : (a b : ℕ) → dist a b ≡ dist b a
 dist-comm a b = omega arith

@@ -14,7 +14,7 @@ use lib.Ieee.Exact.{HasValue, units-val}
 use Rattle.elementary.proofs.Laws.Values.{recast}
 use Rattle.elementary.proofs.Laws.Adding.{add-at, neg-value}
 use Rattle.elementary.proofs.mul_add.Sums.{sum-same, sum-more, sum-less}
-use Rattle.elementary.proofs.mul_add.Nearest.{ex, dist, Short, short-of, near, near-exact, near-mono}
+use Rattle.elementary.proofs.Laws.Errors.Digits.{ex, dist, Short, short-of, near, near-exact, near-mono}
 
 -- ---- a whole number of units rounded
 pub round-units : (s : Bool) (n : ℕ) → round binary64 s n (2 ^ 1074) ≡ units binary64 s (closest n (2 ^ ex n)) (ex n)
