@@ -2,5 +2,3 @@
 pub mod Carry
 pub mod Sums
 pub mod Exactly
-mod Alike
-mod Machine

@@ -1,192 +1,157 @@
--- `fma_by_errors`: product and sum with their rounding errors, and one rounding of the whole. Assumes nothing.
+-- a × b + c from the rounded product and sum and what rounding took off them: the four numbers add up to it, and where both floats beside the small part give the same sum, that is it rounded once. Assumes nothing.
 use mathlib.Core.Path.{_≡_, refl, sym, ap, _∙_, subst}
-use mathlib.Core.Logic.{inl, inr}
-use mathlib.Core.Bool.{Bool, true, false, not, cond, false≢true}
+use mathlib.Core.Logic.{_⊎_, inl, inr}
+use mathlib.Core.Bool.{Bool, true, false, not, cond}
 use Prim.Native.Nat.{ℕ, _+_, _-_, _*_, _/_, _%_, _^_, _≤_, _<_}
-use native.Mathlib.Nat.{le-trans, le-of-eq, le-of-lt, lt-of-le-of-lt, eq-zero-or-pos, mul-assoc, mul-comm, mul-left-comm, mul-pos, mul-one, one-mul, add-comm, zero-lt-suc, lt-irrefl}
+use native.Mathlib.Nat.{le-trans, le-of-eq, le-of-lt, lt-of-le-of-lt, lt-of-not-le, not-le-of-lt, eq-zero-or-pos, mul-assoc, mul-comm, mul-left-comm, mul-pos, mul-one, one-mul, add-mul, add-comm, zero-lt-suc, mul-le-mul, le-of-mul-le-mul-right}
+use native.Mathlib.Decide.{decLe}
 use native.Mathlib.Omega.{arith}
-use lib.Dec.{T, leb, le→leb, leb→le}
+use lib.Dec.{T, leb, le→leb}
+use lib.Arith.{lt→nleb}
 use lib.Pow.{pow-add, pow-pos, pow-mono, pow-lt, shl-lt}
-use lib.Ieee.{Float, nan, inf, fin, binary64, unlike, add, sub, mul, fits, isNan, ofBits, toBits, nanBits, eq, ne}
-use lib.Ieee.Fits.{add-fits}
+use lib.Ieee.{Float, nan, inf, fin, binary64, unlike, add, sub, mul, fits, isNan, ofBits, toBits, nanBits, lt}
+use lib.Ieee.Fits.{add-fits, mul-fits, round-fits}
 use lib.Ieee.Exact.{HasValue}
 use lib.Ieee.Scale.{finite}
-use lib.Ieee.Bits.{ofBits-toBits}
+use lib.Ieee.Bits.{is-true, is-false, ofBits-toBits, toBits-lt}
+use Rattle.elementary.specs.Ops.{_⊕_, _⊖_, _⊗_, bits}
 use Rattle.elementary.specs.MulAdd.{fma}
-use Rattle.elementary.specs.Inside.MulAdd.{RoundsAlike, OperandsInRange}
-use Rattle.elementary.proofs.Laws.Bits.{no-nan-pattern}
-use Rattle.elementary.proofs.Laws.Leaf.{same-test}
-use Rattle.elementary.proofs.Laws.Values.{recast, value-low, value-mid}
+use Rattle.elementary.specs.Inside.Errors.{InRange, roundedHigh, cutHigh, productError, sumError, orderedSumError, outward, inward, Certain}
+use Rattle.elementary.proofs.Laws.Bits.{same-bits}
+use Rattle.elementary.proofs.Laws.Order.{le→fractions}
+use Rattle.elementary.proofs.Laws.Compare.{le-of-not-lt}
+use Rattle.elementary.proofs.Laws.Places.{place-of, sign-of}
+use Rattle.elementary.proofs.Laws.Values.{recast, bit-pattern, value-of-pattern}
 use Rattle.elementary.proofs.Laws.Adding.{sum-value}
 use Rattle.elementary.proofs.Laws.Decode.{finite-field}
 use Rattle.elementary.proofs.mul_add.Exactly.{fma-at}
 use Rattle.elementary.proofs.Laws.Errors.Digits.{dist, Short, short-of, near, near-short}
-use Rattle.elementary.proofs.Laws.Errors.Pairs.{bound, Is, NearPair, sum-is, dist-add, add-near, add-rounds}
+use Rattle.elementary.proofs.Laws.Errors.Pairs.{bound, Is, NearPair, sum-is, dist-add, add-exact, sub-exact, add-near, add-rounds, near-is}
 use Rattle.elementary.proofs.Laws.Errors.TwoSum as two-sum
 use Rattle.elementary.proofs.Laws.Errors.TwoProduct as two-product
-use Rattle.elementary.proofs.Laws.Errors.TwoProduct.{Rel, plain, Cuts}
-use Rattle.elementary.proofs.Laws.Errors.Between.{from-below, from-above, between, equal-values}
+use Rattle.elementary.proofs.Laws.Errors.TwoProduct.{Rel, plain, Cuts, in-bound, short-unit, dist-mul}
+use Rattle.elementary.proofs.Laws.Errors.Between.{from-below, from-above, between}
 
--- ---- a finite float as a whole number of units
-record AsUnits (x : Float) (e : ℕ) : Type 0 where
-  sign : Bool
-  size : ℕ
-  value : HasValue x sign size (2 ^ 1074)
-  short : Short size
-  small : size ≤ 2 ^ e * bound
+-- ---- a finite float's digits: q * 2 ^ k units, and its bit pattern
+record Spelled (x : Float) (k q : ℕ) : Type 0 where
+  neg : Bool
+  fit : T (fits binary64 x)
+  pattern : toBits binary64 x ≡ bit-pattern neg k q
+  full : 0 < k → 2 ^ 52 ≤ q
+  top : q < 2 ^ 53
+  room : k ≤ 2045
 
-power-in : (n i e : ℕ) → n < 2 ^ 53 → 53 + i ≤ e + 2080 → n * 2 ^ i ≤ 2 ^ e * bound
-unfolding bound
-power-in n i e h l = le-trans (le-of-lt (shl-lt 53 i h)) (le-trans (pow-mono {i = 53 + i} {j = e + 2080} l) (le-of-eq (pow-add 2 e 2080)))
+signed : (b : ℕ) → b < 2 ^ 64 → b ≡ cond (leb (2 ^ 63) b) (2 ^ 63 + b % 2 ^ 63) (b % 2 ^ 63)
+signed b h = go (decLe (2 ^ 63) b)
+  where
+    go : Dec (2 ^ 63 ≤ b) → b ≡ cond (leb (2 ^ 63) b) (2 ^ 63 + b % 2 ^ 63) (b % 2 ^ 63)
+    go (yes l) = rw (is-true (leb (2 ^ 63) b) (le→leb (2 ^ 63) b l)) (omega arith)
+    go (no l) = let g = lt-of-not-le l in rw (is-false (leb (2 ^ 63) b) (lt→nleb (2 ^ 63) b g)) (omega arith)
 
 module _ (x : Float) (F : T (fits binary64 x)) where
   abbrev b : ℕ
   b = toBits binary64 x
 
-  by-field : (e : ℕ) → b % 2 ^ 63 / 2 ^ 52 < 2047 → b % 2 ^ 63 / 2 ^ 52 + 52 ≤ e + 2080 → AsUnits x e
-  by-field e h top = elim (eq-zero-or-pos (b % 2 ^ 63 / 2 ^ 52)) [
-    | inl z ↦
-        record {
-          sign = leb (2 ^ 63) b;
-          size = b % 2 ^ 63;
-          value = rw (ofBits-toBits binary64 x F) at (value-low b (omega arith));
-          short = short-of (b % 2 ^ 63) 0 (b % 2 ^ 63, sym (mul-one (b % 2 ^ 63))) (lt-of-le-of-lt (tiny z) (pow-lt {i = 52} {j = 53} (omega arith)));
-          small = le-trans (le-of-eq (sym (mul-one (b % 2 ^ 63)))) (power-in (b % 2 ^ 63) 0 e (lt-of-le-of-lt (tiny z) (pow-lt {i = 52} {j = 53} (omega arith))) (omega arith));
-        }
-    | inr p ↦
-        let i = b % 2 ^ 63 / 2 ^ 52 - 1 in
-        let m = 2 ^ 52 + b % 2 ^ 52 in
-        record {
-          sign = leb (2 ^ 63) b;
-          size = m * 2 ^ i;
-          value = rw (ofBits-toBits binary64 x F) at (value-mid b i (omega arith) (omega arith));
-          short = short-of (m * 2 ^ i) i (m, refl) (shl-lt 53 i (full b));
-          small = power-in m i e (full b) (omega arith);
-        }
+  spelled : (k q : ℕ) → b % 2 ^ 63 ≡ k * 2 ^ 52 + q → (0 < k → 2 ^ 52 ≤ q) → q < 2 ^ 53 → k ≤ 2045 → Spelled x k q
+  spelled k q e u t r = record {
+    neg = leb (2 ^ 63) b;
+    fit = F;
+    pattern = signed b (toBits-lt binary64 x F) ∙ ap (λ (z : ℕ). cond (leb (2 ^ 63) b) (2 ^ 63 + z) z) e;
+    full = u;
+    top = t;
+    room = r;
+  }
+
+  -- by the exponent's field
+  low : b % 2 ^ 63 / 2 ^ 52 ≡ 0 → Spelled x 0 (b % 2 ^ 52)
+  low e = spelled 0 (b % 2 ^ 52) (omega arith) (λ z. absurd (omega arith)) (omega arith) (omega arith)
+
+  normal : 0 < b % 2 ^ 63 / 2 ^ 52 → b % 2 ^ 63 / 2 ^ 52 < 2047 → Spelled x (b % 2 ^ 63 / 2 ^ 52 - 1) (2 ^ 52 + b % 2 ^ 52)
+  normal p h = spelled (b % 2 ^ 63 / 2 ^ 52 - 1) (2 ^ 52 + b % 2 ^ 52) (omega arith) (λ z. omega arith) (omega arith) (omega arith)
+
+  any : T (finite x) → (k : ℕ) × (q : ℕ) × Spelled x k q
+  any f = elim (eq-zero-or-pos (b % 2 ^ 63 / 2 ^ 52)) [
+    | inl e ↦ (0, b % 2 ^ 52, low e)
+    | inr p ↦ (b % 2 ^ 63 / 2 ^ 52 - 1, 2 ^ 52 + b % 2 ^ 52, normal p (finite-field x F f))
   ]
-    where
-      tiny : b % 2 ^ 63 / 2 ^ 52 ≡ 0 → b % 2 ^ 63 ≤ 2 ^ 52
-      tiny e = omega arith
-
-      full : (b : ℕ) → 2 ^ 52 + b % 2 ^ 52 < 2 ^ 53
-      full b = omega arith
-
-  as-units : T (finite x) → AsUnits x 18
-  as-units f = by-field 18 (finite-field x F f) (omega (arith, finite-field x F f))
-
--- ---- a float whose exponent is in range, and its leading digits
-module _ (x : Float) (F : T (fits binary64 x)) (lo : 768 ≤ toBits binary64 x % 2 ^ 63 / 2 ^ 52) (hi : toBits binary64 x % 2 ^ 63 / 2 ^ 52 < 1280) where
-  abbrev bits : ℕ
-  bits = toBits binary64 x
-
-  abbrev neg : Bool
-  neg = leb (2 ^ 63) bits
-
-  abbrev i : ℕ
-  i = bits % 2 ^ 63 / 2 ^ 52 - 1
-
-  abbrev h : ℕ
-  h = (2 ^ 52 + bits % 2 ^ 52) / 2 ^ 27
-
-  abbrev l : ℕ
-  l = bits % 2 ^ 27 / 2 ^ 14
-
-  abbrev m : ℕ
-  m = bits % 2 ^ 14
-
-  -- a pattern with the same field
-  of-pattern : (c n : ℕ) → c % 2 ^ 63 / 2 ^ 52 ≡ bits % 2 ^ 63 / 2 ^ 52 → leb (2 ^ 63) c ≡ neg → 2 ^ 52 + c % 2 ^ 52 ≡ n → Rel neg (ofBits binary64 c) (n * 2 ^ i) 0 1
-  of-pattern c n e s d =
-      plain neg (ofBits binary64 c) (n * 2 ^ i) 1 (power-in n i 0 (omega arith) (omega arith))
-      (recast (ofBits binary64 c) (2 ^ 1074) s (ap (λ (z : ℕ). z * 2 ^ i) d) (value-mid c i (omega arith) (omega arith)))
-
-  whole : Rel neg x ((h * 2 ^ 27 + (l * 2 ^ 14 + m)) * 2 ^ i) 0 1
-  whole = rw (ofBits-toBits binary64 x F) at (of-pattern bits (h * 2 ^ 27 + (l * 2 ^ 14 + m)) refl refl (omega arith))
-
-  whole-low : Rel neg x ((h * 2 ^ 27 + bits % 2 ^ 27) * 2 ^ i) 0 1
-  whole-low = rw (ofBits-toBits binary64 x F) at (of-pattern bits (h * 2 ^ 27 + bits % 2 ^ 27) refl refl (omega arith))
-
-  same-sign : (c : ℕ) → (2 ^ 63 ≤ c → 2 ^ 63 ≤ bits) → (2 ^ 63 ≤ bits → 2 ^ 63 ≤ c) → leb (2 ^ 63) c ≡ neg
-  same-sign c f g = same-test (leb (2 ^ 63) c) neg (λ t. le→leb (2 ^ 63) bits (f (leb→le (2 ^ 63) c t))) (λ t. le→leb (2 ^ 63) c (g (leb→le (2 ^ 63) bits t)))
-
-  high : Rel neg (ofBits binary64 (bits - bits % 2 ^ 27)) (h * 2 ^ 27 * 2 ^ i) 0 1
-  high = of-pattern (bits - bits % 2 ^ 27) (h * 2 ^ 27) (omega arith) (same-sign (bits - bits % 2 ^ 27) (λ z. omega arith) (λ z. omega arith)) (omega arith)
-
-  middle : Rel neg (ofBits binary64 (bits - bits % 2 ^ 14)) ((h * 2 ^ 27 + l * 2 ^ 14) * 2 ^ i) 0 1
-  middle = of-pattern (bits - bits % 2 ^ 14) (h * 2 ^ 27 + l * 2 ^ 14) (omega arith) (same-sign (bits - bits % 2 ^ 14) (λ z. omega arith) (λ z. omega arith)) (omega arith)
-
-  pub high-number : T (not (nanBits binary64 (bits - bits % 2 ^ 27)))
-  high-number = no-nan-pattern (bits - bits % 2 ^ 27) (omega arith)
-
-  pub middle-number : T (not (nanBits binary64 (bits - bits % 2 ^ 14)))
-  middle-number = no-nan-pattern (bits - bits % 2 ^ 14) (omega arith)
-
-  value : HasValue x neg ((h * 2 ^ 27 + (l * 2 ^ 14 + m)) * 2 ^ i) (2 ^ 1074)
-  value = recast x (2 ^ 1074) refl (ap (λ (z : ℕ). z * 2 ^ i) (omega arith)) (rw (ofBits-toBits binary64 x F) at (value-mid bits i (omega arith) (omega arith)))
-
-  value-cut : HasValue x neg ((h * 2 ^ 27 + bits % 2 ^ 27) * 2 ^ i) (2 ^ 1074)
-  value-cut = recast x (2 ^ 1074) refl (ap (λ (z : ℕ). z * 2 ^ i) (omega arith)) (rw (ofBits-toBits binary64 x F) at (value-mid bits i (omega arith) (omega arith)))
-
-  h-low : 2 ^ 25 ≤ h
-  h-low = omega arith
-
-  h-top : h < 2 ^ 26
-  h-top = omega arith
-
--- ---- what is finite
-finite-right : (x y : Float) → T (finite (add binary64 x y)) → T (finite y)
-unfolding add
-finite-right nan y h = absurd h
-finite-right (inf s) nan h = absurd h
-finite-right (inf true) (inf true) h = absurd h
-finite-right (inf true) (inf false) h = absurd h
-finite-right (inf false) (inf true) h = absurd h
-finite-right (inf false) (inf false) h = absurd h
-finite-right (inf s) (fin t n d) h = tt
-finite-right (fin s m e) nan h = absurd h
-finite-right (fin s m e) (inf t) h = absurd h
-finite-right (fin s m e) (fin t n d) h = tt
-
-finite-equal : (x y : Float) → eq x y ≡ true → T (finite x) → T (finite y)
-unfolding eq
-finite-equal nan y h f = absurd f
-finite-equal (inf s) y h f = absurd f
-finite-equal (fin s m e) nan h f = absurd (false≢true h)
-finite-equal (fin s m e) (inf t) h f = absurd (false≢true h)
-finite-equal (fin s m e) (fin t n d) h f = tt
 
 finite-value : (x : Float) (s : Bool) (v : ℕ) → HasValue x s v (2 ^ 1074) → T (finite x)
 finite-value nan s v p = p
 finite-value (inf _) s v p = p
 finite-value (fin _ m e) s v p = tt
 
--- ---- a float whose bits are those of a number that is not 0
-module _ (r : Float) (F : T (fits binary64 r)) (some : 0 < toBits binary64 r % 2 ^ 63) (small : toBits binary64 r % 2 ^ 63 < 0x7ff0_0000_0000_0000) where
-  r-units : AsUnits r 18
-  r-units = by-field r F 18 (omega arith) (omega arith)
+-- a pattern of the same sign and place
+pattern-is : (s : Bool) (k q : ℕ) → (0 < k → 2 ^ 52 ≤ q) → q ≤ 2 ^ 53 → k ≤ 2044 → HasValue (ofBits binary64 (bit-pattern s k q)) s (q * 2 ^ k) (2 ^ 1074)
+pattern-is s k q u t r = value-of-pattern s k q u t (omega arith)
 
-  r-finite : T (finite r)
-  r-finite = finite-value r (r-units .sign) (r-units .size) (r-units .value)
+module _ {x : Float} {k q : ℕ} (S : Spelled x k q) where
+  value : HasValue x (S .neg) (q * 2 ^ k) (2 ^ 1074)
+  value =
+      subst (λ (z : Float). HasValue z (S .neg) (q * 2 ^ k) (2 ^ 1074)) (ofBits-toBits binary64 x (S .fit))
+      (subst (λ (z : ℕ). HasValue (ofBits binary64 z) (S .neg) (q * 2 ^ k) (2 ^ 1074)) (sym (S .pattern)) (value-of-pattern (S .neg) k q (S .full) (le-of-lt (S .top)) (omega (arith, S .top, S .room))))
 
-  r-some : (v : ℕ) × (HasValue r (leb (2 ^ 63) (toBits binary64 r)) v (2 ^ 1074) × (0 < v))
-  r-some = elim (eq-zero-or-pos (toBits binary64 r % 2 ^ 63 / 2 ^ 52)) [
-    | inl e ↦ (toBits binary64 r % 2 ^ 63, (rw (ofBits-toBits binary64 r F) at (value-low (toBits binary64 r) (omega arith)), some))
-    | inr p ↦
-        let b = toBits binary64 r in
-        let i = b % 2 ^ 63 / 2 ^ 52 - 1 in
-        ((2 ^ 52 + b % 2 ^ 52) * 2 ^ i, (rw (ofBits-toBits binary64 r F) at (value-mid b i (omega arith) (omega arith)), mul-pos (omega arith) (pow-pos i)))
-  ]
-
-  zero-value : HasValue (ofBits binary64 0) false 0 (2 ^ 1074)
-  zero-value = value-low 0 (pow-pos 52)
-
-  r-nonzero : ne r (ofBits binary64 0) ≡ true
-  unfolding ne
-  r-nonzero = go (eq r (ofBits binary64 0)) refl
+  -- without its sign
+  size-value : HasValue (bits (toBits binary64 x % 2 ^ 63)) false (q * 2 ^ k) (2 ^ 1074)
+  size-value = subst (λ (z : ℕ). HasValue (ofBits binary64 z) false (q * 2 ^ k) (2 ^ 1074)) (sym (ap (λ (z : ℕ). z % 2 ^ 63) (S .pattern) ∙ unsigned (S .neg))) (value-of-pattern false k q (S .full) (le-of-lt (S .top)) (omega (arith, S .top, S .room)))
     where
-      go : (t : Bool) → eq r (ofBits binary64 0) ≡ t → not t ≡ true
-      go false e = refl
-      go true e = absurd (lt-irrefl 0 (subst (λ (z : ℕ). 0 < z) (equal-values r (ofBits binary64 0) (leb (2 ^ 63) (toBits binary64 r)) false (r-some .0) 0 (r-some .1 .0) zero-value e .0) (r-some .1 .1)))
+      unsigned : (s : Bool) → bit-pattern s k q % 2 ^ 63 ≡ k * 2 ^ 52 + q
+      unsigned true = omega (arith, S .top, S .room)
+      unsigned false = omega (arith, S .top, S .room)
+
+  digits-short : Short (q * 2 ^ k)
+  digits-short = short-of (q * 2 ^ k) k (q, refl) (shl-lt 53 k (S .top))
+
+  -- the float whose pattern is one more
+  next-value : k ≤ 2044 → HasValue (outward x) (S .neg) ((q + 1) * 2 ^ k) (2 ^ 1074)
+  next-value r = subst (λ (z : ℕ). HasValue (ofBits binary64 z) (S .neg) ((q + 1) * 2 ^ k) (2 ^ 1074)) (sym (ap (λ (z : ℕ). z + 1) (S .pattern) ∙ more (S .neg))) (pattern-is (S .neg) k (q + 1) (λ p. omega (arith, S .full p)) (omega (arith, S .top)) r)
+    where
+      more : (s : Bool) → bit-pattern s k q + 1 ≡ bit-pattern s k (q + 1)
+      more true = omega arith
+      more false = omega arith
+
+  -- the leading 26 digits, rounded and cut
+  module _ (r : k ≤ 1278) (lead : 2 ^ 52 ≤ q) where
+    abbrev rounded : ℕ
+    rounded = (q + 2 ^ 26) / 2 ^ 27
+
+    pattern-rel : (n : ℕ) → 2 ^ 52 ≤ n → n ≤ 2 ^ 53 → Rel (S .neg) (ofBits binary64 (bit-pattern (S .neg) k n)) (n * 2 ^ k) 0 1
+    pattern-rel n l h = plain (S .neg) _ (n * 2 ^ k) 1 (le-trans (in-bound n 53 k h (omega arith)) (le-of-eq (sym (one-mul bound)))) (pattern-is (S .neg) k n (λ p. l) h (omega arith))
+
+    whole-is : Rel (S .neg) x (q * 2 ^ k) 0 1
+    whole-is = plain (S .neg) x (q * 2 ^ k) 1 (le-trans (in-bound q 53 k (le-of-lt (S .top)) (omega arith)) (le-of-eq (sym (one-mul bound)))) value
+
+    rounded-is : Rel (S .neg) (roundedHigh x) (rounded * 2 ^ 27 * 2 ^ k) 0 1
+    rounded-is = subst (λ (z : ℕ). Rel (S .neg) (ofBits binary64 z) (rounded * 2 ^ 27 * 2 ^ k) 0 1) (sym (ap (λ (z : ℕ). (z + 2 ^ 26) / 2 ^ 27 * 2 ^ 27) (S .pattern) ∙ at (S .neg))) (pattern-rel (rounded * 2 ^ 27) (omega arith) (omega (arith, S .top)))
+      where
+        at : (s : Bool) → (bit-pattern s k q + 2 ^ 26) / 2 ^ 27 * 2 ^ 27 ≡ bit-pattern s k ((q + 2 ^ 26) / 2 ^ 27 * 2 ^ 27)
+        at true = omega arith
+        at false = omega arith
+
+    cut-is : Rel (S .neg) (cutHigh x) (q / 2 ^ 27 * 2 ^ 27 * 2 ^ k) 0 1
+    cut-is = subst (λ (z : ℕ). Rel (S .neg) (ofBits binary64 z) (q / 2 ^ 27 * 2 ^ 27 * 2 ^ k) 0 1) (sym (ap (λ (z : ℕ). z - z % 2 ^ 27) (S .pattern) ∙ at (S .neg))) (pattern-rel (q / 2 ^ 27 * 2 ^ 27) (omega arith) (omega (arith, S .top)))
+      where
+        at : (s : Bool) → bit-pattern s k q - bit-pattern s k q % 2 ^ 27 ≡ bit-pattern s k (q / 2 ^ 27 * 2 ^ 27)
+        at true = omega arith
+        at false = omega arith
+
+-- the digits of two factors
+cuts : (u w : ℕ) → 2 ^ 52 ≤ u → u < 2 ^ 53 → 2 ^ 52 ≤ w → w < 2 ^ 53 → Cuts u ((u + 2 ^ 26) / 2 ^ 27) (u - (u + 2 ^ 26) / 2 ^ 27 * 2 ^ 27) ((u + 2 ^ 26) / 2 ^ 27 * 2 ^ 27 - u) (w / 2 ^ 27) (w % 2 ^ 27)
+cuts u w a b c d = record {
+  x-low = a;
+  x-top = b;
+  x-is = omega arith;
+  one = side ((u + 2 ^ 26) / 2 ^ 27 * 2 ^ 27) (decLe u ((u + 2 ^ 26) / 2 ^ 27 * 2 ^ 27));
+  h-top = omega arith;
+  p-top = omega arith;
+  m-top = omega arith;
+  s-low = omega arith;
+  s-top = omega arith;
+  k-top = omega arith;
+}
+  where
+    side : (v : ℕ) → Dec (u ≤ v) → (u - v ≡ 0) ⊎ (v - u ≡ 0)
+    side v (yes l) = inl (omega arith)
+    side v (no l) = inr (let g = lt-of-not-le l in omega arith)
 
 -- ---- pairs by a sign
 pair-size : (n : Bool) (v : ℕ) → dist (cond n 0 v) (cond n v 0) ≡ v
@@ -196,22 +161,13 @@ pair-size false v = omega arith
 pair-is : (n : Bool) (v : ℕ) → cond n 0 v + cond n v 0 ≡ cond n v 0 + cond n 0 v
 pair-is n v = add-comm (cond n 0 v) (cond n v 0)
 
-as-units-is : {x : Float} {e : ℕ} (X : AsUnits x e) → Is x (cond (X .sign) 0 (X .size)) (cond (X .sign) (X .size) 0) (2 ^ e)
-as-units-is X = record { sign = X .sign; size = X .size; value = X .value; pair = pair-is (X .sign) (X .size); small = le-trans (le-of-eq (pair-size (X .sign) (X .size))) (X .small) }
+value-is : {x : Float} (s : Bool) (v j : ℕ) → HasValue x s v (2 ^ 1074) → v ≤ j * bound → Is x (cond s 0 v) (cond s v 0) j
+value-is s v j p h = record { sign = s; size = v; value = p; pair = pair-is s v; small = le-trans (le-of-eq (pair-size s v)) h }
 
-as-units-short : {x : Float} {e : ℕ} (X : AsUnits x e) → Short (dist (cond (X .sign) 0 (X .size)) (cond (X .sign) (X .size) 0))
-as-units-short X = subst Short (sym (pair-size (X .sign) (X .size))) (X .short)
-
--- ---- p and e are a product, c is added
-module _ (n v : Bool) {p e c : Float} (x y k : ℕ) (P : Rel n p y 0 1) (Y : Short y) (E : Rel n e x y 6) (C : Rel v c k 0 1) (K : Short k) where
+-- ---- p and e are a product, c is added, t is what rounding took off that sum
+module _ (n v : Bool) {p e c : Float} (x y k : ℕ) (P : Rel n p y 0 1) (Y : Short y) (E : Rel n e x y 5) (C : Rel v c k 0 1) (K : Short k) where
   abbrev s : Float
   s = add binary64 p c
-
-  abbrev t : Float
-  t = add binary64 (sub binary64 p (sub binary64 s (sub binary64 s p))) (sub binary64 c (sub binary64 s p))
-
-  abbrev w : Float
-  w = add binary64 t e
 
   abbrev a : ℕ
   a = cond n 0 y + cond v 0 k
@@ -234,163 +190,259 @@ module _ (n v : Bool) {p e c : Float} (x y k : ℕ) (P : Rel n p y 0 1) (Y : Sho
   s-is : Is s q q' 2
   s-is = two-sum.sum-near (P .is) (C .is) Y' K'
 
-  t-is : Is t (a + q') (b' + q) 12
-  t-is = two-sum.error-is (P .is) (C .is) Y' K'
+  knuth : Is (sumError p c) (a + q') (b' + q) 12
+  knuth = two-sum.error-is (P .is) (C .is) Y' K'
 
-  w-is : Is w (near (a + q' + cond n y x - (b' + q + cond n x y))) (near (b' + q + cond n x y - (a + q' + cond n y x))) 32
-  w-is = add-near t-is (E .is) 5 (le-trans (dist-add (a + q') (b' + q) (cond n y x) (cond n x y)) (omega (arith, t-is .small, E .is .small))) (omega arith)
+  dekker : k ≤ y → Is (orderedSumError p c) (a + q') (b' + q) 12
+  dekker h = two-sum.ordered-error-is (P .is) (C .is) Y' K' (le-trans (le-of-eq (pair-size v k)) (le-trans h (le-of-eq (sym (pair-size n y)))))
 
-  pub w-number : T (not (isNan w))
-  unfolding isNan
-  w-number = go w (w-is .sign) (w-is .size) (w-is .value)
-    where
-      go : (z : Float) (u : Bool) (m : ℕ) → HasValue z u m (2 ^ 1074) → T (not (isNan z))
-      go nan u m p = absurd p
-      go (inf _) u m p = absurd p
-      go (fin _ _ _) u m p = tt
+  module _ {t f : Float} (T-is : Is t (a + q') (b' + q) 12) (FF : T (fits binary64 f)) (G : NearPair f (cond n 0 x + cond v 0 k) (cond n x 0 + cond v k 0)) (G-small : dist (cond n 0 x + cond v 0 k) (cond n x 0 + cond v k 0) ≤ 2 ^ 2 * bound) where
+    abbrev w : Float
+    w = add binary64 t e
 
-  module _ (r f : Float) (R : RoundsAlike s w r) (G : NearPair f (cond n 0 x + cond v 0 k) (cond n x 0 + cond v k 0)) where
-    r-fits : T (fits binary64 r)
-    r-fits = subst (λ (z : Float). T (fits binary64 z)) (sym (R .low)) (add-fits binary64 s (R .lo))
+    abbrev nw : ℕ
+    nw = a + q' + cond n y x
 
-    fin-r : T (finite r)
-    fin-r = r-finite r r-fits (R .some) (R .finite)
+    abbrev mw : ℕ
+    mw = b' + q + cond n x y
 
-    L : AsUnits (R .lo) 18
-    L = as-units (R .lo) (R .lo-fits) (finite-right s (R .lo) (subst (λ (z : Float). T (finite z)) (R .low) fin-r))
+    w-is : Is w (near (nw - mw)) (near (mw - nw)) 32
+    w-is = add-near T-is (E .is) 5 (le-trans (dist-add (a + q') (b' + q) (cond n y x) (cond n x y)) (omega (arith, T-is .small, E .is .small))) (omega arith)
 
-    H : AsUnits (R .hi) 18
-    H = as-units (R .hi) (R .hi-fits) (finite-right s (R .hi) (finite-equal r (add binary64 s (R .hi)) (R .high) fin-r))
+    -- a float below and one above that give the same sum
+    module _ {lo hi : Float} (la lb ha hb : ℕ) (L : Is lo la lb 200) (H : Is hi ha hb 200) (SL : Short (dist la lb)) (SH : Short (dist ha hb))
+        (under : la + near (mw - nw) < near (nw - mw) + lb) (over : near (nw - mw) + hb < ha + near (mw - nw)) (same : add binary64 s lo ≡ add binary64 s hi) where
+      low-sum : Is (add binary64 s lo) (near (q + la - (q' + lb))) (near (q' + lb - (q + la))) (2 ^ 8)
+      low-sum = near-is (add-rounds s-is L) 8 (le-trans (dist-add q q' la lb) (omega (arith, s-is .small, L .small))) (omega arith)
 
-    pub rounds-alike-is : r ≡ f
-    rounds-alike-is =
-        between (subst (λ (z : Float). NearPair z (q + cond (L .sign) 0 (L .size)) (q' + cond (L .sign) (L .size) 0)) (sym (R .low)) (add-rounds s-is (as-units-is L))) (add-rounds s-is (as-units-is H)) G
-        (low n (cond (L .sign) 0 (L .size)) (cond (L .sign) (L .size) 0) (cond v 0 k) (cond v k 0) q q' (from-below (a + q' + cond n y x) (b' + q + cond n x y) (as-units-is L) (as-units-short L) w-is (R .above)))
-        (high n (cond (H .sign) 0 (H .size)) (cond (H .sign) (H .size) 0) (cond v 0 k) (cond v k 0) q q' (from-above (a + q' + cond n y x) (b' + q + cond n x y) (as-units-is H) (as-units-short H) w-is (R .under)))
-        (R .high) (r-nonzero r r-fits (R .some) (R .finite))
-      where
-        low : (n : Bool) (u u' c c' q q' : ℕ) → u + (cond n y 0 + c' + q + cond n x y) ≤ cond n 0 y + c + q' + cond n y x + u' → q + u + (cond n x 0 + c') ≤ cond n 0 x + c + (q' + u')
-        low true u u' c c' q q' h = omega arith
-        low false u u' c c' q q' h = omega arith
+      high-sum : Is (add binary64 s lo) (near (q + ha - (q' + hb))) (near (q' + hb - (q + ha))) (2 ^ 8)
+      high-sum = subst (λ (z : Float). Is z (near (q + ha - (q' + hb))) (near (q' + hb - (q + ha))) (2 ^ 8)) (sym same) (near-is (add-rounds s-is H) 8 (le-trans (dist-add q q' ha hb) (omega (arith, s-is .small, H .small))) (omega arith))
 
-        high : (n : Bool) (u u' c c' q q' : ℕ) → cond n 0 y + c + q' + cond n y x + u' ≤ u + (cond n y 0 + c' + q + cond n x y) → cond n 0 x + c + (q' + u') ≤ q + u + (cond n x 0 + c')
-        high true u u' c c' q q' h = omega arith
-        high false u u' c c' q q' h = omega arith
+      apart : q + la + (q' + hb) < q + ha + (q' + lb)
+      apart = go (near (nw - mw)) (near (mw - nw)) under over
+        where
+          go : (i j : ℕ) → la + j < i + lb → i + hb < ha + j → q + la + (q' + hb) < q + ha + (q' + lb)
+          go i j u o = omega arith
+
+      plain-sum : add binary64 s lo ≡ add binary64 s w
+      plain-sum =
+          between (q + near (nw - mw)) (q' + near (mw - nw)) (q + la) (q' + lb) (q + ha) (q' + hb) (add-fits binary64 s lo) (add-fits binary64 s w) low-sum high-sum
+          (near-is (add-rounds s-is w-is) 8 (le-trans (dist-add q q' (near (nw - mw)) (near (mw - nw))) (omega (arith, s-is .small, w-is .small))) (omega arith))
+          (go (near (nw - mw)) (near (mw - nw)) under) (go' (near (nw - mw)) (near (mw - nw)) over) apart
+        where
+          go : (i j : ℕ) → la + j < i + lb → q + la + (q' + j) ≤ q + i + (q' + lb)
+          go i j u = omega arith
+
+          go' : (i j : ℕ) → i + hb < ha + j → q + i + (q' + hb) ≤ q + ha + (q' + j)
+          go' i j o = omega arith
+
+      whole-sum : add binary64 s lo ≡ f
+      whole-sum =
+          between (cond n 0 x + cond v 0 k) (cond n x 0 + cond v k 0) (q + la) (q' + lb) (q + ha) (q' + hb) (add-fits binary64 s lo) FF low-sum high-sum (near-is G 2 G-small (omega arith))
+          (low n la lb (cond v 0 k) (cond v k 0) q q' (from-below la lb nw mw SL under)) (high n ha hb (cond v 0 k) (cond v k 0) q q' (from-above ha hb nw mw SH over)) apart
+        where
+          low : (n : Bool) (u u' c c' q q' : ℕ) → u + (cond n y 0 + c' + q + cond n x y) ≤ cond n 0 y + c + q' + cond n y x + u' → q + u + (cond n x 0 + c') ≤ cond n 0 x + c + (q' + u')
+          low true u u' c c' q q' h = omega arith
+          low false u u' c c' q q' h = omega arith
+
+          high : (n : Bool) (u u' c c' q q' : ℕ) → cond n 0 y + c + q' + cond n y x + u' ≤ u + (cond n y 0 + c' + q + cond n x y) → cond n 0 x + c + (q' + u') ≤ q + u + (cond n x 0 + c')
+          high true u u' c c' q q' h = omega arith
+          high false u u' c c' q q' h = omega arith
+
+      pub pinned : add binary64 s w ≡ f
+      pinned = sym plain-sum ∙ whole-sum
+
+    -- ---- the two floats beside w
+    module _ {i u : ℕ} (S : Spelled w i u) where
+      abbrev size : ℕ
+      size = u * 2 ^ i
+
+      size-is : w-is .size ≡ size
+      size-is = sym (place-of binary64 w (w-is .sign) (w-is .size) (w-is .value)) ∙ place-of binary64 w (S .neg) size (value S)
+
+      sign-is : w-is .sign ≡ S .neg
+      sign-is = sym (sign-of w (w-is .sign) _ _ (w-is .value)) ∙ sign-of w (S .neg) _ _ (value S)
+
+      size-small : size ≤ 32 * bound
+      size-small = le-trans (le-of-eq (sym size-is ∙ go (w-is .sign) (w-is .size) (near (nw - mw)) (near (mw - nw)) (w-is .pair))) (w-is .small)
+        where
+          go : (s : Bool) (v a b : ℕ) → a + cond s v 0 ≡ b + cond s 0 v → v ≡ dist a b
+          go true v a b e = omega arith
+          go false v a b e = omega arith
+
+      w-pair : near (nw - mw) + cond (S .neg) size 0 ≡ near (mw - nw) + cond (S .neg) 0 size
+      w-pair = rw (← sign-is, ← size-is) (w-is .pair)
+
+      room : i ≤ 2044
+      unfolding bound
+      room = go (decLe i 2044)
+        where
+          go : Dec (i ≤ 2044) → i ≤ 2044
+          go (yes l) = l
+          go (no l) =
+              let g : 2044 < i = lt-of-not-le l in
+              absurd (not-le-of-lt (lt-of-le-of-lt (le-trans size-small (le-of-eq (sym (pow-add 2 5 2080)))) (pow-lt {i = 2085} {j = 2096} (omega arith)))
+              (le-trans (le-of-eq (pow-add 2 52 2044)) (mul-le-mul (S .full (omega arith)) (pow-mono {i = 2044} {j = i} (omega arith)))))
+
+      unit-small : 2 ^ i ≤ bound
+      unfolding bound
+      unit-small = pow-mono {i = i} {j = 2080} (omega (arith, room))
+
+      next-size : (u + 1) * 2 ^ i ≡ size + 2 ^ i
+      next-size = add-mul u 1 (2 ^ i) ∙ ap (λ (z : ℕ). size + z) (one-mul (2 ^ i))
+
+      own-is : Is w (cond (S .neg) 0 size) (cond (S .neg) size 0) 32
+      own-is = value-is (S .neg) size 32 (value S) size-small
+
+      out-is : Is (outward w) (cond (S .neg) 0 (size + 2 ^ i)) (cond (S .neg) (size + 2 ^ i) 0) 200
+      out-is = value-is (S .neg) (size + 2 ^ i) 200 (recast (outward w) (2 ^ 1074) refl next-size (next-value S room)) (omega (arith, size-small, unit-small))
+
+      out-short : Short (dist (cond (S .neg) 0 (size + 2 ^ i)) (cond (S .neg) (size + 2 ^ i) 0))
+      out-short = subst Short (next-size ∙ sym (pair-size (S .neg) (size + 2 ^ i))) (short-unit (u + 1) (u + 1) 0 i (mul-one (u + 1)) (omega (arith, S .top)))
+
+      abbrev inA : ℕ
+      inA = cond (S .neg) 0 size + cond (S .neg) 0 size + cond (S .neg) (size + 2 ^ i) 0
+
+      abbrev inB : ℕ
+      inB = cond (S .neg) size 0 + cond (S .neg) size 0 + cond (S .neg) 0 (size + 2 ^ i)
+
+      in-short : Short (dist inA inB)
+      in-short =
+          subst Short (dist-mul (u + u) (u + 1) (2 ^ i) ∙ ap (λ (z : ℕ). dist z ((u + 1) * 2 ^ i)) (add-mul u u (2 ^ i)) ∙ ap (λ (z : ℕ). dist (size + size) z) next-size ∙ go (S .neg) size (size + 2 ^ i))
+          (short-unit (dist (u + u) (u + 1)) (dist (u + u) (u + 1)) 0 i (mul-one (dist (u + u) (u + 1))) (omega (arith, S .top)))
+        where
+          go : (s : Bool) (v x : ℕ) → dist (v + v) x ≡ dist (cond s 0 v + cond s 0 v + cond s x 0) (cond s v 0 + cond s v 0 + cond s 0 x)
+          go true v x = omega arith
+          go false v x = omega arith
+
+      twice-is : Is (add binary64 w w) (cond (S .neg) 0 size + cond (S .neg) 0 size) (cond (S .neg) size 0 + cond (S .neg) size 0) 64
+      twice-is = add-exact own-is own-is (subst Short (add-mul u u (2 ^ i) ∙ go (S .neg) size) (short-of ((u + u) * 2 ^ i) (1 + i) (u, twice u i) (subst (λ (z : ℕ). (u + u) * 2 ^ i < 2 ^ z) (omega arith) (shl-lt 54 i (omega (arith, S .top)))))) (omega arith)
+        where
+          go : (s : Bool) (v : ℕ) → v + v ≡ dist (cond s 0 v + cond s 0 v) (cond s v 0 + cond s v 0)
+          go true v = omega arith
+          go false v = omega arith
+
+          twice : (u i : ℕ) → (u + u) * 2 ^ i ≡ u * 2 ^ (1 + i)
+          twice u i = ap (λ (z : ℕ). z * 2 ^ i) (omega arith) ∙ mul-assoc u 2 (2 ^ i) ∙ ap (λ (z : ℕ). u * z) (sym (pow-add 2 1 i))
+
+      near-out : Is (outward w) (cond (S .neg) 0 (size + 2 ^ i)) (cond (S .neg) (size + 2 ^ i) 0) 40
+      near-out = value-is (S .neg) (size + 2 ^ i) 40 (recast (outward w) (2 ^ 1074) refl next-size (next-value S room)) (omega (arith, size-small, unit-small))
+
+      in-is : Is (inward w) inA inB 200
+      in-is = let I = sub-exact twice-is near-out in-short (omega arith) in record { sign = I .sign; size = I .size; value = I .value; pair = I .pair; small = le-trans (I .small) (omega arith) }
+
+      certain-sum : add binary64 s (inward w) ≡ add binary64 s (outward w) → add binary64 s w ≡ f
+      certain-sum same = go (S .neg) refl
+        where
+          go : (g : Bool) → S .neg ≡ g → add binary64 s w ≡ f
+          go false e =
+              pinned inA inB (cond (S .neg) 0 (size + 2 ^ i)) (cond (S .neg) (size + 2 ^ i) 0) in-is out-is in-short out-short
+              (rw e (below (near (nw - mw)) (near (mw - nw)) size (2 ^ i) (pow-pos i) (rw e at w-pair))) (rw e (above (near (nw - mw)) (near (mw - nw)) size (2 ^ i) (pow-pos i) (rw e at w-pair))) same
+            where
+              below : (a b z o : ℕ) → 0 < o → a + 0 ≡ b + z → z + z + 0 + b < a + (0 + 0 + (z + o))
+              below a b z o p h = omega arith
+
+              above : (a b z o : ℕ) → 0 < o → a + 0 ≡ b + z → a + 0 < z + o + b
+              above a b z o p h = omega arith
+          go true e =
+              pinned (cond (S .neg) 0 (size + 2 ^ i)) (cond (S .neg) (size + 2 ^ i) 0) inA inB out-is in-is out-short in-short
+              (rw e (below (near (nw - mw)) (near (mw - nw)) size (2 ^ i) (pow-pos i) (rw e at w-pair))) (rw e (above (near (nw - mw)) (near (mw - nw)) size (2 ^ i) (pow-pos i) (rw e at w-pair))) (sym same)
+            where
+              below : (a b z o : ℕ) → 0 < o → a + z ≡ b + 0 → 0 + b < a + (z + o)
+              below a b z o p h = omega arith
+
+              above : (a b z o : ℕ) → 0 < o → a + z ≡ b + 0 → a + (z + z + 0) < 0 + 0 + (z + o) + b
+              above a b z o p h = omega arith
 
 -- ---- the operands
-module _ (x y z : Float) (FX : T (fits binary64 x)) (FY : T (fits binary64 y)) (FZ : T (fits binary64 z)) (O : OperandsInRange (toBits binary64 x) (toBits binary64 y) (toBits binary64 z)) where
-  abbrev xh : ℕ
-  xh = h x FX (O .first-low) (O .first-high)
+module _ (x y z : Float) (FX : T (fits binary64 x)) (FY : T (fits binary64 y)) (FZ : T (fits binary64 z)) (RX : InRange x) (RY : InRange y) (small : toBits binary64 z % 2 ^ 63 < 0x7e00_0000_0000_0000) where
+  abbrev xk : ℕ
+  xk = toBits binary64 x % 2 ^ 63 / 2 ^ 52 - 1
 
-  abbrev xl : ℕ
-  xl = l x FX (O .first-low) (O .first-high)
+  abbrev xq : ℕ
+  xq = 2 ^ 52 + toBits binary64 x % 2 ^ 52
 
-  abbrev xm : ℕ
-  xm = m x FX (O .first-low) (O .first-high)
+  abbrev yk : ℕ
+  yk = toBits binary64 y % 2 ^ 63 / 2 ^ 52 - 1
 
-  abbrev yh : ℕ
-  yh = h y FY (O .second-low) (O .second-high)
+  abbrev yq : ℕ
+  yq = 2 ^ 52 + toBits binary64 y % 2 ^ 52
 
-  abbrev yl : ℕ
-  yl = toBits binary64 y % 2 ^ 27
+  X : Spelled x xk xq
+  X = normal x FX (omega (arith, RX .low)) (omega (arith, RX .high))
 
-  abbrev xi : ℕ
-  xi = i x FX (O .first-low) (O .first-high)
+  Y : Spelled y yk yq
+  Y = normal y FY (omega (arith, RY .low)) (omega (arith, RY .high))
 
-  abbrev yi : ℕ
-  yi = i y FY (O .second-low) (O .second-high)
+  Z : (k : ℕ) × (q : ℕ) × (Spelled z k q × (k ≤ 2015))
+  Z = elim (eq-zero-or-pos (toBits binary64 z % 2 ^ 63 / 2 ^ 52)) [
+    | inl e ↦ (0, toBits binary64 z % 2 ^ 52, (low z FZ e, omega arith))
+    | inr p ↦ (toBits binary64 z % 2 ^ 63 / 2 ^ 52 - 1, 2 ^ 52 + toBits binary64 z % 2 ^ 52, (normal z FZ p (omega arith), omega arith))
+  ]
 
-  abbrev xn : Bool
-  xn = neg x FX (O .first-low) (O .first-high)
+  abbrev zs : Bool
+  zs = Z .2 .0 .neg
 
-  abbrev yn : Bool
-  yn = neg y FY (O .second-low) (O .second-high)
-
-  abbrev unit : ℕ
-  unit = xi + yi - 1074
-
-  units-is : xi + yi ≡ unit + 1074
-  units-is = omega (arith, O .first-low, O .second-low)
-
-  units-top : unit ≤ 1900
-  units-top = omega (arith, O .first-high, O .second-high)
-
-  cuts : Cuts xh xl xm yh yl
-  cuts = record {
-    h-low = h-low x FX (O .first-low) (O .first-high);
-    h-top = h-top x FX (O .first-low) (O .first-high);
-    l-top = small-l (toBits binary64 x);
-    m-top = small-m (toBits binary64 x);
-    s-low = h-low y FY (O .second-low) (O .second-high);
-    s-top = h-top y FY (O .second-low) (O .second-high);
-    k-top = small-k (toBits binary64 y);
-  }
-    where
-      small-l : (b : ℕ) → b % 2 ^ 27 / 2 ^ 14 < 2 ^ 13
-      small-l b = omega arith
-
-      small-m : (b : ℕ) → b % 2 ^ 14 < 2 ^ 14
-      small-m b = omega arith
-
-      small-k : (b : ℕ) → b % 2 ^ 27 < 2 ^ 27
-      small-k b = omega arith
-
-  abbrev ah : Float
-  ah = ofBits binary64 (toBits binary64 x - toBits binary64 x % 2 ^ 27)
-
-  abbrev am : Float
-  am = ofBits binary64 (toBits binary64 x - toBits binary64 x % 2 ^ 14)
-
-  abbrev bh : Float
-  bh = ofBits binary64 (toBits binary64 y - toBits binary64 y % 2 ^ 27)
+  abbrev K : ℕ
+  K = Z .1 * 2 ^ Z .0
 
   abbrev v : Bool
-  v = unlike xn yn
+  v = unlike (X .neg) (Y .neg)
+
+  abbrev unit : ℕ
+  unit = xk + yk - 1074
+
+  units-is : xk + yk ≡ unit + 1074
+  units-is = omega (arith, RX .low, RY .low)
+
+  units-top : unit ≤ 1900
+  units-top = omega (arith, RX .high, RY .high)
+
+  x-room : xk ≤ 1278
+  x-room = omega (arith, RX .high)
+
+  y-room : yk ≤ 1278
+  y-room = omega (arith, RY .high)
+
+  abbrev C : Cuts xq ((xq + 2 ^ 26) / 2 ^ 27) (xq - (xq + 2 ^ 26) / 2 ^ 27 * 2 ^ 27) ((xq + 2 ^ 26) / 2 ^ 27 * 2 ^ 27 - xq) (yq / 2 ^ 27) (yq % 2 ^ 27)
+  C = cuts xq yq (omega arith) (X .top) (omega arith) (Y .top)
 
   abbrev prod : ℕ
-  prod = (xh * 2 ^ 27 + (xl * 2 ^ 14 + xm)) * (yh * 2 ^ 27 + yl) * 2 ^ unit
+  prod = xq * (yq / 2 ^ 27 * 2 ^ 27 + yq % 2 ^ 27) * 2 ^ unit
 
-  abbrev p : Float
-  p = mul binary64 x y
+  y-whole : yq ≡ yq / 2 ^ 27 * 2 ^ 27 + yq % 2 ^ 27
+  y-whole = parts yq
+    where
+      parts : (n : ℕ) → n ≡ n / 2 ^ 27 * 2 ^ 27 + n % 2 ^ 27
+      parts n = omega arith
 
-  abbrev e : Float
-  e = add binary64 (add binary64 (add binary64 (add binary64 (sub binary64 (mul binary64 ah bh) p) (mul binary64 ah (sub binary64 y bh))) (mul binary64 (sub binary64 x ah) bh)) (mul binary64 (sub binary64 am ah) (sub binary64 y bh))) (mul binary64 (sub binary64 x am) (sub binary64 y bh))
+  y-is : Rel (Y .neg) y ((yq / 2 ^ 27 * 2 ^ 27 + yq % 2 ^ 27) * 2 ^ yk) 0 1
+  y-is = subst (λ (w : ℕ). Rel (Y .neg) y (w * 2 ^ yk) 0 1) y-whole (whole-is Y y-room (omega arith))
 
-  abbrev total : Float
-  total = add binary64 p z
+  p-is : Rel v (x ⊗ y) (near prod) 0 1
+  p-is = two-product.product-rounded _ _ _ _ _ _ C (X .neg) (Y .neg) xk yk unit units-is units-top (whole-is X x-room (omega arith)) (rounded-is X x-room (omega arith)) y-is (cut-is Y y-room (omega arith))
 
-  abbrev back : Float
-  back = add binary64 (sub binary64 p (sub binary64 total (sub binary64 total p))) (sub binary64 z (sub binary64 total p))
+  e-is : Rel v (productError x y) prod (near prod) 5
+  e-is = two-product.error-is _ _ _ _ _ _ C (X .neg) (Y .neg) xk yk unit units-is units-top (whole-is X x-room (omega arith)) (rounded-is X x-room (omega arith)) y-is (cut-is Y y-room (omega arith))
 
-  p-is : Rel v p (near prod) 0 1
-  p-is =
-      two-product.product-rounded xh xl xm yh yl cuts xn yn xi yi unit units-is units-top (whole x FX (O .first-low) (O .first-high)) (high x FX (O .first-low) (O .first-high)) (middle x FX (O .first-low) (O .first-high))
-      (whole-low y FY (O .second-low) (O .second-high)) (high y FY (O .second-low) (O .second-high))
+  k-bound : K ≤ bound
+  k-bound = in-bound (Z .1) 53 (Z .0) (le-of-lt (Z .2 .0 .top)) (omega (arith, Z .2 .1))
 
-  e-is : Rel v e prod (near prod) 6
-  e-is =
-      two-product.error-is xh xl xm yh yl cuts xn yn xi yi unit units-is units-top (whole x FX (O .first-low) (O .first-high)) (high x FX (O .first-low) (O .first-high)) (middle x FX (O .first-low) (O .first-high))
-      (whole-low y FY (O .second-low) (O .second-high)) (high y FY (O .second-low) (O .second-high))
+  prod-bound : prod ≤ bound
+  prod-bound = in-bound (xq * (yq / 2 ^ 27 * 2 ^ 27 + yq % 2 ^ 27)) 106 unit (le-of-lt (two-product.z-top _ _ _ _ _ _ C)) (omega (arith, units-top))
 
-  Z : AsUnits z 0
-  Z = by-field z FZ 0 (omega (arith, O .addend)) (omega (arith, O .addend))
+  z-is : Rel zs z K 0 1
+  z-is = plain zs z K 1 (le-trans k-bound (le-of-eq (sym (one-mul bound)))) (value (Z .2 .0))
 
-  z-is : Rel (Z .sign) z (Z .size) 0 1
-  z-is = plain (Z .sign) z (Z .size) 1 (Z .small) (Z .value)
-
-  pub sum-number : T (not (isNan (add binary64 back e)))
-  sum-number = w-number v (Z .sign) prod (near prod) (Z .size) p-is (near-short prod) e-is z-is (Z .short)
-
-  fma-rounds : NearPair (fma binary64 x y z) (cond v 0 prod + cond (Z .sign) 0 (Z .size)) (cond v prod 0 + cond (Z .sign) (Z .size) 0)
+  fma-rounds : NearPair (fma binary64 x y z) (cond v 0 prod + cond zs 0 K) (cond v prod 0 + cond zs K 0)
   fma-rounds =
       let U = 2 ^ 1074 in
-      let X = (xh * 2 ^ 27 + (xl * 2 ^ 14 + xm)) * 2 ^ xi in
-      let Y = (yh * 2 ^ 27 + yl) * 2 ^ yi in
-      let K = Z .size in
-      subst (λ (f : Float). NearPair f (cond v 0 prod + cond (Z .sign) 0 K) (cond v prod 0 + cond (Z .sign) K 0))
-      (sym (fma-at binary64 x y z xn yn (Z .sign) X Y K U 1 (pow-pos 1074) (zero-lt-suc 0) (value x FX (O .first-low) (O .first-high)) (value-cut y FY (O .second-low) (O .second-high)) (Z .value)
-      ∙ sum-value binary64 (X * Y * 1) (K * (1 * U)) (1 * (U * U)) prod K U (mul-pos (zero-lt-suc 0) (mul-pos (pow-pos 1074) (pow-pos 1074))) (pow-pos 1074) (first (xh * 2 ^ 27 + (xl * 2 ^ 14 + xm)) (yh * 2 ^ 27 + yl)) (second K U) v (Z .sign)))
-      (sum-is v (Z .sign) prod K (cond v 0 prod) (cond v prod 0) (cond (Z .sign) 0 K) (cond (Z .sign) K 0) (pair-is v prod) (pair-is (Z .sign) K))
+      let A = xq * 2 ^ xk in
+      let B = (yq / 2 ^ 27 * 2 ^ 27 + yq % 2 ^ 27) * 2 ^ yk in
+      subst (λ (f : Float). NearPair f (cond v 0 prod + cond zs 0 K) (cond v prod 0 + cond zs K 0))
+      (sym (fma-at binary64 x y z (X .neg) (Y .neg) zs A B K U 1 (pow-pos 1074) (zero-lt-suc 0) (value X) (recast y U refl (ap (λ (w : ℕ). w * 2 ^ yk) y-whole) (value Y)) (value (Z .2 .0))
+      ∙ sum-value binary64 (A * B * 1) (K * (1 * U)) (1 * (U * U)) prod K U (mul-pos (zero-lt-suc 0) (mul-pos (pow-pos 1074) (pow-pos 1074))) (pow-pos 1074) (first xq (yq / 2 ^ 27 * 2 ^ 27 + yq % 2 ^ 27)) (second K U) v zs))
+      (sum-is v zs prod K (cond v 0 prod) (cond v prod 0) (cond zs 0 K) (cond zs K 0) (pair-is v prod) (pair-is zs K))
     where
       rearrange : (a b p q u : ℕ) → a * p * (b * q) * 1 * u ≡ a * b * (p * q * u)
       rearrange a b p q u = simp (mul-assoc, mul-comm, mul-left-comm, mul-one, one-mul)
@@ -398,11 +450,54 @@ module _ (x y z : Float) (FX : T (fits binary64 x)) (FY : T (fits binary64 y)) (
       rearrange' : (a p u : ℕ) → a * (p * u * u) ≡ a * p * (1 * (u * u))
       rearrange' a p u = simp (mul-assoc, mul-comm, mul-left-comm, mul-one, one-mul)
 
-      first : (a b : ℕ) → a * 2 ^ xi * (b * 2 ^ yi) * 1 * 2 ^ 1074 ≡ a * b * 2 ^ unit * (1 * (2 ^ 1074 * 2 ^ 1074))
-      first a b = rearrange a b (2 ^ xi) (2 ^ yi) (2 ^ 1074) ∙ ap (λ (f : ℕ). a * b * (f * 2 ^ 1074)) (sym (pow-add 2 xi yi) ∙ ap (λ (f : ℕ). 2 ^ f) units-is ∙ pow-add 2 unit 1074) ∙ rearrange' (a * b) (2 ^ unit) (2 ^ 1074)
+      first : (a b : ℕ) → a * 2 ^ xk * (b * 2 ^ yk) * 1 * 2 ^ 1074 ≡ a * b * 2 ^ unit * (1 * (2 ^ 1074 * 2 ^ 1074))
+      first a b = rearrange a b (2 ^ xk) (2 ^ yk) (2 ^ 1074) ∙ ap (λ (f : ℕ). a * b * (f * 2 ^ 1074)) (sym (pow-add 2 xk yk) ∙ ap (λ (f : ℕ). 2 ^ f) units-is ∙ pow-add 2 unit 1074) ∙ rearrange' (a * b) (2 ^ unit) (2 ^ 1074)
 
       second : (k u : ℕ) → k * (1 * u) * u ≡ k * (1 * (u * u))
       second k u = simp (mul-assoc, mul-comm, mul-left-comm, mul-one, one-mul)
 
-  pub by-errors-is : (r : Float) → RoundsAlike total (add binary64 back e) r → r ≡ fma binary64 x y z
-  by-errors-is r R = rounds-alike-is v (Z .sign) prod (near prod) (Z .size) p-is (near-short prod) e-is z-is (Z .short) r (fma binary64 x y z) R fma-rounds
+  rounded-fits : T (fits binary64 (fma binary64 x y z))
+  rounded-fits = subst (λ (w : Float). T (fits binary64 w)) (sym (fma-rounds .is)) (round-fits binary64 (fma-rounds .neg) _ (2 ^ 1074))
+
+  sum-small : dist (cond v 0 prod + cond zs 0 K) (cond v prod 0 + cond zs K 0) ≤ 2 ^ 2 * bound
+  sum-small = le-trans (dist-add (cond v 0 prod) (cond v prod 0) (cond zs 0 K) (cond zs K 0)) (le-trans (le-of-eq (ap (λ (w : ℕ). w + dist (cond zs 0 K) (cond zs K 0)) (pair-size v prod) ∙ ap (λ (w : ℕ). prod + w) (pair-size zs K))) (go prod K prod-bound k-bound))
+    where
+      go : (a b : ℕ) → a ≤ bound → b ≤ bound → a + b ≤ 2 ^ 2 * bound
+      go a b h k = omega arith
+
+  -- t is what rounding took off the sum
+  by-errors : {t : Float} → Is t (cond v 0 (near prod) + cond zs 0 K + near (cond v (near prod) 0 + cond zs K 0 - (cond v 0 (near prod) + cond zs 0 K))) (cond v (near prod) 0 + cond zs K 0 + near (cond v 0 (near prod) + cond zs 0 K - (cond v (near prod) 0 + cond zs K 0))) 12
+      → Certain (x ⊗ y ⊕ z) (t ⊕ productError x y) → x ⊗ y ⊕ z ⊕ (t ⊕ productError x y) ≡ fma binary64 x y z
+  by-errors {t} T-is same =
+      let s = x ⊗ y ⊕ z in
+      let w = t ⊕ productError x y in
+      let W = w-is v zs prod (near prod) K p-is (near-short prod) e-is z-is (digits-short (Z .2 .0)) T-is rounded-fits fma-rounds sum-small in
+      let S = any w (add-fits binary64 t (productError x y)) (finite-value w (W .sign) (W .size) (W .value)) in
+      certain-sum v zs prod (near prod) K p-is (near-short prod) e-is z-is (digits-short (Z .2 .0)) T-is rounded-fits fma-rounds sum-small (S .2) (same-bits (s ⊕ inward w) (s ⊕ outward w) (add-fits binary64 s (inward w)) (add-fits binary64 s (outward w)) same)
+
+  pub fused-is : Certain (x ⊗ y ⊕ z) (sumError (x ⊗ y) z ⊕ productError x y) → x ⊗ y ⊕ z ⊕ (sumError (x ⊗ y) z ⊕ productError x y) ≡ fma binary64 x y z
+  fused-is = by-errors (knuth v zs prod (near prod) K p-is (near-short prod) e-is z-is (digits-short (Z .2 .0)))
+
+  -- the product is not the smaller one
+  P : (k : ℕ) × (q : ℕ) × Spelled (x ⊗ y) k q
+  P = any (x ⊗ y) (mul-fits binary64 x y) (finite-value (x ⊗ y) (p-is .is .sign) (p-is .is .size) (p-is .is .value))
+
+  p-size : P .1 * 2 ^ P .0 ≡ near prod
+  p-size = sym (place-of binary64 (x ⊗ y) (P .2 .neg) (P .1 * 2 ^ P .0) (value (P .2))) ∙ place-of binary64 (x ⊗ y) (p-is .is .sign) (p-is .is .size) (p-is .is .value) ∙ go v (p-is .is .sign) (near prod) (p-is .is .size) (p-is .is .pair)
+    where
+      go : (n s : Bool) (a z : ℕ) → cond n 0 a + cond s z 0 ≡ cond n a 0 + cond s 0 z → z ≡ a
+      go true true a z e = omega arith
+      go true false a z e = omega arith
+      go false true a z e = omega arith
+      go false false a z e = omega arith
+
+  ordered : lt (bits (toBits binary64 (x ⊗ y) % 2 ^ 63)) (bits (toBits binary64 z % 2 ^ 63)) ≡ false → K ≤ near prod
+  ordered h =
+      let p' = bits (toBits binary64 (x ⊗ y) % 2 ^ 63) in
+      let z' = bits (toBits binary64 z % 2 ^ 63) in
+      let l = le-of-not-lt p' z' (finite-value p' false (P .1 * 2 ^ P .0) (size-value (P .2))) (finite-value z' false K (size-value (Z .2 .0))) h in
+      le-trans (le-of-mul-le-mul-right {k = 2 ^ 1074} (le→fractions false false K (P .1 * 2 ^ P .0) (2 ^ 1074) (2 ^ 1074) (pow-pos 1074) (pow-pos 1074) z' p' (size-value (Z .2 .0)) (size-value (P .2)) (rw l tt)) (pow-pos 1074)) (le-of-eq p-size)
+
+  pub ordered-fused-is : lt (bits (toBits binary64 (x ⊗ y) % 2 ^ 63)) (bits (toBits binary64 z % 2 ^ 63)) ≡ false
+      → Certain (x ⊗ y ⊕ z) (orderedSumError (x ⊗ y) z ⊕ productError x y) → x ⊗ y ⊕ z ⊕ (orderedSumError (x ⊗ y) z ⊕ productError x y) ≡ fma binary64 x y z
+  ordered-fused-is h = by-errors (dekker v zs prod (near prod) K p-is (near-short prod) e-is z-is (digits-short (Z .2 .0)) (ordered h))

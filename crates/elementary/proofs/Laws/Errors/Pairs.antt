@@ -7,11 +7,12 @@ use native.Mathlib.Decide.{decLe}
 use native.Mathlib.Omega.{arith}
 use lib.Dec.{T, ltb, nltb→le}
 use lib.Pow.{pow-add, pow-pos, pow-mono, pow-lt}
-use lib.Ieee.{Float, binary64, size, units, round, sum, add, sub, neg}
+use lib.Ieee.{Float, binary64, size, units, round, sum, add, sub, neg, fits}
 use lib.Ieee.Fits.{round-is}
 use lib.Ieee.Nearest.{closest, closest-same}
 use lib.Ieee.Exact.{HasValue, units-val}
-use Rattle.elementary.proofs.Laws.Values.{recast}
+use Rattle.elementary.proofs.Laws.Places.{place-of, sign-of}
+use Rattle.elementary.proofs.Laws.Values.{recast, value-unique}
 use Rattle.elementary.proofs.Laws.Adding.{add-at, neg-value}
 use Rattle.elementary.proofs.mul_add.Sums.{sum-same, sum-more, sum-less}
 use Rattle.elementary.proofs.Laws.Errors.Digits.{ex, dist, Short, short-of, near, near-exact, near-mono}
@@ -168,6 +169,19 @@ near-dist n m = go (decLe n m)
     go (yes h) = let z = no-rest n m h in let e : near (dist n m) ≡ near (m - n) = ap near (omega arith) in omega arith
     go (no h) = let l = lt-of-not-le h in let z = no-rest m n (le-of-lt l) in let e : near (dist n m) ≡ near (n - m) = ap near (omega arith) in omega arith
 
+-- what is rounded, by its value
+pub near-is : {r : Float} {n m : ℕ} → NearPair r n m → (l : ℕ) → dist n m ≤ 2 ^ l * bound → l ≤ 16 → Is r (near (n - m)) (near (m - n)) (2 ^ l)
+near-is {r} {n} {m} R l h k = record {
+  sign = R .neg;
+  size = near (dist n m);
+  value = subst (λ (z : Float). HasValue z (R .neg) (near (dist n m)) (2 ^ 1074)) (sym (R .is)) (round-value (R .neg) (dist n m) (in-range (near (dist n m)) (le-trans top (mul-le-mul-right bound (pow-mono {i = l} {j = 16} k)))));
+  pair = near-pair n m (R .neg) (R .up) (R .down);
+  small = le-trans (le-of-eq (near-dist n m)) top;
+}
+  where
+    top : near (dist n m) ≤ 2 ^ l * bound
+    top = near-in (dist n m) l h
+
 module _ {x y : Float} {a b c d i j : ℕ} (X : Is x a b i) (Y : Is y c d j) where
   pub add-rounds : NearPair (add binary64 x y) (a + c) (b + d)
   add-rounds =
@@ -194,20 +208,7 @@ module _ {x y : Float} {a b c d i j : ℕ} (X : Is x a b i) (Y : Is y c d j) whe
       e = near-exact (dist (a + c) (b + d)) S
 
   pub add-near : (l : ℕ) → dist (a + c) (b + d) ≤ 2 ^ l * bound → l ≤ 16 → Is (add binary64 x y) (near (a + c - (b + d))) (near (b + d - (a + c))) (2 ^ l)
-  add-near l h k = record {
-    sign = R .neg;
-    size = near (dist (a + c) (b + d));
-    value = subst (λ (z : Float). HasValue z (R .neg) (near (dist (a + c) (b + d))) (2 ^ 1074)) (sym (R .is))
-        (round-value (R .neg) (dist (a + c) (b + d)) (in-range (near (dist (a + c) (b + d))) (le-trans top (mul-le-mul-right bound (pow-mono {i = l} {j = 16} k)))));
-    pair = near-pair (a + c) (b + d) (R .neg) (R .up) (R .down);
-    small = le-trans (le-of-eq (near-dist (a + c) (b + d))) top;
-  }
-    where
-      R : NearPair (add binary64 x y) (a + c) (b + d)
-      R = add-rounds
-
-      top : near (dist (a + c) (b + d)) ≤ 2 ^ l * bound
-      top = near-in (dist (a + c) (b + d)) l h
+  add-near l h k = near-is add-rounds l h k
 
 module _ {x y : Float} {a b c d i j : ℕ} (X : Is x a b i) (Y : Is y c d j) where
   pub sub-exact : Short (dist (a + d) (b + c)) → i + j ≤ 2 ^ 16 → Is (sub binary64 x y) (a + d) (b + c) (i + j)
@@ -217,3 +218,25 @@ module _ {x y : Float} {a b c d i j : ℕ} (X : Is x a b i) (Y : Is y c d j) whe
   pub sub-near : (l : ℕ) → dist (a + d) (b + c) ≤ 2 ^ l * bound → l ≤ 16 → Is (sub binary64 x y) (near (a + d - (b + c))) (near (b + c - (a + d))) (2 ^ l)
   unfolding sub
   sub-near l h k = add-near X (neg-is Y) l h k
+
+-- ---- a float has one value, and a value that is not 0 one float
+pub one-value : {x : Float} {a b c d i j : ℕ} → Is x a b i → Is x c d j → a + d ≡ c + b
+one-value {x} {a} {b} {c} {d} X Y = go (X .sign) (Y .sign) (X .size) (Y .size) (sym (sign-of x (X .sign) _ _ (X .value)) ∙ sign-of x (Y .sign) _ _ (Y .value)) (sym (place-of binary64 x (X .sign) (X .size) (X .value)) ∙ place-of binary64 x (Y .sign) (Y .size) (Y .value)) (X .pair) (Y .pair)
+  where
+    go : (s t : Bool) (v u : ℕ) → s ≡ t → v ≡ u → a + cond s v 0 ≡ b + cond s 0 v → c + cond t u 0 ≡ d + cond t 0 u → a + d ≡ c + b
+    go true true v u e f p q = omega arith
+    go true false v u e f p q = absurd (true≢false e)
+    go false true v u e f p q = absurd (true≢false (sym e))
+    go false false v u e f p q = omega arith
+
+pub one-float : {x y : Float} {a b i j : ℕ} → T (fits binary64 x) → T (fits binary64 y) → Is x a b i → Is y a b j → (a ≡ b → ⊥) → x ≡ y
+one-float {x} {y} {a} {b} F G X Y some = value-unique x y (X .sign) (X .size) F G (X .value) (recast y (2 ^ 1074) (sym (level .0)) (sym (level .1)) (Y .value))
+  where
+    go : (s t : Bool) (v u : ℕ) → a + cond s v 0 ≡ b + cond s 0 v → a + cond t u 0 ≡ b + cond t 0 u → (s ≡ t) × (v ≡ u)
+    go true true v u p q = (refl, omega arith)
+    go true false v u p q = absurd (some (omega arith))
+    go false true v u p q = absurd (some (omega arith))
+    go false false v u p q = (refl, omega arith)
+
+    level : (X .sign ≡ Y .sign) × (X .size ≡ Y .size)
+    level = go (X .sign) (Y .sign) (X .size) (Y .size) (X .pair) (Y .pair)

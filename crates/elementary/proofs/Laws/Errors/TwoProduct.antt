@@ -1,7 +1,7 @@
--- A product's rounding error as a float: five exact products and their exact sums. Assumes nothing.
+-- A product's rounding error as a float: four exact products and their exact sums. Assumes nothing.
 use mathlib.Core.Path.{_≡_, refl, sym, ap, _∙_, subst}
 use mathlib.Core.Logic.{_⊎_, inl, inr}
-use mathlib.Core.Bool.{Bool, true, false, cond, true≢false}
+use mathlib.Core.Bool.{Bool, true, false, not, cond, true≢false}
 use Prim.Native.Nat.{ℕ, _+_, _-_, _*_, _/_, _^_, _≤_, _<_}
 use native.Mathlib.Nat.{le-trans, le-of-eq, le-of-lt, lt-of-lt-of-le, lt-of-le-of-lt, lt-of-not-le, le-of-mul-le-mul-right, mul-le-mul, mul-le-mul-right, mul-assoc, mul-comm, mul-left-comm, mul-right-comm, mul-pos, add-mul, zero-mul, mul-zero, add-assoc, one-mul, mul-one, mul-add, mul-mul-mul-comm, not-le-of-lt}
 use native.Mathlib.Omega.{arith}
@@ -129,12 +129,12 @@ module _ (n t : Bool) {x y : Float} (a b i j g k l : ℕ) (E : i + j ≡ g + 107
 rel-eq : {n : Bool} {x : Float} {v w k : ℕ} → v ≡ w → Rel n x v 0 k → Rel n x w 0 k
 rel-eq {n} {x} {k = k} e X = subst (λ (z : ℕ). Rel n x z 0 k) e X
 
-short-unit : (d v k g : ℕ) → v * 2 ^ k ≡ d → v ≤ 2 ^ 53 → Short (d * 2 ^ g)
+pub short-unit : (d v k g : ℕ) → v * 2 ^ k ≡ d → v ≤ 2 ^ 53 → Short (d * 2 ^ g)
 short-unit d v k g e h =
     let f : d * 2 ^ g ≡ v * 2 ^ (k + g) = ap (λ (z : ℕ). z * 2 ^ g) (sym e) ∙ mul-assoc v (2 ^ k) (2 ^ g) ∙ ap (λ (z : ℕ). v * z) (sym (pow-add 2 k g)) in
     short-top (d * 2 ^ g) (k + g) (v, f) (le-trans (le-of-eq f) (le-trans (mul-le-mul-right (2 ^ (k + g)) h) (le-of-eq (sym (pow-add 2 53 (k + g))))))
 
-dist-mul : (a b u : ℕ) → dist a b * u ≡ dist (a * u) (b * u)
+pub dist-mul : (a b u : ℕ) → dist a b * u ≡ dist (a * u) (b * u)
 dist-mul a b u = add-mul (a - b) (b - a) u ∙ ap (λ (z : ℕ). z + (b - a) * u) (sub-mul a b u) ∙ ap (λ (z : ℕ). a * u - b * u + z) (sub-mul b a u)
 
 module _ (n : Bool) {x y : Float} (g a b c v k : ℕ) where
@@ -143,76 +143,113 @@ module _ (n : Bool) {x y : Float} (g a b c v k : ℕ) where
       rel-as n (a * 2 ^ g) (b * 2 ^ g) (omega arith)
       (rel-sub n X Y (subst Short (dist-mul a b (2 ^ g) ∙ same-dist (a * 2 ^ g) (b * 2 ^ g) (a * 2 ^ g + 0) (0 + b * 2 ^ g) (omega arith)) (short-unit (dist a b) v k g e h)) (omega arith))
 
-  plus-step : (i : ℕ) → i < 100 → Rel n x (a * 2 ^ g) (b * 2 ^ g) i → Rel n y (c * 2 ^ g) 0 1 → v * 2 ^ k ≡ dist (a + c) b → v ≤ 2 ^ 53 → Rel n (add binary64 x y) ((a + c) * 2 ^ g) (b * 2 ^ g) (i + 1)
-  plus-step i l X Y e h =
+  plus-step : (d i : ℕ) → i < 100 → Rel n x (a * 2 ^ g) (b * 2 ^ g) i → Rel n y (c * 2 ^ g) (d * 2 ^ g) 1 → v * 2 ^ k ≡ dist (a + c) (b + d) → v ≤ 2 ^ 53 → Rel n (add binary64 x y) ((a + c) * 2 ^ g) ((b + d) * 2 ^ g) (i + 1)
+  plus-step d i l X Y e h =
       let f : (a + c) * 2 ^ g ≡ a * 2 ^ g + c * 2 ^ g = add-mul a c (2 ^ g) in
-      rel-as n ((a + c) * 2 ^ g) (b * 2 ^ g) (omega arith)
-      (rel-add n X Y (subst Short (dist-mul (a + c) b (2 ^ g) ∙ same-dist ((a + c) * 2 ^ g) (b * 2 ^ g) (a * 2 ^ g + c * 2 ^ g) (b * 2 ^ g + 0) (omega arith)) (short-unit (dist (a + c) b) v k g e h)) (omega arith))
+      let f' : (b + d) * 2 ^ g ≡ b * 2 ^ g + d * 2 ^ g = add-mul b d (2 ^ g) in
+      rel-as n ((a + c) * 2 ^ g) ((b + d) * 2 ^ g) (omega arith)
+      (rel-add n X Y (subst Short (dist-mul (a + c) (b + d) (2 ^ g) ∙ same-dist ((a + c) * 2 ^ g) ((b + d) * 2 ^ g) (a * 2 ^ g + c * 2 ^ g) (b * 2 ^ g + d * 2 ^ g) (omega arith)) (short-unit (dist (a + c) (b + d)) v k g e h)) (omega arith))
 
--- ---- a part of a float
-part : (n : Bool) {x y : Float} (u v w i : ℕ) → u ≡ v + w → w ≤ 2 ^ 53 → Rel n x (u * 2 ^ i) 0 1 → Rel n y (v * 2 ^ i) 0 1 → Rel n (sub binary64 x y) (w * 2 ^ i) 0 2
-part n u v w i e h X Y =
-    let f : u * 2 ^ i ≡ v * 2 ^ i + w * 2 ^ i = ap (λ (z : ℕ). z * 2 ^ i) e ∙ add-mul v w (2 ^ i) in
-    rel-as n (w * 2 ^ i) 0 (omega arith)
-    (rel-sub n X Y (subst Short (level (u * 2 ^ i) (v * 2 ^ i) (w * 2 ^ i) f) (short-top (w * 2 ^ i) i (w, refl) (le-trans (mul-le-mul-right (2 ^ i) h) (le-of-eq (sym (pow-add 2 53 i)))))) (omega arith))
+pub in-bound : (x k g : ℕ) → x ≤ 2 ^ k → k + g ≤ 2080 → x * 2 ^ g ≤ bound
+unfolding bound
+in-bound x k g h l = le-trans (mul-le-mul-right (2 ^ g) h) (le-trans (le-of-eq (sym (pow-add 2 k g))) (pow-mono {i = k + g} {j = 2080} l))
+
+-- ---- a float less one near it
+apart : (n : Bool) {x y : Float} (u v p m i : ℕ) → u + m ≡ v + p → p ≤ 2 ^ 53 → m ≤ 2 ^ 53 → (p ≡ 0) ⊎ (m ≡ 0) → Rel n x (u * 2 ^ i) 0 1 → Rel n y (v * 2 ^ i) 0 1 → Rel n (sub binary64 x y) (p * 2 ^ i) (m * 2 ^ i) 2
+apart n u v p m i e P M Z X Y =
+    let f : u * 2 ^ i + m * 2 ^ i ≡ v * 2 ^ i + p * 2 ^ i = sym (add-mul u m (2 ^ i)) ∙ ap (λ (z : ℕ). z * 2 ^ i) e ∙ add-mul v p (2 ^ i) in
+    rel-as n (p * 2 ^ i) (m * 2 ^ i) (omega arith)
+    (rel-sub n X Y (subst Short (dist-mul p m (2 ^ i) ∙ level (u * 2 ^ i) (v * 2 ^ i) (p * 2 ^ i) (m * 2 ^ i) f) (short-unit (dist p m) (dist p m) 0 i (mul-one (dist p m)) (less Z))) (omega arith))
   where
-    level : (x y z : ℕ) → x ≡ y + z → z ≡ dist (x + 0) (0 + y)
-    level x y z e = omega arith
+    level : (x y z w : ℕ) → x + w ≡ y + z → dist z w ≡ dist (x + 0) (0 + y)
+    level x y z w e = omega arith
 
--- ---- the five numbers and the rounded product q * 2 ^ 52
-pub record Parts (hs hk ls mk rk q : ℕ) : Type 0 where
-  pub hk-top : hk < 2 ^ 53
-  pub ls-top : ls ≤ (2 ^ 27 - 1) * (2 ^ 26 - 1)
-  pub lk-top : mk * 2 ^ 14 + rk < 2 ^ 54
-  pub over : q * 2 ^ 52 ≤ hs * 2 ^ 54 + hk * 2 ^ 27 + ls * 2 ^ 27 + mk * 2 ^ 14 + rk + 2 ^ 53
-  pub under : hs * 2 ^ 54 + hk * 2 ^ 27 + ls * 2 ^ 27 + mk * 2 ^ 14 + rk ≤ q * 2 ^ 52 + 2 ^ 53
+    less : (p ≡ 0) ⊎ (m ≡ 0) → dist p m ≤ 2 ^ 53
+    less (inl z) = omega arith
+    less (inr z) = omega arith
 
-module _ (n : Bool) {a b c d e p : Float} (g hs hk ls mk rk q : ℕ) (P : Parts hs hk ls mk rk q)
-    (A : Rel n a (hs * 2 ^ 54 * 2 ^ g) 0 1) (B : Rel n b (hk * 2 ^ 27 * 2 ^ g) 0 1) (C : Rel n c (ls * 2 ^ 27 * 2 ^ g) 0 1) (D : Rel n d (mk * 2 ^ 14 * 2 ^ g) 0 1) (E : Rel n e (rk * 2 ^ g) 0 1)
+-- ---- an exact product whose first factor has either sign
+rel-flip : (n : Bool) {x : Float} {a b k : ℕ} → Rel (not n) x a b k → Rel n x b a k
+rel-flip true X = record { is = X .is }
+rel-flip false X = record { is = X .is }
+
+rel-unflip : (n : Bool) {x : Float} {a b k : ℕ} → Rel n x a b k → Rel (not n) x b a k
+rel-unflip true X = record { is = X .is }
+rel-unflip false X = record { is = X .is }
+
+unlike-not : (n t : Bool) → unlike (not n) t ≡ not (unlike n t)
+unlike-not true true = refl
+unlike-not true false = refl
+unlike-not false true = refl
+unlike-not false false = refl
+
+product-either : (n t : Bool) {x y : Float} (p m b i j g k l : ℕ) → i + j ≡ g + 1074 → (p ≡ 0) ⊎ (m ≡ 0) → Rel n x (p * 2 ^ i) (m * 2 ^ i) k → Rel t y (b * 2 ^ j) 0 l → p * b ≤ 2 ^ 53 → m * b ≤ 2 ^ 53 → 53 + g ≤ 2080
+    → Rel (unlike n t) (mul binary64 x y) (p * b * 2 ^ g) (m * b * 2 ^ g) 1
+product-either n t {x} {y} p m b i j g k l E (inr z) X Y P M G =
+    subst (λ (w : ℕ). Rel (unlike n t) (mul binary64 x y) (p * b * 2 ^ g) w 1) (sym (none m z b g))
+    (product-exact n t p b i j g k l E (subst (λ (w : ℕ). Rel n x (p * 2 ^ i) w k) (ap (λ (w : ℕ). w * 2 ^ i) z ∙ zero-mul (2 ^ i)) X) Y P (in-bound (p * b) 53 g P G))
+  where
+    none : (m : ℕ) → m ≡ 0 → (b g : ℕ) → m * b * 2 ^ g ≡ 0
+    none m z b g = ap (λ (w : ℕ). w * b * 2 ^ g) z ∙ ap (λ (w : ℕ). w * 2 ^ g) (zero-mul b) ∙ zero-mul (2 ^ g)
+product-either n t {x} {y} p m b i j g k l E (inl z) X Y P M G =
+    subst (λ (w : ℕ). Rel (unlike n t) (mul binary64 x y) w (m * b * 2 ^ g) 1) (sym (none p z b g))
+    (rel-flip (unlike n t) (subst (λ (w : Bool). Rel w (mul binary64 x y) (m * b * 2 ^ g) 0 1) (unlike-not n t)
+    (product-exact (not n) t m b i j g k l E (rel-unflip n (subst (λ (w : ℕ). Rel n x w (m * 2 ^ i) k) (ap (λ (w : ℕ). w * 2 ^ i) z ∙ zero-mul (2 ^ i)) X)) Y M (in-bound (m * b) 53 g M G))))
+  where
+    none : (m : ℕ) → m ≡ 0 → (b g : ℕ) → m * b * 2 ^ g ≡ 0
+    none m z b g = ap (λ (w : ℕ). w * b * 2 ^ g) z ∙ ap (λ (w : ℕ). w * 2 ^ g) (zero-mul b) ∙ zero-mul (2 ^ g)
+
+-- ---- the products of the parts and the rounded product q * 2 ^ 52
+pub record Parts (hs hk ps ms pk mk q : ℕ) : Type 0 where
+  pub hk-top : hk ≤ 2 ^ 53
+  pub ps-top : ps ≤ 2 ^ 52
+  pub ms-top : ms ≤ 2 ^ 52
+  pub pk-top : pk ≤ 2 ^ 53
+  pub mk-top : mk ≤ 2 ^ 53
+  pub over : q * 2 ^ 52 + (ms * 2 ^ 27 + mk) ≤ hs * 2 ^ 54 + hk * 2 ^ 27 + ps * 2 ^ 27 + pk + 2 ^ 53
+  pub under : hs * 2 ^ 54 + hk * 2 ^ 27 + ps * 2 ^ 27 + pk ≤ q * 2 ^ 52 + (ms * 2 ^ 27 + mk) + 2 ^ 53
+
+module _ (n : Bool) {a b c d p : Float} (g hs hk ps ms pk mk q : ℕ) (P : Parts hs hk ps ms pk mk q)
+    (A : Rel n a (hs * 2 ^ 54 * 2 ^ g) 0 1) (B : Rel n b (hk * 2 ^ 27 * 2 ^ g) 0 1) (C : Rel n c (ps * 2 ^ 27 * 2 ^ g) (ms * 2 ^ 27 * 2 ^ g) 1) (D : Rel n d (pk * 2 ^ g) (mk * 2 ^ g) 1)
     (R : Rel n p (q * 2 ^ 52 * 2 ^ g) 0 1) where
-  pub error-of-parts : Rel n (add binary64 (add binary64 (add binary64 (add binary64 (sub binary64 a p) b) c) d) e) ((hs * 2 ^ 54 + hk * 2 ^ 27 + ls * 2 ^ 27 + mk * 2 ^ 14 + rk) * 2 ^ g) (q * 2 ^ 52 * 2 ^ g) 6
+  pub error-of-parts : Rel n (add binary64 (add binary64 (add binary64 (sub binary64 a p) b) c) d) ((hs * 2 ^ 54 + hk * 2 ^ 27 + ps * 2 ^ 27 + pk) * 2 ^ g) ((q * 2 ^ 52 + ms * 2 ^ 27 + mk) * 2 ^ g) 5
   error-of-parts =
       let x1 = hs * 2 ^ 54 in
       let x2 = x1 + hk * 2 ^ 27 in
-      let x3 = x2 + ls * 2 ^ 27 in
-      let x4 = x3 + mk * 2 ^ 14 in
+      let x3 = x2 + ps * 2 ^ 27 in
       let y = q * 2 ^ 52 in
-      let s1 = minus-step n g x1 y 0 (dist (hs * 4) q) 52 A R (one hs q) (one-top hs hk ls mk rk q (P .hk-top) (P .ls-top) (P .lk-top) (P .over) (P .under)) in
-      let s2 = plus-step n g x1 y (hk * 2 ^ 27) (dist (hs * 2 ^ 27 + hk) (q * 2 ^ 25)) 27 2 (omega arith) s1 B (two hs hk q) (two-top hs hk ls mk rk q (P .ls-top) (P .lk-top) (P .over) (P .under)) in
-      let s3 = plus-step n g x2 y (ls * 2 ^ 27) (dist (hs * 2 ^ 27 + hk + ls) (q * 2 ^ 25)) 27 3 (omega arith) s2 C (three hs hk ls q) (three-top hs hk ls mk rk q (P .lk-top) (P .over) (P .under)) in
-      let s4 = plus-step n g x3 y (mk * 2 ^ 14) (dist (hs * 2 ^ 40 + hk * 2 ^ 13 + ls * 2 ^ 13 + mk) (q * 2 ^ 38)) 14 4 (omega arith) s3 D (four hs hk ls mk q) (four-top hs hk ls mk rk q (P .lk-top) (P .over) (P .under)) in
-      plus-step n g x4 y rk (dist (x4 + rk) y) 0 5 (omega arith) s4 E (mul-one (dist (x4 + rk) y)) (five x4 rk y (P .over) (P .under))
+      let y3 = y + ms * 2 ^ 27 in
+      let s1 = minus-step n g x1 y 0 (dist (hs * 4) q) 52 A R (one hs q) (one-top hs hk ps ms pk mk q (P .hk-top) (P .ps-top) (P .ms-top) (P .pk-top) (P .mk-top) (P .over) (P .under)) in
+      let s2 = rel-right (ap (λ (z : ℕ). z * 2 ^ g) (none y)) (plus-step n g x1 y (hk * 2 ^ 27) (dist (hs * 2 ^ 27 + hk) (q * 2 ^ 25)) 27 0 2 (omega arith) s1 (rel-right (zero-mul (2 ^ g)) B) (two hs hk q) (two-top hs hk ps ms pk mk q (P .ps-top) (P .ms-top) (P .pk-top) (P .mk-top) (P .over) (P .under))) in
+      let s3 = plus-step n g x2 y (ps * 2 ^ 27) (dist (hs * 2 ^ 27 + hk + ps) (q * 2 ^ 25 + ms)) 27 (ms * 2 ^ 27) 3 (omega arith) s2 C (three hs hk ps ms q) (three-top hs hk ps ms pk mk q (P .pk-top) (P .mk-top) (P .over) (P .under)) in
+      plus-step n g x3 y3 pk (dist (x3 + pk) (y3 + mk)) 0 mk 4 (omega arith) s3 D (mul-one (dist (x3 + pk) (y3 + mk))) (four x3 pk y (ms * 2 ^ 27) mk (P .over) (P .under))
     where
+      rel-right : {x : Float} {a b c k : ℕ} → c ≡ b → Rel n x a b k → Rel n x a c k
+      rel-right {x} {a} {k = k} e X = subst (λ (z : ℕ). Rel n x a z k) (sym e) X
+
+      none : (y : ℕ) → y ≡ y + 0
+      none y = omega arith
+
       one : (hs q : ℕ) → dist (hs * 4) q * 2 ^ 52 ≡ dist (hs * 2 ^ 54) (q * 2 ^ 52)
       one hs q = dist-mul (hs * 4) q (2 ^ 52) ∙ ap (λ (z : ℕ). dist z (q * 2 ^ 52)) (omega arith)
 
-      two : (hs hk q : ℕ) → dist (hs * 2 ^ 27 + hk) (q * 2 ^ 25) * 2 ^ 27 ≡ dist (hs * 2 ^ 54 + hk * 2 ^ 27) (q * 2 ^ 52)
+      two : (hs hk q : ℕ) → dist (hs * 2 ^ 27 + hk) (q * 2 ^ 25) * 2 ^ 27 ≡ dist (hs * 2 ^ 54 + hk * 2 ^ 27) (q * 2 ^ 52 + 0)
       two hs hk q = dist-mul (hs * 2 ^ 27 + hk) (q * 2 ^ 25) (2 ^ 27) ∙ ap (λ (z : ℕ). dist z (q * 2 ^ 25 * 2 ^ 27)) (omega arith) ∙ ap (λ (z : ℕ). dist (hs * 2 ^ 54 + hk * 2 ^ 27) z) (omega arith)
 
-      three : (hs hk ls q : ℕ) → dist (hs * 2 ^ 27 + hk + ls) (q * 2 ^ 25) * 2 ^ 27 ≡ dist (hs * 2 ^ 54 + hk * 2 ^ 27 + ls * 2 ^ 27) (q * 2 ^ 52)
-      three hs hk ls q = dist-mul (hs * 2 ^ 27 + hk + ls) (q * 2 ^ 25) (2 ^ 27) ∙ ap (λ (z : ℕ). dist z (q * 2 ^ 25 * 2 ^ 27)) (omega arith) ∙ ap (λ (z : ℕ). dist (hs * 2 ^ 54 + hk * 2 ^ 27 + ls * 2 ^ 27) z) (omega arith)
+      three : (hs hk ps ms q : ℕ) → dist (hs * 2 ^ 27 + hk + ps) (q * 2 ^ 25 + ms) * 2 ^ 27 ≡ dist (hs * 2 ^ 54 + hk * 2 ^ 27 + ps * 2 ^ 27) (q * 2 ^ 52 + ms * 2 ^ 27)
+      three hs hk ps ms q = dist-mul (hs * 2 ^ 27 + hk + ps) (q * 2 ^ 25 + ms) (2 ^ 27) ∙ ap (λ (z : ℕ). dist z ((q * 2 ^ 25 + ms) * 2 ^ 27)) (omega arith) ∙ ap (λ (z : ℕ). dist (hs * 2 ^ 54 + hk * 2 ^ 27 + ps * 2 ^ 27) z) (omega arith)
 
-      four : (hs hk ls mk q : ℕ) → dist (hs * 2 ^ 40 + hk * 2 ^ 13 + ls * 2 ^ 13 + mk) (q * 2 ^ 38) * 2 ^ 14 ≡ dist (hs * 2 ^ 54 + hk * 2 ^ 27 + ls * 2 ^ 27 + mk * 2 ^ 14) (q * 2 ^ 52)
-      four hs hk ls mk q = dist-mul (hs * 2 ^ 40 + hk * 2 ^ 13 + ls * 2 ^ 13 + mk) (q * 2 ^ 38) (2 ^ 14) ∙ ap (λ (z : ℕ). dist z (q * 2 ^ 38 * 2 ^ 14)) (omega arith) ∙ ap (λ (z : ℕ). dist (hs * 2 ^ 54 + hk * 2 ^ 27 + ls * 2 ^ 27 + mk * 2 ^ 14) z) (omega arith)
+      one-top : (hs hk ps ms pk mk q : ℕ) → hk ≤ 2 ^ 53 → ps ≤ 2 ^ 52 → ms ≤ 2 ^ 52 → pk ≤ 2 ^ 53 → mk ≤ 2 ^ 53 → q * 2 ^ 52 + (ms * 2 ^ 27 + mk) ≤ hs * 2 ^ 54 + hk * 2 ^ 27 + ps * 2 ^ 27 + pk + 2 ^ 53 → hs * 2 ^ 54 + hk * 2 ^ 27 + ps * 2 ^ 27 + pk ≤ q * 2 ^ 52 + (ms * 2 ^ 27 + mk) + 2 ^ 53 → dist (hs * 4) q ≤ 2 ^ 53
+      one-top hs hk ps ms pk mk q h i j k l d e = omega arith
 
-      one-top : (hs hk ls mk rk q : ℕ) → hk < 2 ^ 53 → ls ≤ (2 ^ 27 - 1) * (2 ^ 26 - 1) → mk * 2 ^ 14 + rk < 2 ^ 54 → q * 2 ^ 52 ≤ hs * 2 ^ 54 + hk * 2 ^ 27 + ls * 2 ^ 27 + mk * 2 ^ 14 + rk + 2 ^ 53 → hs * 2 ^ 54 + hk * 2 ^ 27 + ls * 2 ^ 27 + mk * 2 ^ 14 + rk ≤ q * 2 ^ 52 + 2 ^ 53 → dist (hs * 4) q ≤ 2 ^ 53
-      one-top hs hk ls mk rk q a b c d e = omega arith
+      two-top : (hs hk ps ms pk mk q : ℕ) → ps ≤ 2 ^ 52 → ms ≤ 2 ^ 52 → pk ≤ 2 ^ 53 → mk ≤ 2 ^ 53 → q * 2 ^ 52 + (ms * 2 ^ 27 + mk) ≤ hs * 2 ^ 54 + hk * 2 ^ 27 + ps * 2 ^ 27 + pk + 2 ^ 53 → hs * 2 ^ 54 + hk * 2 ^ 27 + ps * 2 ^ 27 + pk ≤ q * 2 ^ 52 + (ms * 2 ^ 27 + mk) + 2 ^ 53 → dist (hs * 2 ^ 27 + hk) (q * 2 ^ 25) ≤ 2 ^ 53
+      two-top hs hk ps ms pk mk q i j k l d e = omega arith
 
-      two-top : (hs hk ls mk rk q : ℕ) → ls ≤ (2 ^ 27 - 1) * (2 ^ 26 - 1) → mk * 2 ^ 14 + rk < 2 ^ 54 → q * 2 ^ 52 ≤ hs * 2 ^ 54 + hk * 2 ^ 27 + ls * 2 ^ 27 + mk * 2 ^ 14 + rk + 2 ^ 53 → hs * 2 ^ 54 + hk * 2 ^ 27 + ls * 2 ^ 27 + mk * 2 ^ 14 + rk ≤ q * 2 ^ 52 + 2 ^ 53 → dist (hs * 2 ^ 27 + hk) (q * 2 ^ 25) ≤ 2 ^ 53
-      two-top hs hk ls mk rk q b c d e = omega arith
+      three-top : (hs hk ps ms pk mk q : ℕ) → pk ≤ 2 ^ 53 → mk ≤ 2 ^ 53 → q * 2 ^ 52 + (ms * 2 ^ 27 + mk) ≤ hs * 2 ^ 54 + hk * 2 ^ 27 + ps * 2 ^ 27 + pk + 2 ^ 53 → hs * 2 ^ 54 + hk * 2 ^ 27 + ps * 2 ^ 27 + pk ≤ q * 2 ^ 52 + (ms * 2 ^ 27 + mk) + 2 ^ 53 → dist (hs * 2 ^ 27 + hk + ps) (q * 2 ^ 25 + ms) ≤ 2 ^ 53
+      three-top hs hk ps ms pk mk q k l d e = omega arith
 
-      three-top : (hs hk ls mk rk q : ℕ) → mk * 2 ^ 14 + rk < 2 ^ 54 → q * 2 ^ 52 ≤ hs * 2 ^ 54 + hk * 2 ^ 27 + ls * 2 ^ 27 + mk * 2 ^ 14 + rk + 2 ^ 53 → hs * 2 ^ 54 + hk * 2 ^ 27 + ls * 2 ^ 27 + mk * 2 ^ 14 + rk ≤ q * 2 ^ 52 + 2 ^ 53 → dist (hs * 2 ^ 27 + hk + ls) (q * 2 ^ 25) ≤ 2 ^ 53
-      three-top hs hk ls mk rk q c d e = omega arith
-
-      four-top : (hs hk ls mk rk q : ℕ) → mk * 2 ^ 14 + rk < 2 ^ 54 → q * 2 ^ 52 ≤ hs * 2 ^ 54 + hk * 2 ^ 27 + ls * 2 ^ 27 + mk * 2 ^ 14 + rk + 2 ^ 53 → hs * 2 ^ 54 + hk * 2 ^ 27 + ls * 2 ^ 27 + mk * 2 ^ 14 + rk ≤ q * 2 ^ 52 + 2 ^ 53 → dist (hs * 2 ^ 40 + hk * 2 ^ 13 + ls * 2 ^ 13 + mk) (q * 2 ^ 38) ≤ 2 ^ 53
-      four-top hs hk ls mk rk q c d e = omega arith
-
-      five : (x r y : ℕ) → y ≤ x + r + 2 ^ 53 → x + r ≤ y + 2 ^ 53 → dist (x + r) y ≤ 2 ^ 53
-      five x r y a b = omega arith
-
-in-bound : (x k g : ℕ) → x ≤ 2 ^ k → k + g ≤ 2080 → x * 2 ^ g ≤ bound
-unfolding bound
-in-bound x k g h l = le-trans (mul-le-mul-right (2 ^ g) h) (le-trans (le-of-eq (sym (pow-add 2 k g))) (pow-mono {i = k + g} {j = 2080} l))
+      four : (x r y m s : ℕ) → y + (m + s) ≤ x + r + 2 ^ 53 → x + r ≤ y + (m + s) + 2 ^ 53 → dist (x + r) (y + m + s) ≤ 2 ^ 53
+      four x r y m s a b = omega arith
 
 ex-ge : (n j : ℕ) → 2 ^ (53 + j) ≤ n → j < ex n
 ex-ge n j h = lt-of-not-le (λ (l : ex n ≤ j). not-le-of-lt (lt-of-lt-of-le (ex-lt n) (pow-mono {i = 53 + ex n} {j = 53 + j} (omega arith))) h)
@@ -248,12 +285,15 @@ module _ (x g : ℕ) (lo : 2 ^ 104 ≤ x) (hi : x < 2 ^ 106) where
       go : (y : ℕ) → dist y x ≤ dist (x / 2 ^ 53 * 2 ^ 53) x → x ≤ y + 2 ^ 53
       go y h = omega arith
 
--- ---- the two factors, cut
-pub record Cuts (h l m s k : ℕ) : Type 0 where
-  pub h-low : 2 ^ 25 ≤ h
-  pub h-top : h < 2 ^ 26
-  pub l-top : l < 2 ^ 13
-  pub m-top : m < 2 ^ 14
+-- ---- the two factors, cut: x is h * 2 ^ 27 + p - m, y is s * 2 ^ 27 + k
+pub record Cuts (x h p m s k : ℕ) : Type 0 where
+  pub x-low : 2 ^ 52 ≤ x
+  pub x-top : x < 2 ^ 53
+  pub x-is : x + m ≡ h * 2 ^ 27 + p
+  pub one : (p ≡ 0) ⊎ (m ≡ 0)
+  pub h-top : h ≤ 2 ^ 26
+  pub p-top : p ≤ 2 ^ 26
+  pub m-top : m ≤ 2 ^ 26
   pub s-low : 2 ^ 25 ≤ s
   pub s-top : s < 2 ^ 26
   pub k-top : k < 2 ^ 27
@@ -268,67 +308,69 @@ expand h l s k =
     ∙ ap (λ (z : ℕ). h * s * 2 ^ 54 + h * k * 2 ^ 27 + (z + l * k)) (sym (mul-assoc l s (2 ^ 27)))
     ∙ sym (add-assoc (h * s * 2 ^ 54 + h * k * 2 ^ 27) (l * s * 2 ^ 27) (l * k))
 
-last-part : (l m k : ℕ) → (l * 2 ^ 14 + m) * k ≡ l * k * 2 ^ 14 + m * k
-last-part l m k = add-mul (l * 2 ^ 14) m k ∙ ap (λ (z : ℕ). z + m * k) (mul-right-comm l (2 ^ 14) k)
+le-mul : (i j a b : ℕ) → a ≤ 2 ^ i → b ≤ 2 ^ j → a * b ≤ 2 ^ (i + j)
+le-mul i j a b h k = le-trans (mul-le-mul h k) (le-of-eq (sym (pow-add 2 i j)))
 
-module _ (h l m s k : ℕ) (C : Cuts h l m s k) where
-  abbrev u : ℕ
-  u = l * 2 ^ 14 + m
+module _ (x h p m s k : ℕ) (C : Cuts x h p m s k) where
+  abbrev y : ℕ
+  y = s * 2 ^ 27 + k
 
-  abbrev x : ℕ
-  x = (h * 2 ^ 27 + u) * (s * 2 ^ 27 + k)
+  abbrev z : ℕ
+  z = x * y
 
-  x-low : 2 ^ 104 ≤ x
-  x-low =
-      let v : 2 ^ 52 ≤ h * 2 ^ 27 + u = omega (arith, C .h-low) in
-      let w : 2 ^ 52 ≤ s * 2 ^ 27 + k = omega (arith, C .s-low) in
-      mul-le-mul v w
+  z-low : 2 ^ 104 ≤ z
+  z-low = let w : 2 ^ 52 ≤ y = omega (arith, C .s-low) in mul-le-mul (C .x-low) w
 
-  x-top : x < 2 ^ 106
-  x-top = mul-lt 53 53 (h * 2 ^ 27 + u) (s * 2 ^ 27 + k) (omega (arith, C .h-top, C .l-top, C .m-top)) (omega (arith, C .s-top, C .k-top))
+  pub z-top : z < 2 ^ 106
+  z-top = mul-lt 53 53 x y (C .x-top) (omega (arith, C .s-top, C .k-top))
 
-  u-top : u < 2 ^ 27
-  u-top = omega (arith, C .l-top, C .m-top)
+  z-is : z + (m * s * 2 ^ 27 + m * k) ≡ h * s * 2 ^ 54 + h * k * 2 ^ 27 + p * s * 2 ^ 27 + p * k
+  z-is =
+      ap (λ (w : ℕ). z + w) (ap (λ (w : ℕ). w + m * k) (mul-assoc m s (2 ^ 27)) ∙ sym (mul-add m (s * 2 ^ 27) k))
+      ∙ sym (add-mul x m y)
+      ∙ ap (λ (w : ℕ). w * y) (C .x-is)
+      ∙ expand h p s k
 
-  x-is : x ≡ h * s * 2 ^ 54 + h * k * 2 ^ 27 + u * s * 2 ^ 27 + l * k * 2 ^ 14 + m * k
-  x-is = expand h u s k ∙ ap (λ (z : ℕ). h * s * 2 ^ 54 + h * k * 2 ^ 27 + u * s * 2 ^ 27 + z) (last-part l m k) ∙ sym (add-assoc (h * s * 2 ^ 54 + h * k * 2 ^ 27 + u * s * 2 ^ 27) (l * k * 2 ^ 14) (m * k))
+  k-le : k ≤ 2 ^ 27
+  k-le = le-of-lt (C .k-top)
 
-  parts : (g : ℕ) → Parts (h * s) (h * k) (u * s) (l * k) (m * k) (q x g x-low x-top)
+  s-le : s ≤ 2 ^ 26
+  s-le = le-of-lt (C .s-top)
+
+  parts : (g : ℕ) → Parts (h * s) (h * k) (p * s) (m * s) (p * k) (m * k) (q z g z-low z-top)
   parts g = record {
-    hk-top = mul-lt 26 27 h k (C .h-top) (C .k-top);
-    ls-top = let v : u ≤ 2 ^ 27 - 1 = omega (arith, u-top) in let w : s ≤ 2 ^ 26 - 1 = omega (arith, C .s-top) in mul-le-mul v w;
-    lk-top = lt-of-le-of-lt (le-of-eq (sym (last-part l m k))) (mul-lt 27 27 u k u-top (C .k-top));
-    over = subst (λ (z : ℕ). q x g x-low x-top * 2 ^ 52 ≤ z + 2 ^ 53) x-is (near-over x g x-low x-top);
-    under = subst (λ (z : ℕ). z ≤ q x g x-low x-top * 2 ^ 52 + 2 ^ 53) x-is (near-under x g x-low x-top);
+    hk-top = le-mul 26 27 h k (C .h-top) k-le;
+    ps-top = le-mul 26 26 p s (C .p-top) s-le;
+    ms-top = le-mul 26 26 m s (C .m-top) s-le;
+    pk-top = le-mul 26 27 p k (C .p-top) k-le;
+    mk-top = le-mul 26 27 m k (C .m-top) k-le;
+    over = omega (arith, z-is, near-over z g z-low z-top);
+    under = omega (arith, z-is, near-under z g z-low z-top);
   }
 
   -- ---- the floats
-  module _ (n t : Bool) {a ah am b bh : Float} (i j g : ℕ) (E : i + j ≡ g + 1074) (G : g ≤ 1900)
-      (A : Rel n a ((h * 2 ^ 27 + u) * 2 ^ i) 0 1) (A' : Rel n ah (h * 2 ^ 27 * 2 ^ i) 0 1) (A'' : Rel n am ((h * 2 ^ 27 + l * 2 ^ 14) * 2 ^ i) 0 1)
-      (B : Rel t b ((s * 2 ^ 27 + k) * 2 ^ j) 0 1) (B' : Rel t bh (s * 2 ^ 27 * 2 ^ j) 0 1) where
-    abbrev p : Float
-    p = mul binary64 a b
+  module _ (n t : Bool) {a ah b bh : Float} (i j g : ℕ) (E : i + j ≡ g + 1074) (G : g ≤ 1900)
+      (A : Rel n a (x * 2 ^ i) 0 1) (A' : Rel n ah (h * 2 ^ 27 * 2 ^ i) 0 1) (B : Rel t b (y * 2 ^ j) 0 1) (B' : Rel t bh (s * 2 ^ 27 * 2 ^ j) 0 1) where
+    abbrev ab : Float
+    ab = mul binary64 a b
+
+    abbrev al : Float
+    al = sub binary64 a ah
 
     abbrev bl : Float
     bl = sub binary64 b bh
 
-    pub product-rounded : Rel (unlike n t) p (near (x * 2 ^ g)) 0 1
-    product-rounded = product-near n t (h * 2 ^ 27 + u) (s * 2 ^ 27 + k) i j g 1 1 E A B (in-bound x 106 g (le-of-lt x-top) (omega arith))
+    pub product-rounded : Rel (unlike n t) ab (near (z * 2 ^ g)) 0 1
+    product-rounded = product-near n t x y i j g 1 1 E A B (in-bound z 106 g (le-of-lt z-top) (omega arith))
 
     up-by : (v c e : ℕ) → v * 2 ^ c * 2 ^ e ≡ v * 2 ^ (c + e)
-    up-by v c e = mul-assoc v (2 ^ c) (2 ^ e) ∙ ap (λ (z : ℕ). v * z) (sym (pow-add 2 c e))
+    up-by v c e = mul-assoc v (2 ^ c) (2 ^ e) ∙ ap (λ (w : ℕ). v * w) (sym (pow-add 2 c e))
 
-    al-is : Rel n (sub binary64 a ah) (u * 2 ^ i) 0 2
-    al-is = part n (h * 2 ^ 27 + u) (h * 2 ^ 27) u i refl (omega (arith, u-top)) A A'
-
-    a1-is : Rel n (sub binary64 am ah) (l * 2 ^ (14 + i)) 0 2
-    a1-is = rel-eq (up-by l 14 i) (part n (h * 2 ^ 27 + l * 2 ^ 14) (h * 2 ^ 27) (l * 2 ^ 14) i refl (omega (arith, C .l-top)) A'' A')
-
-    a2-is : Rel n (sub binary64 a am) (m * 2 ^ i) 0 2
-    a2-is = part n (h * 2 ^ 27 + u) (h * 2 ^ 27 + l * 2 ^ 14) m i (omega arith) (omega (arith, C .m-top)) A A''
+    al-is : Rel n al (p * 2 ^ i) (m * 2 ^ i) 2
+    al-is = apart n x (h * 2 ^ 27) p m i (C .x-is) (omega (arith, C .p-top)) (omega (arith, C .m-top)) (C .one) A A'
 
     bl-is : Rel t bl (k * 2 ^ j) 0 2
-    bl-is = part t (s * 2 ^ 27 + k) (s * 2 ^ 27) k j refl (omega (arith, C .k-top)) B B'
+    bl-is = subst (λ (w : ℕ). Rel t bl (k * 2 ^ j) w 2) (zero-mul (2 ^ j)) (apart t y (s * 2 ^ 27) k 0 j (omega arith) (omega (arith, C .k-top)) (omega arith) (inr refl) B B')
 
     ah-is : Rel n ah (h * 2 ^ (27 + i)) 0 1
     ah-is = rel-eq (up-by h 27 i) A'
@@ -336,40 +378,34 @@ module _ (h l m s k : ℕ) (C : Cuts h l m s k) where
     bh-is : Rel t bh (s * 2 ^ (27 + j)) 0 1
     bh-is = rel-eq (up-by s 27 j) B'
 
-    down-by : (v c : ℕ) → v * 2 ^ (c + g) ≡ v * 2 ^ c * 2 ^ g
-    down-by v c = sym (up-by v c g)
-
     fits-in : (v c : ℕ) → v ≤ 2 ^ 53 → c ≤ 54 → v * 2 ^ (c + g) ≤ bound
     fits-in v c H K = in-bound v 53 (c + g) H (omega arith)
 
-    hs-le : h * s ≤ 2 ^ 53
-    hs-le = le-of-lt (lt-of-lt-of-le (mul-lt 26 26 h s (C .h-top) (C .s-top)) (pow-mono {i = 52} {j = 53} (omega arith)))
-
-    hk-le : h * k ≤ 2 ^ 53
-    hk-le = le-of-lt (mul-lt 26 27 h k (C .h-top) (C .k-top))
-
-    us-le : u * s ≤ 2 ^ 53
-    us-le = le-of-lt (mul-lt 27 26 u s u-top (C .s-top))
-
-    lk-le : l * k ≤ 2 ^ 53
-    lk-le = le-of-lt (lt-of-lt-of-le (mul-lt 13 27 l k (C .l-top) (C .k-top)) (pow-mono {i = 40} {j = 53} (omega arith)))
-
-    mk-le : m * k ≤ 2 ^ 53
-    mk-le = le-of-lt (lt-of-lt-of-le (mul-lt 14 27 m k (C .m-top) (C .k-top)) (pow-mono {i = 41} {j = 53} (omega arith)))
+    more : (v : ℕ) → v ≤ 2 ^ 52 → v ≤ 2 ^ 53
+    more v H = le-trans H (pow-mono {i = 52} {j = 53} (omega arith))
 
     abbrev error : Float
-    error = add binary64 (add binary64 (add binary64 (add binary64 (sub binary64 (mul binary64 ah bh) p) (mul binary64 ah bl)) (mul binary64 (sub binary64 a ah) bh)) (mul binary64 (sub binary64 am ah) bl)) (mul binary64 (sub binary64 a am) bl)
+    error = add binary64 (add binary64 (add binary64 (sub binary64 (mul binary64 ah bh) ab) (mul binary64 ah bl)) (mul binary64 al bh)) (mul binary64 al bl)
 
-    pub error-is : Rel (unlike n t) error (x * 2 ^ g) (near (x * 2 ^ g)) 6
+    pub error-is : Rel (unlike n t) error (z * 2 ^ g) (near (z * 2 ^ g)) 5
     error-is =
-        let r = q x g x-low x-top in
-        let e = nearest-is x g x-low x-top in
-        subst (λ (z : ℕ). Rel (unlike n t) error (x * 2 ^ g) z 6) (sym e)
-        (subst (λ (z : ℕ). Rel (unlike n t) error (z * 2 ^ g) (r * 2 ^ 52 * 2 ^ g) 6) (sym x-is)
-        (error-of-parts (unlike n t) g (h * s) (h * k) (u * s) (l * k) (m * k) r (parts g)
-        (rel-eq (down-by (h * s) 54) (product-exact n t h s (27 + i) (27 + j) (54 + g) 1 1 (omega arith) ah-is bh-is hs-le (fits-in (h * s) 54 hs-le (omega arith))))
-        (rel-eq (down-by (h * k) 27) (product-exact n t h k (27 + i) j (27 + g) 1 2 (omega arith) ah-is bl-is hk-le (fits-in (h * k) 27 hk-le (omega arith))))
-        (rel-eq (down-by (u * s) 27) (product-exact n t u s i (27 + j) (27 + g) 2 1 (omega arith) al-is bh-is us-le (fits-in (u * s) 27 us-le (omega arith))))
-        (rel-eq (down-by (l * k) 14) (product-exact n t l k (14 + i) j (14 + g) 2 2 (omega arith) a1-is bl-is lk-le (fits-in (l * k) 14 lk-le (omega arith))))
-        (product-exact n t m k i j g 2 2 E a2-is bl-is mk-le (in-bound (m * k) 53 g mk-le (omega arith)))
+        let r = q z g z-low z-top in
+        let e = nearest-is z g z-low z-top in
+        let P = parts g in
+        let hs = more (h * s) (le-mul 26 26 h s (C .h-top) s-le) in
+        subst (λ (w : ℕ). Rel (unlike n t) error (z * 2 ^ g) w 5) (sym e)
+        (rel-as (unlike n t) (z * 2 ^ g) (r * 2 ^ 52 * 2 ^ g) (level z (h * s * 2 ^ 54 + h * k * 2 ^ 27 + p * s * 2 ^ 27 + p * k) (m * s * 2 ^ 27) (m * k) (r * 2 ^ 52) (2 ^ g) z-is)
+        (error-of-parts (unlike n t) g (h * s) (h * k) (p * s) (m * s) (p * k) (m * k) r P
+        (rel-eq (sym (up-by (h * s) 54 g)) (product-exact n t h s (27 + i) (27 + j) (54 + g) 1 1 (omega arith) ah-is bh-is hs (fits-in (h * s) 54 hs (omega arith))))
+        (rel-eq (sym (up-by (h * k) 27 g)) (product-exact n t h k (27 + i) j (27 + g) 1 2 (omega arith) ah-is bl-is (P .hk-top) (fits-in (h * k) 27 (P .hk-top) (omega arith))))
+        (subst (λ (w : ℕ). Rel (unlike n t) (mul binary64 al bh) w (m * s * 2 ^ 27 * 2 ^ g) 1) (sym (up-by (p * s) 27 g))
+        (subst (λ (w : ℕ). Rel (unlike n t) (mul binary64 al bh) (p * s * 2 ^ (27 + g)) w 1) (sym (up-by (m * s) 27 g))
+        (product-either n t p m s i (27 + j) (27 + g) 2 1 (omega arith) (C .one) al-is bh-is (more (p * s) (P .ps-top)) (more (m * s) (P .ms-top)) (omega arith))))
+        (product-either n t p m k i j g 2 2 E (C .one) al-is bl-is (P .pk-top) (P .mk-top) (omega arith))
         (rel-eq e product-rounded)))
+      where
+        level : (z x a b y u : ℕ) → z + (a + b) ≡ x → x * u + y * u ≡ z * u + (y + a + b) * u
+        level z x a b y u e = sym (add-mul x y u) ∙ ap (λ (w : ℕ). w * u) (rearrange e) ∙ add-mul z (y + a + b) u
+          where
+            rearrange : z + (a + b) ≡ x → x + y ≡ z + (y + a + b)
+            rearrange e = omega arith

@@ -168,14 +168,20 @@ module _ {x y : Float} {a b c d : ℕ} (X : Is x a b 1) (Y : Is y c d 1) (A : Sh
   sum-near = add-near X Y 1 (le-trans (dist-add a b c d) (omega (arith, X .small, Y .small))) (omega arith)
 
   -- where s - x is short
+  first-is : Short (dist (p + b) (q + a)) → Is v (p + b) (q + a) 3
+  first-is F = sub-exact sum-near X F (omega arith)
+
+  left-is : Short (dist (p + b) (q + a)) → Short (dist (p + m) (q + n)) → Is (sub binary64 y v) (n + q) (m + p) 4
+  left-is F R =
+      relabel (n + q) (m + p) (omega arith)
+      (sub-exact Y (first-is F) (short-as (q + n) (p + m) (c + (q + a)) (d + (p + b)) (omega arith) (subst Short (dist-comm (p + m) (q + n)) R)) (omega arith))
+
   by-first : Short (dist (p + b) (q + a)) → Short (dist (p + m) (q + n)) → Is t (n + q) (m + p) 10
   by-first F R =
-      let W : Is v (p + b) (q + a) 3 = sub-exact sum-near X F (omega arith) in
-      let Z : Is (sub binary64 s v) (p + (q + a)) (q + (p + b)) 5 = sub-exact sum-near W (short-as a b (p + (q + a)) (q + (p + b)) (omega arith) A) (omega arith) in
+      let Z : Is (sub binary64 s v) (p + (q + a)) (q + (p + b)) 5 = sub-exact sum-near (first-is F) (short-as a b (p + (q + a)) (q + (p + b)) (omega arith) A) (omega arith) in
       let D : Is (sub binary64 x (sub binary64 s v)) (a + (q + (p + b))) (b + (p + (q + a))) 6 = sub-exact X Z (short-zero (a + (q + (p + b))) (b + (p + (q + a))) (omega arith)) (omega arith) in
-      let E : Is (sub binary64 y v) (c + (q + a)) (d + (p + b)) 4 = sub-exact Y W (short-as (q + n) (p + m) (c + (q + a)) (d + (p + b)) (omega arith) (subst Short (dist-comm (p + m) (q + n)) R)) (omega arith) in
       relabel (n + q) (m + p) (omega arith)
-      (add-exact D E (short-as (q + n) (p + m) (a + (q + (p + b)) + (c + (q + a))) (b + (p + (q + a)) + (d + (p + b))) (omega arith) (subst Short (dist-comm (p + m) (q + n)) R)) (omega arith))
+      (add-exact D (left-is F R) (short-as (q + n) (p + m) (a + (q + (p + b)) + (n + q)) (b + (p + (q + a)) + (m + p)) (omega arith) (subst Short (dist-comm (p + m) (q + n)) R)) (omega arith))
 
   -- where s - x is rounded once more
   abbrev u : ℕ
@@ -244,3 +250,7 @@ module _ {x y : Float} {a b c d : ℕ} (X : Is x a b 1) (Y : Is y c d 1) (A : Sh
       go : Dec (dist c d ≤ dist a b) → Is t (n + q) (m + p) 12
       go (yes h) = let F = fast a b c d A C h in widen (by-first (F .first) (F .rest))
       go (no h) = small (le-of-lt (lt-of-not-le h)) (decLe (2 ^ (53 + ex (dist a b))) (dist n m))
+
+  -- Dekker's, where x is not the smaller one
+  pub ordered-error-is : dist c d ≤ dist a b → Is (sub binary64 y v) (n + q) (m + p) 12
+  ordered-error-is h = let F = fast a b c d A C h in let E = left-is (F .first) (F .rest) in record { sign = E .sign; size = E .size; value = E .value; pair = E .pair; small = le-trans (E .small) (omega arith) }
