@@ -26,6 +26,7 @@ pub mod Greatest
 pub mod Isqrt
 pub mod SqrtNearest
 pub mod FmaOne
+pub mod Halving
 pub mod Finite
 pub mod Inverse
 -- Eight numbers side by side.

@@ -243,11 +243,23 @@ fn series(z: f64) -> f64
     series_terms(z2, y, 1.0 / (15.0 * z2 * z2 * z))
 }
 
+// −(h² + t²) / 2 with the first product and the sum rounded once. Half of h² is exact from 1 on, and
+// then a plain sum does it.
+fn exponent(h: f64, t: f64) -> f64
+    ensures { λ r. ⌜ r ≡ mulAdd (neg half) (h ⊗ h) (neg half ⊗ t ⊗ t) ⌝ }
+{
+    let square = h * h;
+    if 1.0 <= square {
+        return -0.5 * square + -0.5 * t * t;
+    }
+    mul_add(-0.5, square, -0.5 * t * t)
+}
+
 pub(crate) fn asymptotic(h: f64, t: f64) -> f64
     ensures { λ r. ⌜ r ≡ asymptoticInner h t ⌝ }
 {
     let diff_y = series(h + t) - series(h - t);
-    let exp_term = exp(mul_add(-0.5, h * h, -0.5 * t * t));
+    let exp_term = exp(exponent(h, t));
     abs(exp_term * diff_y / SQRT_2PI)
 }
 

@@ -21,42 +21,10 @@ use lib.Ieee.Compare.{nan-differs, differs-from-itself}
 use borrow.Author.Tests.{ltb-false, le-ltb}
 use Rattle.elementary.specs.Ops.{half, two}
 use Rattle.elementary.specs.Methods.{signOf, maxOf}
-use Rattle.elementary.proofs.Laws.Held.{holds}
+use Rattle.elementary.proofs.Laws.Halving.{half-exact, minus-half-is}
 use Rattle.solver.proofs.Laws.Bracket.{lt-irrefl as float-lt-irrefl}
 use Rattle.solver.specs.Step.{atLeastHalf}
 use Rattle.solver.specs.Promises.Demand3.{least}
-
--- ---- s / 2 is exact
-
-half-power : (e : ℤ) → down e < 2 ^ 1074 → (j : ℕ) × (2 ^ j * (2 * down e) ≡ up e * 2 ^ 1074)
-half-power (pos k) h = (k + 1073, rw (pow-add 2 k 1073, mul-assoc))
-half-power (negsuc k) h = go (decLe (suc k) 1073)
-  where
-    go : Dec (suc k ≤ 1073) → (j : ℕ) × (2 ^ j * (2 * 2 ^ suc k) ≡ 1 * 2 ^ 1074)
-    go (yes a) =
-        let b : 1073 - suc k + suc k ≡ 1073 = omega arith in
-        (1073 - suc k, rw (mul-left-comm, ← pow-add 2 (1073 - suc k) (suc k), b))
-    go (no a) = absurd (lt-irrefl _ (lt-of-lt-of-le h (pow-mono {i = 1074} {j = suc k} (omega arith))))
-
-format-facts : (m : ℕ) (e : ℤ) → T (fits binary64 (fin false m e)) → (m < 2 ^ 53) × (m * up e < 2 ^ 1024 * down e)
-format-facts zero e h = (lit< tt, rw zero-mul (mul-pos (pow-pos 1024) (down-pos e)))
-format-facts (suc m) e h = let d = holds binary64 false m e h in (d .0, d .2)
-
-deep : (m : ℕ) (e : ℤ) → m < 2 ^ 53 → down e ≤ m * up e * 2 ^ 1021 → down e < 2 ^ 1074
-deep m (pos k) s h = lit< tt
-deep m (negsuc k) s h = lt-of-le-of-lt h (rw mul-one (mul-lt-mul-of-pos-right s (pow-pos 1021)))
-
-widen : (a b d : ℕ) → a * d * b ≤ a * b * (2 * d)
-widen a b d = rw (mul-right-comm a d b) (mul-le-mul-left (a * b) (omega arith))
-
-exact : (m : ℕ) (e : ℤ) → T (fits binary64 (fin false m e)) → down e ≤ m * up e * 2 ^ 1021
-    → (t : Bool) → HasValue (round binary64 t (m * up e) (2 * down e)) t (m * up e) (2 * down e)
-exact m e fit large t =
-    let f = format-facts m e fit in
-    let j = half-power e (deep m e (f .0) large) in
-    let p : m * up e * 2 ^ 1074 ≡ m * 2 ^ j .0 * (2 * down e) = rw (mul-assoc m (up e) (2 ^ 1074), mul-assoc m (2 ^ j .0) (2 * down e), j .1) in
-    let under : m * 2 ^ j .0 * (2 * down e) < 2 ^ 1024 * 2 ^ 1074 * (2 * down e) = rw (← p) (lt-of-lt-of-le (mul-lt-mul-of-pos-right (f .1) (pow-pos 1074)) (widen (2 ^ 1024) (2 ^ 1074) (down e))) in
-    round-exact binary64 t (m * up e) (2 * down e) m (j .0) (omega (arith, down-pos e)) (f .0) (lt-of-mul-lt-mul-right (2 * down e) under) p
 
 -- ---- what the step adds is at least -s / 2
 
@@ -66,10 +34,6 @@ minus-half = neg half
 half-is : (m : ℕ) (e : ℤ) → div binary64 (fin false m e) two ≡ round binary64 false (m * up e) (2 * down e)
 unfolding div ofBits
 half-is m e = rw mul-one
-
-minus-is : (m : ℕ) (e : ℤ) → mul binary64 minus-half (fin false m e) ≡ round binary64 true (m * up e) (2 * down e)
-unfolding mul ofBits neg
-minus-is m e = rw one-mul
 
 le-top : (x : Float) (a c : ℕ) → HasValue x false a c → T (le x (inf false))
 unfolding le
@@ -148,9 +112,9 @@ leaves-half (fin false m e) ds f n l =
     let q = subst T (sym l) tt in
     let p = above-of-le least s tt q in
     let large : down e ≤ m * up e * 2 ^ 1021 = rw one-mul at (le→cross least s tt p q) in
-    let half = exact m e f large false in
+    let half = half-exact m e f large false in
     let h = mul binary64 minus-half s in
-    let v : HasValue h true (m * up e) (2 * down e) = rw (minus-is m e) (exact m e f large true) in
+    let v : HasValue h true (m * up e) (2 * down e) = rw (minus-half-is m e) (half-exact m e f large true) in
     let number = is-number h true (m * up e) (2 * down e) v in
     is-true _ (rw (half-is m e)
     (⊎-elim

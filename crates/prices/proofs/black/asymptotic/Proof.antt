@@ -11,8 +11,8 @@ series-requires c κs = search needs
 series-requires-2 : tie.Need-series-requires-2
 series-requires-2 c κs = search needs
 
-mul-add-requires : tie.Need-mul-add-requires
-mul-add-requires c κs = search needs
+exponent-requires : tie.Need-exponent-requires
+exponent-requires c κs = search needs
 
 exp-requires : tie.Need-exp-requires
 exp-requires c κs = search needs
@@ -22,9 +22,9 @@ abs-requires c κs = search needs
 
 returns : tie.Need-returns
 unfolding asymptoticInner
-returns c = c .abs .ensures ∙ rw (c .before .exp .ensures, c .before .before .mul-add .ensures, c .before .before .before .series2 .ensures, c .before .before .before .before .series .ensures)
+returns c = c .abs .ensures ∙ rw (c .before .exp .ensures, c .before .before .exponent .ensures, c .before .before .before .series2 .ensures, c .before .before .before .before .series .ensures)
 
 pub asymptotic-spec : {M : Type 1} → statement M
 asymptotic-spec =
     tie.close
-    (tie.spec series-requires series-requires-2 mul-add-requires exp-requires abs-requires returns)
+    (tie.spec series-requires series-requires-2 exponent-requires exp-requires abs-requires returns)
