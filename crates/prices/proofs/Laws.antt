@@ -1,4 +1,6 @@
 -- Laws, by subject. Nobody has to believe them: each is proved.
+pub mod Flags
+pub mod Sizes
 pub mod Refusals
 pub mod Exponentials
 pub mod Recursion

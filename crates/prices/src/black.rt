@@ -4,6 +4,7 @@ use crate::answer::Answer;
 use crate::inputs::OptionType;
 use crate::intrinsic::normalised_intrinsic;
 use crate::refusals;
+use crate::small_t::small_t;
 use elementary::cody::erfc_under;
 use elementary::cody::erfcx;
 use elementary::exp::exp;
@@ -14,7 +15,6 @@ use elementary::ln::ln;
 use elementary::methods::abs;
 use elementary::methods::max;
 use elementary::mul_add::mul_add;
-use elementary::mul_add::mul_add_whole;
 use elementary::rule_set::RULE_SET_0;
 use elementary::rule_set::RuleSet;
 use elementary::sqrt::sqrt;
@@ -22,10 +22,10 @@ ghost use mathlib.Core.Path.{_≡_};
 ghost use mathlib.Core.Bool.{not, cond, _&&_};
 ghost use lib.Ieee.{neg};
 ghost use Rattle.elementary.specs.RuleSets.{rule-set-0};
-ghost use Rattle.elementary.specs.Ops.{_⊕_, _⊗_, +0, half, one, mulAdd};
+ghost use Rattle.elementary.specs.Ops.{_⊗_, +0, half, one};
 ghost use Rattle.elementary.specs.Methods.{maxOf};
 ghost use Rattle.elementary.specs.Exp.{expOf};
-ghost use Rattle.prices.specs.Black.{bell as bellOf, hornerStep, term1 as term1Of, term2 as term2Of, term3 as term3Of, term4 as term4Of, term5 as term5Of, term6 as term6Of, taylorOf, smallTInner, smallTOf, seriesTerms, seriesOf, asymptoticInner, asymptoticOf, usingErfcxOf, codysOf, isOutsideAsymptoticRegion, isAsymptotic, regionOf, outOfTheMoney, plus as plusOf, callAt, callOf, normalisedBlackOf, isPositiveNormal, isFinite, priceFromNormalised, priceOf, blackAt, blackOf};
+ghost use Rattle.prices.specs.Black.{bell as bellOf, smallTOf, seriesTerms, seriesOf, asymptoticInner, asymptoticOf, usingErfcxOf, codysOf, isOutsideAsymptoticRegion, isAsymptotic, regionOf, outOfTheMoney, plus as plusOf, callAt, callOf, normalisedBlackOf, isPositiveNormal, isFinite, priceFromNormalised, priceOf, blackAt, blackOf};
 ghost use Rattle.prices.specs.Inside.Exponentials.{twoBWith};
 
 // The threshold of the asymptotic expansion, and H_LARGE.
@@ -38,9 +38,7 @@ pub(crate) const SMALL_T: f64 = 0.21132486540518713;
 
 pub(crate) const MINUS_FRAC_1_SQRT_2: f64 = -0.7071067811865476;
 
-const SQRT_2PI: f64 = 2.5066282746310002;
-
-const ONE_OVER_SQRT_TWO_PI: f64 = 0.3989422804014327;
+pub(crate) const SQRT_2PI: f64 = 2.5066282746310002;
 
 // exp(−(h² + t²) / 2).
 pub(crate) fn bell(h: f64, t: f64) -> f64
@@ -114,96 +112,7 @@ pub fn normalised_black_call_with_optimal_use_of_codys_functions(x: f64, s: f64)
     normalised_black_call_with_optimal_use_of_codys_functions_under(RULE_SET_0, x, s)
 }
 
-// ---- the Taylor sum for a small t
-
-// The innermost bracket of a Horner sum in h².
-fn innermost(a: f64, h2: f64, c: f64) -> f64
-    ensures { λ r. ⌜ r ≡ mulAdd a (h2 ⊕ c) (neg one) ⌝ }
-{
-    mul_add(a, h2 + c, -1.0)
-}
-
-// One step further out.
-fn horner_step(a: f64, h2: f64, sum: f64, p: u32, q: u32) -> f64
-    ensures { λ r. ⌜ r ≡ hornerStep a h2 sum p q ⌝ }
-{
-    mul_add(h2, sum, mul_add_whole(a, p, q))
-}
-
-fn term1(a: f64, h2: f64) -> f64
-    ensures { λ r. ⌜ r ≡ term1Of a h2 ⌝ }
-{
-    innermost(a, h2, 3.0) / 6.0
-}
-
-fn term2(a: f64, h2: f64) -> f64
-    ensures { λ r. ⌜ r ≡ term2Of a h2 ⌝ }
-{
-    horner_step(a, h2, innermost(a, h2, 10.0), 15, 7) / 120.0
-}
-
-fn term3(a: f64, h2: f64) -> f64
-    ensures { λ r. ⌜ r ≡ term3Of a h2 ⌝ }
-{
-    let sum = horner_step(a, h2, innermost(a, h2, 21.0), 105, 18);
-    horner_step(a, h2, sum, 105, 57) / 5040.0
-}
-
-fn term4(a: f64, h2: f64) -> f64
-    ensures { λ r. ⌜ r ≡ term4Of a h2 ⌝ }
-{
-    let sum = horner_step(a, h2, innermost(a, h2, 36.0), 378, 33);
-    let sum = horner_step(a, h2, sum, 1260, 285);
-    horner_step(a, h2, sum, 945, 561) / 362880.0
-}
-
-fn term5(a: f64, h2: f64) -> f64
-    ensures { λ r. ⌜ r ≡ term5Of a h2 ⌝ }
-{
-    let sum = horner_step(a, h2, innermost(a, h2, 55.0), 990, 52);
-    let sum = horner_step(a, h2, sum, 6930, 840);
-    let sum = horner_step(a, h2, sum, 17325, 4680);
-    horner_step(a, h2, sum, 10395, 6555) / 39916800.0
-}
-
-fn term6(a: f64, h2: f64) -> f64
-    ensures { λ r. ⌜ r ≡ term6Of a h2 ⌝ }
-{
-    let sum = horner_step(a, h2, innermost(a, h2, 78.0), 2145, 75);
-    let sum = horner_step(a, h2, sum, 25740, 1926);
-    let sum = horner_step(a, h2, sum, 135135, 20370);
-    let sum = horner_step(a, h2, sum, 270270, 82845);
-    horner_step(a, h2, sum, 135135, 89055) / 6227020800.0
-}
-
-// The terms by the powers of t², from the smallest.
-fn taylor(a: f64, h2: f64, t2: f64) -> f64
-    ensures { λ r. ⌜ r ≡ taylorOf a h2 t2 ⌝ }
-{
-    let t4 = t2 * t2;
-    let t6 = t4 * t2;
-    let t8 = t4 * t4;
-    let t10 = t6 * t4;
-    let t12 = t6 * t6;
-    let sum = mul_add(term5(a, h2), t10, term6(a, h2) * t12);
-    let sum = mul_add(term4(a, h2), t8, sum);
-    let sum = mul_add(term3(a, h2), t6, sum);
-    let sum = mul_add(term2(a, h2), t4, sum);
-    let sum = mul_add(term1(a, h2), t2, sum);
-    // a.mul_add(1.0, sum) of the Rust is the plain sum.
-    a + sum
-}
-
-pub(crate) fn small_t(h: f64, t: f64, exp_term: f64) -> f64
-    requires { ⌜ «exp_term» ≡ bellOf h t ⌝ }
-    ensures { λ r. ⌜ r ≡ smallTInner h t ⌝ }
-{
-    let t2 = t * t;
-    let h2 = h * h;
-    let a = 1.0 + h * (0.5 * SQRT_2PI) * erfcx(MINUS_FRAC_1_SQRT_2 * h);
-    let y_diff = 2.0 * t * taylor(a, h2, t2);
-    max(ONE_OVER_SQRT_TWO_PI * exp_term * y_diff, 0.0)
-}
+// ---- the expansion for a small t
 
 pub fn small_t_expansion_of_normalised_black_call(h: f64, t: f64) -> Answer
     ensures { λ r. ⌜ r ≡ smallTOf h t ⌝ }

@@ -5,6 +5,7 @@ pub mod answer; // what may be refused
 pub mod refusals; // document 01's numbers
 pub mod intrinsic; // intrinsic.rs
 pub mod vega; // `normalised_vega` of so_rational.rs
+mod small_t; // the expansion of black.rs for a small t
 pub mod black; // black.rs, and `black` of mod.rs
 pub mod point; // price and vega of one s
 pub mod rational_cubic; // rational_cubic.rs

@@ -1,9 +1,9 @@
--- `black::term2` meets its contract: the steps one after another. Assumes nothing.
+-- `small_t::term2` meets its contract: the steps one after another. Assumes nothing.
 use lib.Ieee.{ofBits, ofInt}
 use Rattle.prices.specs.Black.{term2}
 use borrow.Author.Needs.{needs}
-use Rattle.prices.proofs.black.term2.Statement.{statement}
-use Rattle.prices.proofs.black.term2.Tie as tie
+use Rattle.prices.proofs.small_t.term2.Statement.{statement}
+use Rattle.prices.proofs.small_t.term2.Tie as tie
 
 innermost-requires : tie.Need-innermost-requires
 innermost-requires c κs = search needs

@@ -1,9 +1,9 @@
--- `black::term6` meets its contract: the steps one after another. Assumes nothing.
+-- `small_t::term6` meets its contract: the steps one after another. Assumes nothing.
 use lib.Ieee.{ofBits, ofInt}
 use Rattle.prices.specs.Black.{term6}
 use borrow.Author.Needs.{needs}
-use Rattle.prices.proofs.black.term6.Statement.{statement}
-use Rattle.prices.proofs.black.term6.Tie as tie
+use Rattle.prices.proofs.small_t.term6.Statement.{statement}
+use Rattle.prices.proofs.small_t.term6.Tie as tie
 
 innermost-requires : tie.Need-innermost-requires
 innermost-requires c κs = search needs

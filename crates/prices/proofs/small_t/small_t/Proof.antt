@@ -1,9 +1,9 @@
--- `black::small_t` meets its contract: each call is its definition. Assumes nothing.
+-- `small_t::small_t` meets its contract: each call is its definition. Assumes nothing.
 use mathlib.Core.Path.{_∙_}
 use Rattle.prices.specs.Black.{smallTInner}
 use borrow.Author.Needs.{needs}
-use Rattle.prices.proofs.black.small_t.Statement.{statement}
-use Rattle.prices.proofs.black.small_t.Tie as tie
+use Rattle.prices.proofs.small_t.small_t.Statement.{statement}
+use Rattle.prices.proofs.small_t.small_t.Tie as tie
 
 erfcx-requires : tie.Need-erfcx-requires
 erfcx-requires c κs = search needs

@@ -1,10 +1,10 @@
--- `black::taylor` meets its contract: each call is its definition, and `fma` by 1 is the last sum. Assumes nothing.
+-- `small_t::taylor_by_mul_add` meets its contract: each call is its definition, and `fma` by 1 is the last sum. Assumes nothing.
 use mathlib.Core.Path.{sym, _∙_}
 use Rattle.elementary.proofs.Laws.FmaOne.{fma-one}
 use Rattle.prices.specs.Black.{taylorOf}
 use borrow.Author.Needs.{needs}
-use Rattle.prices.proofs.black.taylor.Statement.{statement}
-use Rattle.prices.proofs.black.taylor.Tie as tie
+use Rattle.prices.proofs.small_t.taylor_by_mul_add.Statement.{statement}
+use Rattle.prices.proofs.small_t.taylor_by_mul_add.Tie as tie
 
 term5-requires : tie.Need-term5-requires
 term5-requires c κs = search needs
@@ -43,8 +43,8 @@ returns : tie.Need-returns
 unfolding taylorOf
 returns c = sym (fma-one _ _) ∙ rw (c .mul-add5 .ensures, c .before .term1 .ensures, c .before .before .mul-add4 .ensures, c .before .before .before .term2 .ensures, c .before .before .before .before .mul-add3 .ensures, c .before .before .before .before .before .term3 .ensures, c .before .before .before .before .before .before .mul-add2 .ensures, c .before .before .before .before .before .before .before .term4 .ensures, c .before .before .before .before .before .before .before .before .mul-add .ensures, c .before .before .before .before .before .before .before .before .before .term6 .ensures, c .before .before .before .before .before .before .before .before .before .before .term5 .ensures)
 
-pub taylor-spec : {M : Type 1} → statement M
-taylor-spec =
+pub taylor-by-mul-add-spec : {M : Type 1} → statement M
+taylor-by-mul-add-spec =
     tie.close
     (tie.spec
     term5-requires

@@ -1,9 +1,9 @@
--- `black::term1` meets its contract. Assumes nothing.
+-- `small_t::term1` meets its contract. Assumes nothing.
 use lib.Ieee.{ofBits, ofInt}
 use Rattle.prices.specs.Black.{term1}
 use borrow.Author.Needs.{needs}
-use Rattle.prices.proofs.black.term1.Statement.{statement}
-use Rattle.prices.proofs.black.term1.Tie as tie
+use Rattle.prices.proofs.small_t.term1.Statement.{statement}
+use Rattle.prices.proofs.small_t.term1.Tie as tie
 
 innermost-requires : tie.Need-innermost-requires
 innermost-requires c κs = search needs

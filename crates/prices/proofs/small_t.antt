@@ -1,0 +1,2 @@
+-- Laws that the proofs of small_t use.
+mod Filling
