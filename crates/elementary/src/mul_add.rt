@@ -10,15 +10,14 @@ use crate::round::round_signed;
 use crate::round::shift_left;
 use crate::round::shift_right;
 ghost use mathlib.Core.Path.{_≡_};
-ghost use mathlib.Core.Bool.{true, _&&_};
+ghost use mathlib.Core.Bool.{_&&_};
 ghost use Prim.Native.Nat.{_+_, _-_, _*_, _/_, _%_, _^_, _<_, _≤_};
 ghost use lib.Dec.{T, leb};
-ghost use lib.Ieee.{binary64, neg as negated, sum};
+ghost use lib.Ieee.{binary64, sum};
 ghost use lib.Ieee.Scale as Scale;
-ghost use Rattle.elementary.specs.Ops.{float};
 ghost use Rattle.elementary.specs.Inside.Round.{wide, SameZero, Digits};
 ghost use Rattle.elementary.specs.MulAdd.{fma};
-ghost use Rattle.elementary.specs.Inside.MulAdd.{SumNear, SumFar, SumOrdered, SumWide, CanSplit};
+ghost use Rattle.elementary.specs.Inside.MulAdd.{SumNear, SumFar, SumOrdered, SumWide};
 
 // The product of two numbers of at most 53 digits.
 fn product(a: u64, b: u64) -> Wide
@@ -251,49 +250,5 @@ pub fn mul_add(a: f64, b: f64, c: f64) -> f64
         if is_finite(c) { fma_finite(a, b, c) } else { c }
     } else {
         a * b + c
-    }
-}
-
-// Whether `split` serves: a is from 2^-12 to 2, and p and q have at most 19 digits.
-fn can_split(a: f64, p: u32, q: u32) -> bool
-    ensures { λ r. ⌜ (r ≡ true → CanSplit a p q) ⌝ }
-{
-    if p >= 0x8_0000 {
-        return false;
-    }
-    if q >= 0x8_0000 {
-        return false;
-    }
-    if a != a {
-        return false;
-    }
-    let b = f64::to_bits(a);
-    if b < 0x3f30_0000_0000_0000 {
-        false
-    } else {
-        b < 0x4000_0000_0000_0000
-    }
-}
-
-// a * p - q for an a of two parts: without its 31 lowest digits, and these. Both products and the
-// difference are exact, so that only the last sum rounds.
-fn split(a: f64, p: u32, q: u32) -> f64
-    requires { ⌜ CanSplit a p q ⌝ }
-    ensures { λ r. ⌜ r ≡ fma binary64 a (float p) (negated (float q)) ⌝ }
-{
-    let b = f64::to_bits(a);
-    let high = f64::from_bits(b - b % 0x8000_0000);
-    let f = p as f64;
-    high * f - q as f64 + (a - high) * f
-}
-
-// a * p - q, rounded once: `mul_add` for whole numbers.
-pub fn mul_add_whole(a: f64, p: u32, q: u32) -> f64
-    ensures { λ r. ⌜ r ≡ fma binary64 a (float p) (negated (float q)) ⌝ }
-{
-    if can_split(a, p, q) {
-        split(a, p, q)
-    } else {
-        mul_add(a, p as f64, -(q as f64))
     }
 }

@@ -16,8 +16,7 @@ ghost use lib.Ieee.{binary64, toBits, neg, lt};
 ghost use lib.Ieee.Scale.{finite};
 ghost use Rattle.elementary.specs.Ops.{_⊕_, _⊘_, bits, float, one, mulAdd};
 ghost use Rattle.elementary.specs.Inside.Bounds.{Over};
-ghost use Rattle.elementary.specs.Inside.Errors.{InRange, productError, Certain};
-ghost use Rattle.elementary.specs.Inside.MulAdd.{CanSplit};
+ghost use Rattle.elementary.specs.Inside.Errors.{InRange, productError, Certain, CanSplit};
 ghost use Rattle.prices.specs.Black.{bell as bellOf, innermost as innermostOf, hornerStep, term1 as term1Of, term2 as term2Of, term3 as term3Of, term4 as term4Of, term5 as term5Of, term6 as term6Of, taylorOf, smallTInner};
 ghost use Rattle.prices.specs.Inside.SmallT.{Within, Grows, InRanges, Filled};
 

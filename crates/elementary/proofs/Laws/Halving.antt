@@ -4,7 +4,7 @@ use mathlib.Core.Bool.{Bool, true, false}
 use Prim.Native.Nat.{ℕ, zero, suc, _+_, _-_, _*_, _^_, _≤_, _<_}
 use native.Mathlib.Omega.{arith}
 use native.Mathlib.Decide.{decLe}
-use native.Mathlib.Nat.{mul-assoc, mul-comm, mul-left-comm, mul-right-comm, one-mul, mul-one, zero-mul, mul-pos, mul-lt-mul-of-pos-right, le-trans, le-of-eq, lt-of-lt-of-le, lt-of-mul-lt-mul-right, lt-of-le-of-lt, lt-irrefl, mul-le-mul-left}
+use native.Mathlib.Nat.{mul-assoc, mul-left-comm, mul-right-comm, one-mul, mul-one, zero-mul, mul-pos, mul-lt-mul-of-pos-right, le-trans, le-of-eq, lt-of-lt-of-le, lt-of-mul-lt-mul-right, lt-of-le-of-lt, lt-irrefl, mul-le-mul-left}
 use lib.Dec.{T, lit<}
 use lib.Pow.{pow-add, pow-mono, pow-pos}
 use lib.IntN.{ℤ, pos, negsuc}

@@ -1,7 +1,9 @@
 -- Sums and products of floats with what rounding took off them. Definitions only.
 use mathlib.Core.Path.{_≡_}
-use Prim.Native.Nat.{_+_, _-_, _*_, _/_, _%_, _^_, _<_, _≤_}
-use lib.Ieee.{Float, binary64, toBits}
+use mathlib.Core.Bool.{not}
+use Prim.Native.Nat.{ℕ, _+_, _-_, _*_, _/_, _%_, _^_, _<_, _≤_}
+use lib.Dec.{T}
+use lib.Ieee.{Float, binary64, toBits, isNan}
 use Rattle.elementary.specs.Ops.{_⊕_, _⊖_, _⊗_, bits}
 
 -- from 2 ^ -255 to below 2 ^ 257 in size, by the exponent's field
@@ -41,3 +43,11 @@ inward w = w ⊕ w ⊖ outward w
 -- s and every number that rounds to w have the same rounded sum
 abbrev pub Certain : Float → Float → Type 0
 Certain s w = toBits binary64 (s ⊕ inward w) ≡ toBits binary64 (s ⊕ outward w)
+
+-- x, from 2 ^ -12 to 2, has a part without its 31 lowest digits whose product with p less q is exact, and so is the rest's: the whole numbers have at most 19 digits
+pub record CanSplit (x : Float) (p q : ℕ) : Type 0 where
+  pub number : T (not (isNan x))
+  pub low : 0x3f30_0000_0000_0000 ≤ toBits binary64 x
+  pub high : toBits binary64 x < 0x4000_0000_0000_0000
+  pub factor : p < 2 ^ 19
+  pub addend : q < 2 ^ 19

@@ -1,11 +1,6 @@
 -- What the contracts inside mul_add say of numbers. Assumes nothing.
-use mathlib.Core.Path.{_≡_}
-use mathlib.Core.Logic.{_⊎_}
-use mathlib.Core.Bool.{Bool, true, false, not}
-use Prim.Native.Nat.{ℕ, _+_, _/_, _%_, _^_, _<_, _≤_}
-use lib.Dec.{T}
-use lib.Ieee.{Float, binary64, toBits, isNan, fits, add, lt, eq}
-use Rattle.elementary.specs.Inside.Round.{wide, PartsOf}
+use Prim.Native.Nat.{ℕ, _+_, _^_, _<_, _≤_}
+use Rattle.elementary.specs.Inside.Round.{wide}
 
 -- a number of two words that has 105 or 106 digits, as the product of two significands does
 pub record ProductDigits (hi lo : ℕ) : Type 0 where
@@ -45,13 +40,3 @@ pub record SumWide (lh ll le sh sl se : ℕ) : Type 0 where
   pub high : le < 2 ^ 30
   pub low' : 64 ≤ se
   pub high' : se < 2 ^ 30
-
--- ---- a whole factor and a whole addend
-
--- x is from 2 ^ -12 to 2, and the whole numbers have at most 19 digits
-pub record CanSplit (x : Float) (p q : ℕ) : Type 0 where
-  pub number : T (not (isNan x))
-  pub low : 0x3f30_0000_0000_0000 ≤ toBits binary64 x
-  pub high : toBits binary64 x < 0x4000_0000_0000_0000
-  pub factor : p < 2 ^ 19
-  pub addend : q < 2 ^ 19

@@ -1,23 +1,23 @@
 -- Powers of two as bounds: what operations and bits keep of them, and how large the parts of a fused step by errors are. Assumes nothing.
-use mathlib.Core.Path.{_≡_, refl, sym, ap, _∙_, subst}
-use mathlib.Core.Bool.{Bool, true, false, not}
+use mathlib.Core.Path.{refl, sym, subst}
+use mathlib.Core.Bool.{Bool, not}
 use mathlib.Core.Logic.{inl, inr}
 use Prim.Native.Nat.{ℕ, zero, suc, _+_, _-_, _*_, _/_, _%_, _^_, _≤_, _<_}
-use native.Mathlib.Nat.{le-trans, le-of-eq, le-of-lt, lt-irrefl, lt-of-not-le, lt-of-lt-of-le, lt-of-le-of-lt, eq-zero-or-pos, mul-one, mul-right-comm, mul-le-mul-right, le-of-mul-le-mul-right, pow-suc}
+use native.Mathlib.Nat.{le-trans, le-of-eq, le-of-lt, lt-irrefl, lt-of-not-le, lt-of-lt-of-le, eq-zero-or-pos, mul-one, mul-right-comm, mul-le-mul-right, le-of-mul-le-mul-right, pow-suc}
 use native.Mathlib.Decide.{decLe}
 use native.Mathlib.Omega.{arith}
 use lib.Arith.{lt→nleb}
 use lib.Dec.{T, leb, lit<, lit≤}
 use lib.Pow.{pow-add, pow-pos, pow-mono, pow-lt, shl-lt}
-use lib.Ieee.{Float, nan, inf, fin, binary64, up, down, isNan, nanBits, fits, neg, toBits}
-use lib.Ieee.Fits.{down-pos, mul-fits, add-fits}
+use lib.Ieee.{Float, nan, inf, fin, binary64, down, isNan, nanBits, fits, neg, toBits}
+use lib.Ieee.Fits.{down-pos}
 use lib.Ieee.Exact.{HasValue}
 use lib.Ieee.Scale.{finite}
 use lib.Ieee.Bits.{is-false, ofBits-toBits, toBits-lt}
 use Rattle.elementary.specs.Ops.{_⊕_, _⊖_, _⊗_, _⊘_, bits, float}
 use Rattle.elementary.specs.Inside.Bounds.{AtMost, Over}
 use Rattle.elementary.specs.Inside.Errors.{productError, sumError, orderedSumError, roundedHigh, cutHigh, outward, inward}
-use Rattle.elementary.specs.Inside.MulAdd.{CanSplit}
+use Rattle.elementary.specs.Inside.Errors.{CanSplit}
 use Rattle.elementary.proofs.Laws.Bits.{no-nan-pattern}
 use Rattle.elementary.proofs.Laws.Decode.{finite-no-nan, finite-field}
 use Rattle.elementary.proofs.Laws.Values.{recast, value-low, value-mid, whole-value}

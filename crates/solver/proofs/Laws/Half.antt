@@ -3,17 +3,15 @@
 use mathlib.Core.Path.{_≡_, refl, sym, _∙_, subst}
 use mathlib.Core.Bool.{Bool, true, false, cond, true≢false}
 use mathlib.Core.Logic.{_⊎_, inl, inr, ⊎-elim}
-use Prim.Native.Nat.{ℕ, zero, suc, _+_, _-_, _*_, _^_, _≤_, _<_}
+use Prim.Native.Nat.{ℕ, _+_, _-_, _*_, _^_, _≤_}
 use native.Mathlib.Omega.{arith}
-use native.Mathlib.Decide.{decLe}
-use native.Mathlib.Nat.{mul-assoc, mul-comm, mul-left-comm, mul-right-comm, one-mul, mul-one, zero-mul, mul-pos, mul-le-mul-right, mul-lt-mul-of-pos-right, le-of-eq, lt-of-lt-of-le, lt-of-mul-lt-mul-right, lt-of-le-of-lt, lt-irrefl, mul-le-mul-left}
-use lib.Dec.{T, lit<}
-use lib.Pow.{pow-add, pow-mono, pow-pos}
-use lib.IntN.{ℤ, pos, negsuc}
+use native.Mathlib.Nat.{mul-assoc, mul-comm, one-mul, mul-one, mul-pos, mul-le-mul-right, le-of-eq}
+use lib.Dec.{T}
+use lib.IntN.{ℤ}
 use lib.Ieee.{Float, nan, inf, fin, binary64, up, down, ofBits, fits, round, sum, add, mul, div, neg, lt, le, ne}
 use lib.Ieee.Fits.{down-pos}
 use lib.Ieee.Bits.{is-true}
-use lib.Ieee.Exact.{HasValue, round-exact}
+use lib.Ieee.Exact.{HasValue}
 use lib.Ieee.Order.{round-mono}
 use lib.Ieee.Scale.{finite}
 use lib.Ieee.Positive.{through, above-of-le, le→cross}

@@ -9,12 +9,12 @@ use native.Mathlib.Omega.{arith}
 use lib.Dec.{T, leb, le→leb}
 use lib.Arith.{lt→nleb}
 use lib.Pow.{pow-add, pow-pos, pow-mono, pow-lt, shl-lt}
-use lib.Ieee.{Float, nan, inf, fin, binary64, unlike, add, sub, mul, fits, isNan, ofBits, toBits, nanBits, lt}
+use lib.Ieee.{Float, nan, inf, fin, binary64, unlike, add, fits, ofBits, toBits, lt}
 use lib.Ieee.Fits.{add-fits, mul-fits, round-fits}
 use lib.Ieee.Exact.{HasValue}
 use lib.Ieee.Scale.{finite}
 use lib.Ieee.Bits.{is-true, is-false, ofBits-toBits, toBits-lt}
-use Rattle.elementary.specs.Ops.{_⊕_, _⊖_, _⊗_, bits}
+use Rattle.elementary.specs.Ops.{_⊕_, _⊗_, bits}
 use Rattle.elementary.specs.MulAdd.{fma}
 use Rattle.elementary.specs.Inside.Errors.{InRange, roundedHigh, cutHigh, productError, sumError, orderedSumError, outward, inward, Certain}
 use Rattle.elementary.proofs.Laws.Bits.{same-bits}

@@ -3,7 +3,7 @@ use mathlib.Core.Path.{_≡_, refl, sym, ap, _∙_, subst}
 use mathlib.Core.Logic.{_⊎_, inl, inr}
 use mathlib.Core.Bool.{Bool, true, false, not, cond, true≢false}
 use Prim.Native.Nat.{ℕ, _+_, _-_, _*_, _/_, _^_, _≤_, _<_}
-use native.Mathlib.Nat.{le-trans, le-of-eq, le-of-lt, lt-of-lt-of-le, lt-of-le-of-lt, lt-of-not-le, le-of-mul-le-mul-right, mul-le-mul, mul-le-mul-right, mul-assoc, mul-comm, mul-left-comm, mul-right-comm, mul-pos, add-mul, zero-mul, mul-zero, add-assoc, one-mul, mul-one, mul-add, mul-mul-mul-comm, not-le-of-lt}
+use native.Mathlib.Nat.{le-trans, le-of-eq, le-of-lt, lt-of-lt-of-le, lt-of-not-le, le-of-mul-le-mul-right, mul-le-mul, mul-le-mul-right, mul-assoc, mul-comm, mul-left-comm, mul-right-comm, mul-pos, add-mul, zero-mul, mul-zero, add-assoc, one-mul, mul-one, mul-add, mul-mul-mul-comm, not-le-of-lt}
 use native.Mathlib.Omega.{arith}
 use lib.Pow.{pow-add, pow-pos, pow-mono}
 use lib.Ieee.{Float, nan, inf, fin, binary64, unlike, up, down, round, mul, add, sub}

@@ -16,7 +16,7 @@ use lib.Ieee.Bits.{is-false, ofBits-toBits}
 use borrow.Author.Tests.{le-ltb}
 use Rattle.elementary.specs.Ops.{float}
 use Rattle.elementary.specs.MulAdd.{fma}
-use Rattle.elementary.specs.Inside.MulAdd.{CanSplit}
+use Rattle.elementary.specs.Inside.Errors.{CanSplit}
 use Rattle.elementary.proofs.Laws.Leaf.{same-test}
 use Rattle.elementary.proofs.Laws.Bits.{no-nan-pattern}
 use Rattle.elementary.proofs.Laws.Values.{recast, revalue, value-mid, whole-value}

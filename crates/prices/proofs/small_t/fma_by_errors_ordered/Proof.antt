@@ -1,5 +1,5 @@
 -- `small_t::fma_by_errors_ordered` meets its contract: the law of the fused step for a product that is not the smaller one (Laws.Errors.Fused), with the bounds that it needs (Sizes). Assumes nothing.
-use mathlib.Core.Path.{_≡_, sym, _∙_, subst}
+use mathlib.Core.Path.{sym, _∙_, subst}
 use Prim.Native.Nat.{_%_, _^_, _<_}
 use native.Mathlib.Omega.{arith}
 use lib.Dec.{T, lit≤}

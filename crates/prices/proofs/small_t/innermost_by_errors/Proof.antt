@@ -2,7 +2,7 @@
 use mathlib.Core.Path.{sym, subst}
 use native.Mathlib.Nat.{le-of-lt}
 use lib.Dec.{T, lit<, lit≤}
-use lib.Ieee.{Float, binary64, fits, neg}
+use lib.Ieee.{neg}
 use borrow.Author.Needs.{needs}
 use Rattle.elementary.specs.Ops.{_⊕_, float, one}
 use Rattle.prices.specs.Inside.SmallT.{Within}

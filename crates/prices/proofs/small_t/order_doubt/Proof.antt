@@ -1,7 +1,6 @@
 -- `small_t::order_doubt` meets its contract, by its test. Assumes nothing.
 use mathlib.Core.Path.{sym, subst}
 use lib.Dec.{T}
-use lib.Ieee.{binary64, fits}
 use native.Mathlib.Omega.{arith}
 use borrow.Author.Needs.{needs}
 use Rattle.elementary.proofs.Laws.Decode.{finite-no-nan}

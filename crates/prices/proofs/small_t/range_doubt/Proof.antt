@@ -1,6 +1,6 @@
 -- `small_t::range_doubt` meets its contract: only 2 gives 0, and with it the exponent is in range. Assumes nothing.
 use mathlib.Core.Path.{_≡_}
-use Prim.Native.Nat.{ℕ, _+_, _/_, _%_, _^_}
+use Prim.Native.Nat.{_+_, _/_, _%_, _^_}
 use native.Mathlib.Omega.{arith}
 use lib.Ieee.{Float, binary64, toBits}
 use borrow.Author.Needs.{needs}
