@@ -22,7 +22,7 @@ ghost use mathlib.Core.Path.{_≡_};
 ghost use mathlib.Core.Bool.{not, cond, _&&_};
 ghost use lib.Ieee.{neg};
 ghost use Rattle.elementary.specs.RuleSets.{rule-set-0};
-ghost use Rattle.elementary.specs.Ops.{_⊗_, +0, half, one};
+ghost use Rattle.elementary.specs.Ops.{_⊗_, +0, half, one, mulAdd};
 ghost use Rattle.elementary.specs.Methods.{maxOf};
 ghost use Rattle.elementary.specs.Exp.{expOf};
 ghost use Rattle.prices.specs.Black.{bell as bellOf, smallTOf, seriesTerms, seriesOf, asymptoticInner, asymptoticOf, usingErfcxOf, codysOf, isOutsideAsymptoticRegion, isAsymptotic, regionOf, outOfTheMoney, plus as plusOf, callAt, callOf, normalisedBlackOf, isPositiveNormal, isFinite, priceFromNormalised, priceOf, blackAt, blackOf};
