@@ -22,6 +22,7 @@ pub mod Fields
 pub mod Adding
 -- The functions.
 pub mod Greatest
+pub mod Close
 pub mod Isqrt
 pub mod SqrtNearest
 pub mod FmaOne

@@ -6,3 +6,5 @@ pub mod MulAdd
 pub mod Exp
 pub mod Each
 pub mod Bisection
+pub mod Tables
+pub mod Cdf
