@@ -9,10 +9,12 @@ use crate::rule_set::RuleSet;
 use crate::tables::exp_of_negative_square_of_sixteenths;
 ghost use mathlib.Core.Path.{_≡_};
 ghost use mathlib.Core.Bool.{cond};
-ghost use Prim.Native.Nat.{_<_};
+ghost use Prim.Native.Nat.{_<_, _≤_};
 ghost use lib.Ieee.{lt};
 ghost use Rattle.elementary.specs.Ops.{_⊖_, +0, two};
 ghost use Rattle.elementary.specs.RuleSets.{rule-set-0};
+ghost use Rattle.elementary.specs.Inside.Cdf.{sixteenthsOf};
+ghost use Rattle.elementary.specs.Methods.{absOf};
 ghost use Rattle.elementary.specs.Exp.{expOf};
 ghost use Rattle.elementary.specs.Cody.{dIntOf, tildeOf, smoothenedExponentialOfNegativeSquare, smoothenedExponentialOfPositiveSquare, negativeSquare, abOf, cdOf, pqOf, erfcxAboveThreshold, erfcAbs, erfcOf, erfcxOf};
 
@@ -100,6 +102,14 @@ pub(crate) fn sixteenths(t: f64) -> u64
     if s == s { f64::to_bits(s) % 1024 } else { 0 }
 }
 
+// k / 16.
+pub(crate) fn sixteenth(k: u64) -> f64
+    requires { ⌜ k ≤ 1024 ⌝ }
+    ensures { λ r. ⌜ r ≡ sixteenthsOf k ⌝ }
+{
+    (k as f64) / 16.0
+}
+
 // exp(−t²): from the table where t is one of its sixteenths.
 pub(crate) fn exp_of_negative_square(t: f64) -> f64
     ensures { λ r. ⌜ r ≡ expOf (negativeSquare t) ⌝ }
@@ -107,7 +117,7 @@ pub(crate) fn exp_of_negative_square(t: f64) -> f64
     let k = sixteenths(t);
     let v = exp_of_negative_square_of_sixteenths(k);
     if 0 < v {
-        if same(t, (k as f64) / 16.0) {
+        if same(t, sixteenth(k)) {
             return f64::from_bits(v);
         }
     }
@@ -181,17 +191,22 @@ fn erfc_abs(set: RuleSet, y: f64, factor: f64) -> f64
     }
 }
 
-// erfc of x, whose size y is above the threshold.
-fn erfc_outside(set: RuleSet, x: f64, y: f64, factor: f64) -> f64
-    requires { ⌜ factor ≡ smoothenedExponentialOfNegativeSquare y ⌝ }
-    ensures { λ r. ⌜ r ≡ cond (lt x +0) (two ⊖ erfcAbs set y) (erfcAbs set y) ⌝ }
+// erfc of x from erfc of its size.
+pub(crate) fn on_side(x: f64, right: f64) -> f64
+    ensures { λ r. ⌜ r ≡ cond (lt x +0) (two ⊖ right) right ⌝ }
 {
-    let erfc_abs_x = erfc_abs(set, y, factor);
-    if x < 0.0 {
-        2.0 - erfc_abs_x
-    } else {
-        erfc_abs_x
+    if x < 0.0 { 2.0 - right } else { right }
+}
+
+// erfc of x, whose size is y, from its exponential factor.
+pub(crate) fn erfc_with_factor(set: RuleSet, x: f64, y: f64, factor: f64) -> f64
+    requires { ⌜ y ≡ absOf x ⌝ ∗ ⌜ factor ≡ smoothenedExponentialOfNegativeSquare y ⌝ }
+    ensures { λ r. ⌜ r ≡ erfcOf set x ⌝ }
+{
+    if y <= THRESHOLD {
+        return 1.0 - x * ab(y * y);
     }
+    on_side(x, erfc_abs(set, y, factor))
 }
 
 // erfc under any rule set.
@@ -202,7 +217,10 @@ pub fn erfc_under(set: RuleSet, x: f64) -> f64
     if y <= THRESHOLD {
         return 1.0 - x * ab(y * y);
     }
-    erfc_outside(set, x, y, smoothened_exponential_of_negative_square(y))
+    on_side(
+        x,
+        erfc_abs(set, y, smoothened_exponential_of_negative_square(y)),
+    )
 }
 
 pub fn erfc(x: f64) -> f64

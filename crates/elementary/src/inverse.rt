@@ -2,6 +2,7 @@
 // cdf values computed side by side. A step takes a value only where its own middle is the guessed
 // point, so nothing has to be known of a guess: a wrong one costs time only.
 use crate::cody::exp_of_negative_square;
+use crate::cody::sixteenth;
 use crate::cody::sixteenths;
 use crate::eight::Eight;
 use crate::ln::ln;
@@ -18,9 +19,7 @@ ghost use mathlib.Core.Bool.{true, false, cond};
 ghost use Prim.Native.Nat.{_+_, _≤_, _<_};
 ghost use lib.Ieee.{lt};
 ghost use Rattle.elementary.specs.Inside.Each.{Each};
-ghost use Rattle.elementary.specs.Inside.Cdf.{sixteenthsOf, pointOf};
-ghost use Rattle.elementary.specs.Exp.{expOf};
-ghost use Rattle.elementary.specs.Cody.{negativeSquare};
+ghost use Rattle.elementary.specs.Inside.Cdf.{sixteenthsOf, expOfNegativeSquare, pointOf};
 ghost use Rattle.elementary.specs.NormalDistribution.{cdfOf, midOf, lowest, highest, endsOf};
 ghost use Rattle.elementary.specs.Inside.Bisection.{AfterSteps};
 
@@ -228,7 +227,7 @@ fn apply_guessed_steps(set: RuleSet, p: f64, from: Bracket, x: Eight, f: Eight) 
 
 // One step and up to seven more.
 fn bisection_batch(set: RuleSet, p: f64, from: Bracket, guess: f64, k: u64, e: f64) -> Bracket
-    requires { ⌜ AfterSteps set p (from .lo) (from .hi) (from .steps) ⌝ ∗ ⌜ from .steps < 64 ⌝ ∗ ⌜ k < 1024 ⌝ ∗ ⌜ e ≡ expOf (negativeSquare (sixteenthsOf k)) ⌝ }
+    requires { ⌜ AfterSteps set p (from .lo) (from .hi) (from .steps) ⌝ ∗ ⌜ from .steps < 64 ⌝ ∗ ⌜ k < 1024 ⌝ ∗ ⌜ e ≡ expOfNegativeSquare (sixteenthsOf k) ⌝ }
     ensures { λ r. ⌜ AfterSteps set p (r .lo) (r .hi) (r .steps) ⌝ ∗ ⌜ from .steps < r .steps ⌝ }
 {
     let mid = 0.5 * (from.lo + from.hi);
@@ -297,7 +296,7 @@ pub(crate) fn bisect(set: RuleSet, p: f64) -> f64
 {
     let guess = approximation(p);
     let k = sixteenths(abs(guess * FRAC_1_SQRT_2) - 0.03125);
-    let e = exp_of_negative_square((k as f64) / 16.0);
+    let e = exp_of_negative_square(sixteenth(k));
     let mut at = first_steps(set, p);
     while at.steps < 64 {
         let mid = 0.5 * (at.lo + at.hi);

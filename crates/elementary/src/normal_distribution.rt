@@ -2,7 +2,12 @@
 use crate::cody::FRAC_1_SQRT_PI;
 use crate::cody::cd;
 use crate::cody::erfc_under;
+use crate::cody::erfc_with_factor;
+use crate::cody::exp_of_negative_square;
+use crate::cody::on_side;
 use crate::cody::pq;
+use crate::cody::sixteenth;
+use crate::cody::tilde;
 use crate::eight::Eight;
 use crate::exp::exps;
 use crate::inverse::bisect;
@@ -10,17 +15,13 @@ use crate::methods::abs;
 use crate::rule_set::RULE_SET_0;
 use crate::rule_set::RuleSet;
 ghost use mathlib.Core.Path.{_≡_};
-ghost use mathlib.Core.Bool.{true, false, _&&_, cond};
-ghost use Prim.Native.Nat.{_≤_, _<_};
-ghost use lib.Dec.{T};
-ghost use lib.Ieee.{binary64, lt, le, fits};
-ghost use Rattle.elementary.specs.Ops.{_⊖_, +0, two};
-ghost use Rattle.elementary.specs.Inside.Each.{Each, All};
-ghost use Rattle.elementary.specs.Inside.Cdf.{sixteenthsOf, Close, restFrom, Between, argumentOf, halfErfc};
+ghost use mathlib.Core.Bool.{true, false};
+ghost use Prim.Native.Nat.{_<_};
+ghost use Rattle.elementary.specs.Inside.Each.{Each, All, constant};
+ghost use Rattle.elementary.specs.Inside.Cdf.{sixteenthsOf, expOfNegativeSquare, allBetween, CloseCase, Between, argumentOf, halfErfc};
 ghost use Rattle.elementary.specs.Methods.{absOf};
 ghost use Rattle.elementary.specs.RuleSets.{rule-set-0};
-ghost use Rattle.elementary.specs.Exp.{expOf};
-ghost use Rattle.elementary.specs.Cody.{negativeSquare, smoothenedExponentialOfNegativeSquare};
+ghost use Rattle.elementary.specs.Cody.{tildeOf, negativeRest, smoothenedExponentialOfNegativeSquare};
 ghost use Rattle.elementary.specs.NormalDistribution.{cdfOf, inverseOf, inverseFUpperMapOf};
 
 pub(crate) const FRAC_1_SQRT_2: f64 = 0.7071067811865476;
@@ -72,71 +73,115 @@ fn sizes(w: Eight) -> Eight
     }
 }
 
-fn is_between(y: f64, a: f64, b: f64) -> bool
-    ensures { λ r. ⌜ r ≡ (le a y && lt y b) ⌝ ∗ ⌜ T (fits binary64 y) ⌝ }
+// Whether all are at least a and below b.
+fn all_between(y: Eight, a: f64, b: f64) -> bool
+    ensures { λ r. ⌜ r ≡ allBetween a b y ⌝ }
 {
-    (a <= y) & (y < b)
+    ((a <= y.x0) & (y.x0 < b))
+        & ((a <= y.x1) & (y.x1 < b))
+        & ((a <= y.x2) & (y.x2 < b))
+        & ((a <= y.x3) & (y.x3 < b))
+        & ((a <= y.x4) & (y.x4 < b))
+        & ((a <= y.x5) & (y.x5 < b))
+        & ((a <= y.x6) & (y.x6 < b))
+        & ((a <= y.x7) & (y.x7 < b))
 }
 
-// Whether all lie in the sixteenth from k / 16 on.
-fn all_close(y: Eight, k: u64) -> bool
-    requires { ⌜ k < 1024 ⌝ }
-    ensures { λ r. ⌜ (r ≡ true → All (Close k) y) ⌝ }
-{
-    let a = (k as f64) / 16.0;
-    let b = ((k + 1) as f64) / 16.0;
-    is_between(y.x0, a, b)
-        & is_between(y.x1, a, b)
-        & is_between(y.x2, a, b)
-        & is_between(y.x3, a, b)
-        & is_between(y.x4, a, b)
-        & is_between(y.x5, a, b)
-        & is_between(y.x6, a, b)
-        & is_between(y.x7, a, b)
-}
-
-// What the second exponentials are of, where t is the tilde of each.
-fn rests(t: f64, y: Eight) -> Eight
-    ensures { λ z. ⌜ Each (restFrom t) y z ⌝ }
+fn copies(a: f64) -> Eight
+    ensures { λ r. ⌜ Each (constant a) r r ⌝ }
 {
     Eight {
-        x0: -(y.x0 - t) * (y.x0 + t),
-        x1: -(y.x1 - t) * (y.x1 + t),
-        x2: -(y.x2 - t) * (y.x2 + t),
-        x3: -(y.x3 - t) * (y.x3 + t),
-        x4: -(y.x4 - t) * (y.x4 + t),
-        x5: -(y.x5 - t) * (y.x5 + t),
-        x6: -(y.x6 - t) * (y.x6 + t),
-        x7: -(y.x7 - t) * (y.x7 + t),
+        x0: a,
+        x1: a,
+        x2: a,
+        x3: a,
+        x4: a,
+        x5: a,
+        x6: a,
+        x7: a,
     }
 }
 
-// exp(−y²) of each: k / 16 is its tilde, so e, the exponential of that, serves all.
-fn close_factors(y: Eight, k: u64, e: f64) -> Eight
-    requires { ⌜ 1 ≤ k ⌝ ∗ ⌜ k < 1024 ⌝ ∗ ⌜ All (Close k) y ⌝ ∗ ⌜ e ≡ expOf (negativeSquare (sixteenthsOf k)) ⌝ }
+fn tildes(y: Eight) -> Eight
+    ensures { λ t. ⌜ Each tildeOf y t ⌝ }
+{
+    Eight {
+        x0: tilde(y.x0),
+        x1: tilde(y.x1),
+        x2: tilde(y.x2),
+        x3: tilde(y.x3),
+        x4: tilde(y.x4),
+        x5: tilde(y.x5),
+        x6: tilde(y.x6),
+        x7: tilde(y.x7),
+    }
+}
+
+fn exps_of_negative_squares(t: Eight) -> Eight
+    ensures { λ s. ⌜ Each expOfNegativeSquare t s ⌝ }
+{
+    Eight {
+        x0: exp_of_negative_square(t.x0),
+        x1: exp_of_negative_square(t.x1),
+        x2: exp_of_negative_square(t.x2),
+        x3: exp_of_negative_square(t.x3),
+        x4: exp_of_negative_square(t.x4),
+        x5: exp_of_negative_square(t.x5),
+        x6: exp_of_negative_square(t.x6),
+        x7: exp_of_negative_square(t.x7),
+    }
+}
+
+fn negative_rest(y: f64, t: f64) -> f64
+    requires { ⌜ t ≡ tildeOf y ⌝ }
+    ensures { λ z. ⌜ z ≡ negativeRest y ⌝ }
+{
+    -(y - t) * (y + t)
+}
+
+fn negative_rests(y: Eight, t: Eight) -> Eight
+    requires { ⌜ Each tildeOf y t ⌝ }
+    ensures { λ z. ⌜ Each negativeRest y z ⌝ }
+{
+    Eight {
+        x0: negative_rest(y.x0, t.x0),
+        x1: negative_rest(y.x1, t.x1),
+        x2: negative_rest(y.x2, t.x2),
+        x3: negative_rest(y.x3, t.x3),
+        x4: negative_rest(y.x4, t.x4),
+        x5: negative_rest(y.x5, t.x5),
+        x6: negative_rest(y.x6, t.x6),
+        x7: negative_rest(y.x7, t.x7),
+    }
+}
+
+// The exponential factors, from the tildes and their exponentials.
+fn factors(y: Eight, t: Eight, s: Eight) -> Eight
+    requires { ⌜ Each tildeOf y t ⌝ ∗ ⌜ Each expOfNegativeSquare t s ⌝ }
     ensures { λ f. ⌜ Each smoothenedExponentialOfNegativeSquare y f ⌝ }
 {
-    let c = exps(rests((k as f64) / 16.0, y));
+    let c = exps(negative_rests(y, t));
     Eight {
-        x0: e * c.x0,
-        x1: e * c.x1,
-        x2: e * c.x2,
-        x3: e * c.x3,
-        x4: e * c.x4,
-        x5: e * c.x5,
-        x6: e * c.x6,
-        x7: e * c.x7,
+        x0: s.x0 * c.x0,
+        x1: s.x1 * c.x1,
+        x2: s.x2 * c.x2,
+        x3: s.x3 * c.x3,
+        x4: s.x4 * c.x4,
+        x5: s.x5 * c.x5,
+        x6: s.x6 * c.x6,
+        x7: s.x7 * c.x7,
     }
 }
 
-// erfc of w from erfc of its size.
-fn on_side(w: f64, q: f64) -> f64
-    ensures { λ r. ⌜ r ≡ cond (lt w +0) (two ⊖ q) q ⌝ }
+// The cdf from erfc's argument w, its size y and its exponential factor.
+fn cdf_with_factor(set: RuleSet, w: f64, y: f64, factor: f64) -> f64
+    requires { ⌜ y ≡ absOf w ⌝ ∗ ⌜ factor ≡ smoothenedExponentialOfNegativeSquare y ⌝ }
+    ensures { λ r. ⌜ r ≡ halfErfc set w ⌝ }
 {
-    if w < 0.0 { 2.0 - q } else { q }
+    0.5 * erfc_with_factor(set, w, y, factor)
 }
 
-// The cdf from erfc's argument w, its size y and its exponential factor, up to 4.
+// The same where y is known to be above the threshold and at most 4.
 fn cdf_up_to_four(set: RuleSet, w: f64, y: f64, factor: f64) -> f64
     requires { ⌜ y ≡ absOf w ⌝ ∗ ⌜ Between true y ⌝ ∗ ⌜ factor ≡ smoothenedExponentialOfNegativeSquare y ⌝ }
     ensures { λ r. ⌜ r ≡ halfErfc set w ⌝ }
@@ -144,12 +189,28 @@ fn cdf_up_to_four(set: RuleSet, w: f64, y: f64, factor: f64) -> f64
     0.5 * on_side(w, cd(y) * factor)
 }
 
-// And above 4.
+// And where it is known to be above 4, and not in the far arm.
 fn cdf_above_four(set: RuleSet, w: f64, y: f64, factor: f64) -> f64
     requires { ⌜ y ≡ absOf w ⌝ ∗ ⌜ Between false y ⌝ ∗ ⌜ factor ≡ smoothenedExponentialOfNegativeSquare y ⌝ }
     ensures { λ r. ⌜ r ≡ halfErfc set w ⌝ }
 {
     0.5 * on_side(w, (FRAC_1_SQRT_PI - pq(1.0 / (y * y))) / y * factor)
+}
+
+fn cdfs_with_factors(set: RuleSet, w: Eight, y: Eight, factor: Eight) -> Eight
+    requires { ⌜ Each absOf w y ⌝ ∗ ⌜ Each smoothenedExponentialOfNegativeSquare y factor ⌝ }
+    ensures { λ r. ⌜ Each (halfErfc set) w r ⌝ }
+{
+    Eight {
+        x0: cdf_with_factor(set, w.x0, y.x0, factor.x0),
+        x1: cdf_with_factor(set, w.x1, y.x1, factor.x1),
+        x2: cdf_with_factor(set, w.x2, y.x2, factor.x2),
+        x3: cdf_with_factor(set, w.x3, y.x3, factor.x3),
+        x4: cdf_with_factor(set, w.x4, y.x4, factor.x4),
+        x5: cdf_with_factor(set, w.x5, y.x5, factor.x5),
+        x6: cdf_with_factor(set, w.x6, y.x6, factor.x6),
+        x7: cdf_with_factor(set, w.x7, y.x7, factor.x7),
+    }
 }
 
 fn cdfs_up_to_four(set: RuleSet, w: Eight, y: Eight, factor: Eight) -> Eight
@@ -184,7 +245,34 @@ fn cdfs_above_four(set: RuleSet, w: Eight, y: Eight, factor: Eight) -> Eight
     }
 }
 
-fn separate_cdfs(set: RuleSet, x: Eight) -> Eight
+// Where all sizes lie in the sixteenth from k / 16 on, that is the tilde of each, and e, its
+// exponential, serves all. Where that sixteenth holds no border of erfc's regions, no size is tested.
+fn close_cdfs(set: RuleSet, w: Eight, y: Eight, k: u64, e: f64) -> Eight
+    requires { ⌜ CloseCase k w y ⌝ ∗ ⌜ e ≡ expOfNegativeSquare (sixteenthsOf k) ⌝ }
+    ensures { λ r. ⌜ Each (halfErfc set) w r ⌝ }
+{
+    let f = factors(y, copies(sixteenth(k)), copies(e));
+    if k < 64 {
+        return cdfs_up_to_four(set, w, y, f);
+    }
+    if 64 < k {
+        if k < 416 {
+            return cdfs_above_four(set, w, y, f);
+        }
+    }
+    cdfs_with_factors(set, w, y, f)
+}
+
+fn outer_cdfs(set: RuleSet, w: Eight, y: Eight) -> Eight
+    requires { ⌜ Each absOf w y ⌝ }
+    ensures { λ r. ⌜ Each (halfErfc set) w r ⌝ }
+{
+    let t = tildes(y);
+    cdfs_with_factors(set, w, y, factors(y, t, exps_of_negative_squares(t)))
+}
+
+// Near 0 the cdf has no exponential factor.
+fn inner_cdfs(set: RuleSet, x: Eight) -> Eight
     ensures { λ r. ⌜ Each (cdfOf set) x r ⌝ }
 {
     Eight {
@@ -199,29 +287,21 @@ fn separate_cdfs(set: RuleSet, x: Eight) -> Eight
     }
 }
 
-// Where the sizes of erfc's arguments all lie in the sixteenth from k / 16 on, one exponential e and
-// one region serve all. That sixteenth may not hold 4, where a region begins.
+// The sizes of erfc's arguments are guessed to lie in the sixteenth from k / 16 on.
 pub(crate) fn cdfs(set: RuleSet, x: Eight, k: u64, e: f64) -> Eight
-    requires { ⌜ k < 1024 ⌝ ∗ ⌜ e ≡ expOf (negativeSquare (sixteenthsOf k)) ⌝ }
+    requires { ⌜ k < 1024 ⌝ ∗ ⌜ e ≡ expOfNegativeSquare (sixteenthsOf k) ⌝ }
     ensures { λ r. ⌜ Each (cdfOf set) x r ⌝ }
 {
     if k < 8 {
-        return separate_cdfs(set, x);
-    }
-    if 416 <= k {
-        return separate_cdfs(set, x);
+        return inner_cdfs(set, x);
     }
     let w = arguments(x);
     let y = sizes(w);
-    if all_close(y, k) {
-        if k < 64 {
-            return cdfs_up_to_four(set, w, y, close_factors(y, k, e));
-        }
-        if 64 < k {
-            return cdfs_above_four(set, w, y, close_factors(y, k, e));
-        }
+    if all_between(y, sixteenth(k), sixteenth(k + 1)) {
+        close_cdfs(set, w, y, k, e)
+    } else {
+        outer_cdfs(set, w, y)
     }
-    separate_cdfs(set, x)
 }
 
 // The inverse cdf under any rule set.

@@ -8,7 +8,7 @@ use borrow.Author.Tests.{lt-ltb}
 use lib.IntN.{pos, negsuc}
 use lib.Dec.{T, lit≤, not-T, le→leb, ltb→lt}
 use lib.Pow.{pow-add, pow-pos, pow-mono, pow-lt, shl-lt}
-use lib.Ieee.{Float, nan, inf, fin, binary64, up, down, round, mul, div, lt, le, eq, fits, ofBits, ofInt, inFloat}
+use lib.Ieee.{Float, nan, inf, fin, binary64, up, down, round, neg, mul, div, lt, le, eq, fits, ofBits, ofInt, inFloat}
 use lib.Ieee.Bits.{is-true, is-false}
 use lib.Ieee.Fits.{down-pos, up-pos, mul-fits, ofInt-fits}
 use lib.Ieee.Exact.{HasValue, round-exact}
@@ -18,11 +18,13 @@ use lib.Ieee.Order.{le-of-values}
 use lib.Ieee.Positive.{num, den, positive, den-pos, own-value, positive-of-value, values-of-le, between, mul-at}
 use Rattle.elementary.specs.Ops.{_⊗_, _⊘_, float, +0, four, sixteen}
 use Rattle.elementary.specs.Floor.{floorOf}
-use Rattle.elementary.specs.Exp.{expOf}
-use Rattle.elementary.specs.Cody.{THRESHOLD, XBIG, tildeOf, negativeSquare, smoothenedExponentialOfNegativeSquare}
+use Rattle.elementary.specs.Methods.{absOf}
+use Rattle.elementary.specs.Cody.{THRESHOLD, XBIG, tildeOf}
+use Rattle.elementary.specs.NormalDistribution.{FRAC-1-SQRT-2}
 use Rattle.elementary.specs.declared.eight.Eight.{Eight}
-use Rattle.elementary.specs.Inside.Each.{All}
-use Rattle.elementary.specs.Inside.Cdf.{sixteenthsOf, Close, restFrom, Between}
+use Rattle.elementary.specs.Inside.Each.{Each, All}
+use Rattle.elementary.specs.Inside.Cdf.{sixteenthsOf, argumentOf, isBetween, allBetween, Close, Between}
+use Rattle.elementary.proofs.Laws.Bits.{abs-fits}
 use Rattle.elementary.proofs.Laws.Held.{holds}
 use Rattle.elementary.proofs.Laws.Values.{whole-value}
 use Rattle.elementary.proofs.Laws.Compare.{not-le-of-lt}
@@ -41,33 +43,31 @@ both-right : (a b : Bool) → (a && b) ≡ true → b ≡ true
 both-right true b h = h
 both-right false b h = absurd (true≢false (sym h))
 
--- r says whether y is close to k / 16
-abbrev Tested : ℕ → Float → Bool → Type 0
-Tested k y r = (r ≡ (le (sixteenthsOf k) y && lt y (sixteenthsOf (k + 1)))) × T (fits binary64 y)
-
-close-of : (k : ℕ) (y : Float) (r : Bool) → Tested k y r → r ≡ true → Close k y
-close-of k y r e h =
-    let t : (le (sixteenthsOf k) y && lt y (sixteenthsOf (k + 1))) ≡ true = sym (e .0) ∙ h in
-    record { from = both-left (le (sixteenthsOf k) y) (lt y (sixteenthsOf (k + 1))) t; below = both-right (le (sixteenthsOf k) y) (lt y (sixteenthsOf (k + 1))) t; of-format = e .1 }
-
-pub all-close-of : (k : ℕ) (y : Eight) {a b c d e f g h : Bool} → Tested k (y .x0) a → Tested k (y .x1) b → Tested k (y .x2) c → Tested k (y .x3) d → Tested k (y .x4) e → Tested k (y .x5) f → Tested k (y .x6) g → Tested k (y .x7) h
-    → (a && b && c && d && e && f && g && h) ≡ true → All (Close k) y
-all-close-of k y {a} {b} {c} {d} {e} {f} {g} {h} ta tb tc td te tf tg th q =
+eight-true : (a b c d e f g h : Bool) → (a && b && c && d && e && f && g && h) ≡ true → (a ≡ true) × (b ≡ true) × (c ≡ true) × (d ≡ true) × (e ≡ true) × (f ≡ true) × (g ≡ true) × (h ≡ true)
+eight-true a b c d e f g h q =
     let n6 = both-left (a && b && c && d && e && f && g) h q in
     let n5 = both-left (a && b && c && d && e && f) g n6 in
     let n4 = both-left (a && b && c && d && e) f n5 in
     let n3 = both-left (a && b && c && d) e n4 in
     let n2 = both-left (a && b && c) d n3 in
     let n1 = both-left (a && b) c n2 in
+    (both-left a b n1, both-right (a) b n1, both-right (a && b) c n2, both-right (a && b && c) d n3, both-right (a && b && c && d) e n4, both-right (a && b && c && d && e) f n5, both-right (a && b && c && d && e && f) g n6, both-right (a && b && c && d && e && f && g) h q)
+
+size-fits : (x : Float) {w y : Float} → w ≡ argumentOf x → y ≡ absOf w → T (fits binary64 y)
+size-fits x p q = rw (q, p) (abs-fits (argumentOf x) (mul-fits binary64 (neg x) FRAC-1-SQRT-2))
+
+pub all-close : (k : ℕ) {x w y : Eight} {a b : Float} → Each argumentOf x w → Each absOf w y → a ≡ sixteenthsOf k → b ≡ sixteenthsOf (k + 1) → allBetween a b y ≡ true → All (Close k) y
+all-close k {x} {w} {y} {a} {b} p s ea eb q =
+    let t = eight-true (isBetween a b (y .x0)) (isBetween a b (y .x1)) (isBetween a b (y .x2)) (isBetween a b (y .x3)) (isBetween a b (y .x4)) (isBetween a b (y .x5)) (isBetween a b (y .x6)) (isBetween a b (y .x7)) q in
     record {
-      at0 = close-of k (y .x0) a ta (both-left a b n1);
-      at1 = close-of k (y .x1) b tb (both-right (a) b n1);
-      at2 = close-of k (y .x2) c tc (both-right (a && b) c n2);
-      at3 = close-of k (y .x3) d td (both-right (a && b && c) d n3);
-      at4 = close-of k (y .x4) e te (both-right (a && b && c && d) e n4);
-      at5 = close-of k (y .x5) f tf (both-right (a && b && c && d && e) f n5);
-      at6 = close-of k (y .x6) g tg (both-right (a && b && c && d && e && f) g n6);
-      at7 = close-of k (y .x7) h th (both-right (a && b && c && d && e && f && g) h q);
+      at0 = record { test = rw (← ea, ← eb) (t .0); of-format = size-fits (x .x0) (p .at0) (s .at0) };
+      at1 = record { test = rw (← ea, ← eb) (t .1); of-format = size-fits (x .x1) (p .at1) (s .at1) };
+      at2 = record { test = rw (← ea, ← eb) (t .2); of-format = size-fits (x .x2) (p .at2) (s .at2) };
+      at3 = record { test = rw (← ea, ← eb) (t .3); of-format = size-fits (x .x3) (p .at3) (s .at3) };
+      at4 = record { test = rw (← ea, ← eb) (t .4); of-format = size-fits (x .x4) (p .at4) (s .at4) };
+      at5 = record { test = rw (← ea, ← eb) (t .5); of-format = size-fits (x .x5) (p .at5) (s .at5) };
+      at6 = record { test = rw (← ea, ← eb) (t .6); of-format = size-fits (x .x6) (p .at6) (s .at6) };
+      at7 = record { test = rw (← ea, ← eb) (t .7); of-format = size-fits (x .x7) (p .at7) (s .at7) };
     }
 
 -- ---- k / 16 is exact
@@ -101,6 +101,12 @@ values {k} {y} one small h = record { plus = py; low = values-of-le a y k 16 (nu
     b : Float
     b = sixteenthsOf (k + 1)
 
+    from : le a y ≡ true
+    from = both-left (le a y) (lt y b) (h .test)
+
+    below : lt y b ≡ true
+    below = both-right (le a y) (lt y b) (h .test)
+
     va : HasValue a false k 16
     va = sixteenths-value k (omega arith)
 
@@ -114,16 +120,16 @@ values {k} {y} one small h = record { plus = py; low = values-of-le a y k 16 (nu
     pb = positive-of-value b (k + 1) 16 vb (omega arith)
 
     lo : T (le a y)
-    lo = rw (h .from) tt
+    lo = rw from tt
 
     hi : T (le y b)
-    hi = rw (h .below) tt
+    hi = rw below tt
 
     py : T (positive y)
     py = between a y b pa pb lo hi
 
     above : (k + 1) * den y ≤ num y * 16 → ⊥
-    above g = absurd (rw (not-le-of-lt y b (h .below)) at (le-of-values b y (k + 1) 16 (num y) (den y) (omega arith) (den-pos y) vb (own-value y py) g))
+    above g = absurd (rw (not-le-of-lt y b below) at (le-of-values b y (k + 1) 16 (num y) (den y) (omega arith) (den-pos y) vb (own-value y py) g))
 
 -- ---- y × 16 is exact
 fine-enough : (i : ℕ) → 2 ^ suc i ≤ 2 ^ 1074 → suc i ≤ 1074
@@ -177,11 +183,6 @@ tilde-close {k} {y} one small c =
     rw (mul-at binary64 y sixteen (num y) (den y) 16 1 (h .plus) (positive-of-value sixteen 16 1 sixteen-value (omega arith)) (den-pos y) (omega arith) (own-value y (h .plus)) sixteen-value) (exact y (c .of-format) (h .plus) l) in
     let p : T (positive z) = positive-of-value z (num y * 16) (den y * 1) v (omega (arith, h .low, mul-pos one (den-pos y))) in
     rw (positive-above z p, floor-close y z k small (mul-fits binary64 y sixteen) v h)
-
-pub factor-close : {k : ℕ} {y e z c : Float} → 1 ≤ k → k < 1024 → Close k y → e ≡ expOf (negativeSquare (sixteenthsOf k)) → c ≡ expOf z → z ≡ restFrom (sixteenthsOf k) y
-    → e ⊗ c ≡ smoothenedExponentialOfNegativeSquare y
-unfolding smoothenedExponentialOfNegativeSquare
-factor-close {k} {y} one small h p q r = rw (tilde-close one small h, p, q, r)
 
 -- ---- the regions
 threshold-value : HasValue THRESHOLD false 15 32

@@ -3,6 +3,10 @@ use mathlib.Core.Path.{_≡_}
 use lib.Ieee.{Float}
 use Rattle.elementary.specs.declared.eight.Eight.{Eight}
 
+-- a, whatever stands there
+abbrev pub constant : Float → Float → Float
+constant a x = a
+
 -- each of r is f of x's
 pub record Each (f : Float → Float) (x r : Eight) : Type 0 where
   pub at0 : r .x0 ≡ f (x .x0)

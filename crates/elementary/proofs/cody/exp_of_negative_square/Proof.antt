@@ -1,7 +1,6 @@
 -- `cody::exp_of_negative_square` meets its contract: a t that is k / 16 has the table's value. Assumes nothing.
 use mathlib.Core.Path.{_∙_, ap, sym}
 use native.Mathlib.Omega.{arith}
-use Rattle.elementary.proofs.Laws.Close.{in-float}
 use Rattle.elementary.proofs.Laws.Bits.{no-nan-pattern}
 use Rattle.elementary.proofs.tables.Laws.{square-entry}
 use Rattle.elementary.specs.Exp.{expOf}
@@ -17,8 +16,8 @@ exp-of-negative-square-of-sixteenths-requires :
     tie.Need-exp-of-negative-square-of-sixteenths-requires
 exp-of-negative-square-of-sixteenths-requires c κs = search needs
 
-int-to-float-same : tie.Need-int-to-float-same
-int-to-float-same c = in-float _ (omega (arith, c .before .before .before .sixteenths .ensures))
+sixteenth-requires : tie.Need-sixteenth-requires
+sixteenth-requires c κs = search needs
 
 same-requires : tie.Need-same-requires
 same-requires c κs = search needs
@@ -29,7 +28,8 @@ float-from-bits-result c = no-nan-pattern _ (omega (arith, c .before .before .be
 returns : tie.Need-returns
 returns c =
     let table = c .before .before .before .before in
-    square-entry _ _ (table .exp-of-negative-square-of-sixteenths .ensures .0) (c .before .before .before .if1 .taken) ∙ ap (λ t. expOf (negativeSquare t)) (sym (c .before .same .ensures (c .if2 .taken)))
+    square-entry _ _ (table .exp-of-negative-square-of-sixteenths .ensures .0) (c .before .before .before .if1 .taken)
+    ∙ ap (λ t. expOf (negativeSquare t)) (sym (c .before .same .ensures (c .if2 .taken) ∙ c .before .before .sixteenth .ensures))
 
 exp-requires : tie.Need-exp-requires
 exp-requires c κs = search needs
@@ -43,7 +43,7 @@ exp-of-negative-square-spec =
     (tie.spec
     sixteenths-requires
     exp-of-negative-square-of-sixteenths-requires
-    int-to-float-same
+    sixteenth-requires
     same-requires
     float-from-bits-result
     returns

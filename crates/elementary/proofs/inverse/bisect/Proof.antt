@@ -1,9 +1,10 @@
 -- `inverse::bisect` meets its contract. Assumes nothing.
+use mathlib.Core.Path.{_∙_, ap}
 use Prim.Native.Nat.{_-_}
 use native.Mathlib.Omega.{arith}
 use borrow.Author.Needs.{needs}
+use Rattle.elementary.specs.Inside.Cdf.{expOfNegativeSquare}
 use Rattle.elementary.specs.Inside.Bisection.{AfterSteps}
-use Rattle.elementary.proofs.Laws.Close.{in-float}
 use Rattle.elementary.proofs.inverse.Laws.{ends-low, ends-high, no-steps-left}
 use Rattle.elementary.proofs.inverse.bisect.Statement.{statement}
 use Rattle.elementary.proofs.inverse.bisect.Tie as tie
@@ -23,8 +24,8 @@ abs-requires c κs = search needs
 sixteenths-requires : tie.Need-sixteenths-requires Inv-loop μ-loop
 sixteenths-requires c κs = search needs
 
-int-to-float-exp-of-negative-square : tie.Need-int-to-float-exp-of-negative-square Inv-loop μ-loop
-int-to-float-exp-of-negative-square c = in-float _ (omega (arith, c .before .sixteenths .ensures))
+sixteenth-requires : tie.Need-sixteenth-requires Inv-loop μ-loop
+sixteenth-requires c κs = search needs
 
 exp-of-negative-square-requires : tie.Need-exp-of-negative-square-requires Inv-loop μ-loop
 exp-of-negative-square-requires c κs = search needs
@@ -57,7 +58,7 @@ refine-guess-requires c κs = search needs
 bisection-batch-requires : tie.Need-bisection-batch-requires Inv-loop μ-loop
 bisection-batch-requires c κs =
     let l = c .before .before .before .before .before .before .before .before in
-    (l .loop .inv, (omega (arith, c .before .before .before .before .before .before .if1 .taken), (l .before .before .before .before .sixteenths .ensures, l .before .before .exp-of-negative-square .ensures)))
+    (l .loop .inv, (omega (arith, c .before .before .before .before .before .before .if1 .taken), (l .before .before .before .before .sixteenths .ensures, l .before .before .exp-of-negative-square .ensures ∙ ap expOfNegativeSquare (l .before .before .before .sixteenth .ensures))))
 
 loop-less : tie.Need-loop-less Inv-loop μ-loop
 loop-less c = omega (arith, c .bisection-batch .ensures .1, c .bisection-batch .ensures .0 .bound)
@@ -77,7 +78,7 @@ bisect-spec =
     approximation-requires
     abs-requires
     sixteenths-requires
-    int-to-float-exp-of-negative-square
+    sixteenth-requires
     exp-of-negative-square-requires
     first-steps-requires
     loop-holds
