@@ -48,15 +48,15 @@ fn next_sum(r: f64, p: f64, n: u64) -> f64
     1.0 + r * p / (n as f64)
 }
 
-// For n from 13 down to 1.
+// For i from 13 down to 1.
 fn sum(r: f64) -> f64
     ensures { λ p. ⌜ p ≡ Exp.expSum 13 r one ⌝ }
 {
     let mut p = 1.0;
-    let mut n: u64 = 13;
-    while 0 < n {
-        p = next_sum(r, p, n);
-        n -= 1;
+    let mut i: u64 = 13;
+    while 0 < i {
+        p = next_sum(r, p, i);
+        i -= 1;
     }
     p
 }

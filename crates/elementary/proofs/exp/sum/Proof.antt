@@ -1,4 +1,4 @@
--- `exp::sum` meets its contract: after the steps down to n, what is left of the 13 steps is the n steps from p on. Assumes nothing.
+-- `exp::sum` meets its contract: after the steps down to i, what is left of the 13 steps is the i steps from p on. Assumes nothing.
 use mathlib.Core.Path.{refl}
 use Prim.Native.Nat.{_≤_}
 use native.Mathlib.Omega.{arith}
@@ -9,10 +9,10 @@ use Rattle.elementary.proofs.exp.sum.Statement.{statement}
 use Rattle.elementary.proofs.exp.sum.Tie as tie
 
 abbrev Inv-loop : tie.InvT-loop
-Inv-loop r p₀ n₀ p n = (n ≤ 13) × StepsLeft n r p
+Inv-loop r p₀ i₀ p i = (i ≤ 13) × StepsLeft i r p
 
 abbrev μ-loop : tie.MeasureT-loop
-μ-loop r p₀ n₀ p n = n
+μ-loop r p₀ i₀ p i = i
 
 loop-holds : tie.Need-loop-holds Inv-loop μ-loop
 loop-holds c = (omega arith, refl)
@@ -20,8 +20,8 @@ loop-holds c = (omega arith, refl)
 next-sum-requires : tie.Need-next-sum-requires Inv-loop μ-loop
 next-sum-requires c κs = search needs
 
-sub-n : tie.Need-sub-n Inv-loop μ-loop
-sub-n c = omega arith
+sub-i : tie.Need-sub-i Inv-loop μ-loop
+sub-i c = omega arith
 
 loop-less : tie.Need-loop-less Inv-loop μ-loop
 loop-less c = omega arith
@@ -33,4 +33,4 @@ returns : tie.Need-returns Inv-loop μ-loop
 returns c = no-steps-left _ _ _ (c .loop-test .left) (c .before .loop .inv .1)
 
 pub sum-spec : {M : Type 1} → statement M
-sum-spec = tie.close (tie.spec Inv-loop μ-loop loop-holds next-sum-requires sub-n loop-less loop-again returns)
+sum-spec = tie.close (tie.spec Inv-loop μ-loop loop-holds next-sum-requires sub-i loop-less loop-again returns)
