@@ -23,6 +23,7 @@ pub mod Adding
 pub mod Errors
 -- The functions.
 pub mod Greatest
+pub mod Close
 pub mod Isqrt
 pub mod SqrtNearest
 pub mod FmaOne

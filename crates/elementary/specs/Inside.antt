@@ -7,3 +7,5 @@ pub mod Errors
 pub mod Exp
 pub mod Each
 pub mod Bisection
+pub mod Tables
+pub mod Cdf

@@ -1,23 +1,24 @@
 // Cody's rational approximations of the error function: cody/optimized.rs, line by line.
 use crate::exp::exp;
-use crate::exp::exps;
 use crate::floor::floor;
 use crate::limits::MAX;
 use crate::methods::abs;
 use crate::methods::same;
 use crate::rule_set::RULE_SET_0;
 use crate::rule_set::RuleSet;
+use crate::tables::exp_of_negative_square_of_sixteenths;
 ghost use mathlib.Core.Path.{_≡_};
-ghost use mathlib.Core.Bool.{true, cond};
+ghost use mathlib.Core.Bool.{cond};
+ghost use Prim.Native.Nat.{_<_, _≤_};
 ghost use lib.Ieee.{lt};
-ghost use Rattle.elementary.specs.Ops.{_⊖_, _⊗_, +0, two};
-ghost use Rattle.elementary.specs.Inside.Each.{at, UpTo, Each};
+ghost use Rattle.elementary.specs.Ops.{_⊖_, +0, two};
 ghost use Rattle.elementary.specs.RuleSets.{rule-set-0};
+ghost use Rattle.elementary.specs.Inside.Cdf.{sixteenthsOf};
 ghost use Rattle.elementary.specs.Methods.{absOf};
 ghost use Rattle.elementary.specs.Exp.{expOf};
-ghost use Rattle.elementary.specs.Cody.{dIntOf, tildeOf, smoothenedExponentialOfNegativeSquare, smoothenedExponentialOfPositiveSquare, negativeSquare, negativeRest, abOf, cdOf, pqOf, erfcxAboveThreshold, erfcAbs, erfcOf, erfcxOf};
+ghost use Rattle.elementary.specs.Cody.{dIntOf, tildeOf, smoothenedExponentialOfNegativeSquare, smoothenedExponentialOfPositiveSquare, negativeSquare, abOf, cdOf, pqOf, erfcxAboveThreshold, erfcAbs, erfcOf, erfcxOf};
 
-const FRAC_1_SQRT_PI: f64 = 0.5641895835477563;
+pub(crate) const FRAC_1_SQRT_PI: f64 = 0.5641895835477563;
 
 const THRESHOLD: f64 = 0.46875;
 
@@ -93,11 +94,41 @@ pub(crate) fn tilde(y: f64) -> f64
     d_int(y * 16.0) / 16.0
 }
 
+// The number of sixteenths nearest to t, for a t from 0 up to 64.
+pub(crate) fn sixteenths(t: f64) -> u64
+    ensures { λ k. ⌜ k < 1024 ⌝ }
+{
+    let s = t + 281474976710656.0;
+    if s == s { f64::to_bits(s) % 1024 } else { 0 }
+}
+
+// k / 16.
+pub(crate) fn sixteenth(k: u64) -> f64
+    requires { ⌜ k ≤ 1024 ⌝ }
+    ensures { λ r. ⌜ r ≡ sixteenthsOf k ⌝ }
+{
+    (k as f64) / 16.0
+}
+
+// exp(−t²): from the table where t is one of its sixteenths.
+pub(crate) fn exp_of_negative_square(t: f64) -> f64
+    ensures { λ r. ⌜ r ≡ expOf (negativeSquare t) ⌝ }
+{
+    let k = sixteenths(t);
+    let v = exp_of_negative_square_of_sixteenths(k);
+    if 0 < v {
+        if same(t, sixteenth(k)) {
+            return f64::from_bits(v);
+        }
+    }
+    exp(-t * t)
+}
+
 pub fn smoothened_exponential_of_negative_square(y: f64) -> f64
     ensures { λ r. ⌜ r ≡ smoothenedExponentialOfNegativeSquare y ⌝ }
 {
     let y_tilde = tilde(y);
-    exp(-y_tilde * y_tilde) * exp(-(y - y_tilde) * (y + y_tilde))
+    exp_of_negative_square(y_tilde) * exp(-(y - y_tilde) * (y + y_tilde))
 }
 
 pub fn smoothened_exponential_of_positive_square(x: f64) -> f64
@@ -160,17 +191,22 @@ fn erfc_abs(set: RuleSet, y: f64, factor: f64) -> f64
     }
 }
 
-// erfc of x, whose size y is above the threshold.
-fn erfc_outside(set: RuleSet, x: f64, y: f64, factor: f64) -> f64
-    requires { ⌜ factor ≡ smoothenedExponentialOfNegativeSquare y ⌝ }
-    ensures { λ r. ⌜ r ≡ cond (lt x +0) (two ⊖ erfcAbs set y) (erfcAbs set y) ⌝ }
+// erfc of x from erfc of its size.
+pub(crate) fn on_side(x: f64, right: f64) -> f64
+    ensures { λ r. ⌜ r ≡ cond (lt x +0) (two ⊖ right) right ⌝ }
 {
-    let erfc_abs_x = erfc_abs(set, y, factor);
-    if x < 0.0 {
-        2.0 - erfc_abs_x
-    } else {
-        erfc_abs_x
+    if x < 0.0 { 2.0 - right } else { right }
+}
+
+// erfc of x, whose size is y, from its exponential factor.
+pub(crate) fn erfc_with_factor(set: RuleSet, x: f64, y: f64, factor: f64) -> f64
+    requires { ⌜ y ≡ absOf x ⌝ ∗ ⌜ factor ≡ smoothenedExponentialOfNegativeSquare y ⌝ }
+    ensures { λ r. ⌜ r ≡ erfcOf set x ⌝ }
+{
+    if y <= THRESHOLD {
+        return 1.0 - x * ab(y * y);
     }
+    on_side(x, erfc_abs(set, y, factor))
 }
 
 // erfc under any rule set.
@@ -181,25 +217,16 @@ pub fn erfc_under(set: RuleSet, x: f64) -> f64
     if y <= THRESHOLD {
         return 1.0 - x * ab(y * y);
     }
-    erfc_outside(set, x, y, smoothened_exponential_of_negative_square(y))
+    on_side(
+        x,
+        erfc_abs(set, y, smoothened_exponential_of_negative_square(y)),
+    )
 }
 
 pub fn erfc(x: f64) -> f64
     ensures { λ r. ⌜ r ≡ erfcOf rule-set-0 x ⌝ }
 {
     erfc_under(RULE_SET_0, x)
-}
-
-// erfc from its exponential factor.
-pub(crate) fn erfc_with_factor(set: RuleSet, x: f64, factor: f64) -> f64
-    requires { ⌜ factor ≡ smoothenedExponentialOfNegativeSquare (absOf x) ⌝ }
-    ensures { λ r. ⌜ r ≡ erfcOf set x ⌝ }
-{
-    let y = abs(x);
-    if y <= THRESHOLD {
-        return 1.0 - x * ab(y * y);
-    }
-    erfc_outside(set, x, y, factor)
 }
 
 pub fn erfcx(x: f64) -> f64
@@ -220,91 +247,4 @@ pub fn erfcx(x: f64) -> f64
     } else {
         result
     }
-}
-
-// ---- the exponential factor of eight side by side
-
-fn tildes(y: [f64; 8]) -> [f64; 8]
-    ensures { λ t. ⌜ Each tildeOf y t ⌝ }
-{
-    let mut t = [0.0; 8];
-    let mut j: usize = 0;
-    while j < 8 {
-        t[j] = tilde(y[j]);
-        j += 1;
-    }
-    t
-}
-
-fn negative_squares(t: [f64; 8]) -> [f64; 8]
-    ensures { λ z. ⌜ Each negativeSquare t z ⌝ }
-{
-    let mut z = [0.0; 8];
-    let mut j: usize = 0;
-    while j < 8 {
-        z[j] = -t[j] * t[j];
-        j += 1;
-    }
-    z
-}
-
-fn negative_rests(y: [f64; 8], t: [f64; 8]) -> [f64; 8]
-    requires { ⌜ Each tildeOf y t ⌝ }
-    ensures { λ z. ⌜ Each negativeRest y z ⌝ }
-{
-    let mut z = [0.0; 8];
-    let mut j: usize = 0;
-    while j < 8 {
-        z[j] = -(y[j] - t[j]) * (y[j] + t[j]);
-        j += 1;
-    }
-    z
-}
-
-// Whether all are a.
-fn all_same(t: [f64; 8], a: f64) -> bool
-    ensures { λ r. ⌜ (r ≡ true → UpTo (λ k. a) t 8) ⌝ }
-{
-    let mut j: usize = 0;
-    while j < 8 {
-        if same(t[j], a) {
-            j += 1;
-        } else {
-            return false;
-        }
-    }
-    true
-}
-
-// Where all eight are a, whose exponential is e, that serves them all.
-fn exps_of_negative_squares(t: [f64; 8], a: f64, e: f64) -> [f64; 8]
-    requires { ⌜ e ≡ expOf (negativeSquare a) ⌝ }
-    ensures { λ r. ⌜ Each (λ b. expOf (negativeSquare b)) t r ⌝ }
-{
-    if all_same(t, a) {
-        [e, e, e, e, e, e, e, e]
-    } else {
-        exps(negative_squares(t))
-    }
-}
-
-fn products(a: [f64; 8], b: [f64; 8]) -> [f64; 8]
-    ensures { λ r. ⌜ UpTo (λ k. at a k ⊗ at b k) r 8 ⌝ }
-{
-    let mut r = [0.0; 8];
-    let mut j: usize = 0;
-    while j < 8 {
-        r[j] = a[j] * b[j];
-        j += 1;
-    }
-    r
-}
-
-pub(crate) fn smoothened_exponentials_of_negative_squares(y: [f64; 8], a: f64, e: f64) -> [f64; 8]
-    requires { ⌜ e ≡ expOf (negativeSquare a) ⌝ }
-    ensures { λ r. ⌜ Each smoothenedExponentialOfNegativeSquare y r ⌝ }
-{
-    let t = tildes(y);
-    let s = exps_of_negative_squares(t, a, e);
-    products(s, exps(negative_rests(y, t)))
 }

@@ -1,16 +1,17 @@
 // Document 01's exp: the argument reduced by multiples of ln 2, a Taylor sum, and one rounding.
+use crate::eight::Eight;
 use crate::floor::floor;
 use crate::round::float_of_fields;
 use crate::round::is_finite;
 use crate::round::parts_of;
 use crate::round::round_exact;
 ghost use mathlib.Core.Path.{_≡_};
-ghost use Prim.Native.Nat.{_≤_};
+ghost use Prim.Native.Nat.{_-_, _≤_};
 ghost use lib.Ieee.{binary64, minus};
 ghost use Rattle.elementary.specs.Ops.{one};
-ghost use Rattle.elementary.specs.Inside.Each.{Each};
+ghost use Rattle.elementary.specs.Inside.Each.{Each, Pairs};
 ghost use Rattle.elementary.specs.Exp as Exp;
-ghost use Rattle.elementary.specs.Inside.Exp.{Whole, BiasedExponent};
+ghost use Rattle.elementary.specs.Inside.Exp.{Whole, BiasedExponent, StepsLeft, sumOf};
 
 // `scale_by_power` for any power of two: the digits of p are rounded at their new place.
 fn scale_by_any_power(p: f64, e: u64) -> f64
@@ -39,53 +40,25 @@ pub(crate) fn scale_by_power(p: f64, e: u64) -> f64
     p * float_of_fields(false, e - 1025, 0)
 }
 
-// p becomes 1 + (r × p) / i, for i from 13 down to 1.
+// One step of the sum: p becomes 1 + (r × p) / n.
+fn next_sum(r: f64, p: f64, n: u64) -> f64
+    requires { ⌜ 1 ≤ n ⌝ ∗ ⌜ n ≤ 13 ⌝ ∗ ⌜ StepsLeft n r p ⌝ }
+    ensures { λ q. ⌜ StepsLeft (n - 1) r q ⌝ }
+{
+    1.0 + r * p / (n as f64)
+}
+
+// For i from 13 down to 1.
 fn sum(r: f64) -> f64
     ensures { λ p. ⌜ p ≡ Exp.expSum 13 r one ⌝ }
 {
     let mut p = 1.0;
     let mut i: u64 = 13;
     while 0 < i {
-        p = 1.0 + r * p / (i as f64);
+        p = next_sum(r, p, i);
         i -= 1;
     }
     p
-}
-
-// `sum` of eight side by side: in one loop their divisions run as vectors.
-fn sums(r: [f64; 8]) -> [f64; 8]
-    ensures { λ q. ⌜ Each (λ x. Exp.expSum 13 x one) r q ⌝ }
-{
-    let r0 = r[0];
-    let r1 = r[1];
-    let r2 = r[2];
-    let r3 = r[3];
-    let r4 = r[4];
-    let r5 = r[5];
-    let r6 = r[6];
-    let r7 = r[7];
-    let mut p0 = 1.0;
-    let mut p1 = 1.0;
-    let mut p2 = 1.0;
-    let mut p3 = 1.0;
-    let mut p4 = 1.0;
-    let mut p5 = 1.0;
-    let mut p6 = 1.0;
-    let mut p7 = 1.0;
-    let mut n: u64 = 13;
-    while 0 < n {
-        let d = n as f64;
-        p0 = 1.0 + r0 * p0 / d;
-        p1 = 1.0 + r1 * p1 / d;
-        p2 = 1.0 + r2 * p2 / d;
-        p3 = 1.0 + r3 * p3 / d;
-        p4 = 1.0 + r4 * p4 / d;
-        p5 = 1.0 + r5 * p5 / d;
-        p6 = 1.0 + r6 * p6 / d;
-        p7 = 1.0 + r7 * p7 / d;
-        n -= 1;
-    }
-    [p0, p1, p2, p3, p4, p5, p6, p7]
 }
 
 // ln 2 in two parts.
@@ -143,41 +116,89 @@ pub fn exp(y: f64) -> f64
 
 // ---- eight side by side
 
-fn multiples(y: [f64; 8]) -> [f64; 8]
+fn multiples(y: Eight) -> Eight
     ensures { λ k. ⌜ Each Exp.expK y k ⌝ }
 {
-    let mut k = [0.0; 8];
-    let mut j: usize = 0;
-    while j < 8 {
-        k[j] = multiple(y[j]);
-        j += 1;
+    Eight {
+        x0: multiple(y.x0),
+        x1: multiple(y.x1),
+        x2: multiple(y.x2),
+        x3: multiple(y.x3),
+        x4: multiple(y.x4),
+        x5: multiple(y.x5),
+        x6: multiple(y.x6),
+        x7: multiple(y.x7),
     }
-    k
 }
 
-fn remainders(y: [f64; 8], k: [f64; 8]) -> [f64; 8]
+fn remainders(y: Eight, k: Eight) -> Eight
     requires { ⌜ Each Exp.expK y k ⌝ }
     ensures { λ r. ⌜ Each Exp.expR y r ⌝ }
 {
-    let mut r = [0.0; 8];
-    let mut j: usize = 0;
-    while j < 8 {
-        r[j] = remainder(y[j], k[j]);
-        j += 1;
+    Eight {
+        x0: remainder(y.x0, k.x0),
+        x1: remainder(y.x1, k.x1),
+        x2: remainder(y.x2, k.x2),
+        x3: remainder(y.x3, k.x3),
+        x4: remainder(y.x4, k.x4),
+        x5: remainder(y.x5, k.x5),
+        x6: remainder(y.x6, k.x6),
+        x7: remainder(y.x7, k.x7),
     }
-    r
 }
 
-pub(crate) fn exps(y: [f64; 8]) -> [f64; 8]
+fn next_sums(r: Eight, p: Eight, n: u64) -> Eight
+    requires { ⌜ 1 ≤ n ⌝ ∗ ⌜ n ≤ 13 ⌝ ∗ ⌜ Pairs (StepsLeft n) r p ⌝ }
+    ensures { λ q. ⌜ Pairs (StepsLeft (n - 1)) r q ⌝ }
+{
+    Eight {
+        x0: next_sum(r.x0, p.x0, n),
+        x1: next_sum(r.x1, p.x1, n),
+        x2: next_sum(r.x2, p.x2, n),
+        x3: next_sum(r.x3, p.x3, n),
+        x4: next_sum(r.x4, p.x4, n),
+        x5: next_sum(r.x5, p.x5, n),
+        x6: next_sum(r.x6, p.x6, n),
+        x7: next_sum(r.x7, p.x7, n),
+    }
+}
+
+// In one loop their divisions run as vectors.
+fn sums(y: Eight, r: Eight) -> Eight
+    requires { ⌜ Each Exp.expR y r ⌝ }
+    ensures { λ q. ⌜ Each sumOf y q ⌝ }
+{
+    let mut p = Eight {
+        x0: 1.0,
+        x1: 1.0,
+        x2: 1.0,
+        x3: 1.0,
+        x4: 1.0,
+        x5: 1.0,
+        x6: 1.0,
+        x7: 1.0,
+    };
+    let mut n: u64 = 13;
+    while 0 < n {
+        p = next_sums(r, p, n);
+        n -= 1;
+    }
+    p
+}
+
+pub(crate) fn exps(y: Eight) -> Eight
     ensures { λ r. ⌜ Each Exp.expOf y r ⌝ }
 {
     let k = multiples(y);
-    let q = sums(remainders(y, k));
-    let mut r = [0.0; 8];
-    let mut j: usize = 0;
-    while j < 8 {
-        r[j] = exp_from_sum(y[j], k[j], q[j]);
-        j += 1;
+    let q = sums(y, remainders(y, k));
+    Eight {
+        x0: exp_from_sum(y.x0, k.x0, q.x0),
+        x1: exp_from_sum(y.x1, k.x1, q.x1),
+        x2: exp_from_sum(y.x2, k.x2, q.x2),
+        x3: exp_from_sum(y.x3, k.x3, q.x3),
+        x4: exp_from_sum(y.x4, k.x4, q.x4),
+        x5: exp_from_sum(y.x5, k.x5, q.x5),
+        x6: exp_from_sum(y.x6, k.x6, q.x6),
+        x7: exp_from_sum(y.x7, k.x7, q.x7),
     }
-    r
 }

@@ -1,65 +1,39 @@
--- Eight numbers that a loop fills in one after another. Assumes nothing.
+-- Eight numbers side by side. Assumes nothing.
 use mathlib.Core.Path.{_≡_, sym, _∙_, ap}
-use mathlib.Core.Logic.{_⊎_, inl, inr}
-use mathlib.Core.List.{List, [], _∷_}
-use Prim.Native.Nat.{ℕ, zero, suc, _+_, _≤_, _<_}
-use native.Mathlib.Nat.{eq-or-lt-of-le}
+use Prim.Native.Nat.{ℕ, _≤_, _<_}
 use native.Mathlib.Omega.{arith}
-use lib.Dec.{lit<}
-use lib.ListN.{length, set, length-set}
-use lib.Seq.{getD-set-same, getD-set-other}
-use lib.Ieee.{Float, nan}
-use Rattle.elementary.specs.Inside.Each.{at, Of, UpTo, Each}
+use lib.Ieee.{Float}
+use Rattle.elementary.specs.Ops.{_⊗_}
+use Rattle.elementary.specs.declared.eight.Eight.{Eight}
+use Rattle.elementary.specs.declared.rule_set.RuleSet.{RuleSet}
+use Rattle.elementary.specs.Exp.{expOf}
+use Rattle.elementary.specs.Cody.{tildeOf, negativeRest, smoothenedExponentialOfNegativeSquare}
+use Rattle.elementary.specs.NormalDistribution.{cdfOf}
+use Rattle.elementary.specs.Inside.Each.{Each, All, constant}
+use Rattle.elementary.specs.Inside.Cdf.{argumentOf, halfErfc, expOfNegativeSquare, sixteenthsOf, Close}
+use Rattle.elementary.proofs.Laws.Close.{tilde-close}
 
-pub record Prefix (g : ℕ → Float) (r : List Float) (j : ℕ) : Type 0 where
-  pub bound : j ≤ 8
-  pub long : length r ≡ 8
-  pub first : UpTo g r j
+pub all-of : {P Q : Float → Type 0} {x : Eight} → ((y : Float) → P y → Q y) → All P x → All Q x
+all-of f h = record { at0 = f _ (h .at0); at1 = f _ (h .at1); at2 = f _ (h .at2); at3 = f _ (h .at3); at4 = f _ (h .at4); at5 = f _ (h .at5); at6 = f _ (h .at6); at7 = f _ (h .at7) }
 
-pub prefix-none : (g : ℕ → Float) (r : List Float) → length r ≡ 8 → Prefix g r 0
-prefix-none g r l = record { bound = omega arith; long = l; first = λ k p. absurd (omega arith) }
+-- the cdf by way of erfc's argument
+pub through : (set : RuleSet) {x w r : Eight} → Each argumentOf x w → Each (halfErfc set) w r → Each (cdfOf set) x r
+unfolding cdfOf
+through set h g = record { at0 = g .at0 ∙ ap (halfErfc set) (h .at0); at1 = g .at1 ∙ ap (halfErfc set) (h .at1); at2 = g .at2 ∙ ap (halfErfc set) (h .at2); at3 = g .at3 ∙ ap (halfErfc set) (h .at3); at4 = g .at4 ∙ ap (halfErfc set) (h .at4); at5 = g .at5 ∙ ap (halfErfc set) (h .at5); at6 = g .at6 ∙ ap (halfErfc set) (h .at6); at7 = g .at7 ∙ ap (halfErfc set) (h .at7) }
 
-pub one-more : (g : ℕ → Float) (r : List Float) (j : ℕ) → at r j ≡ g j → UpTo g r j → UpTo g r (j + 1)
-one-more g r j e h k p = go (eq-or-lt-of-le {n = k} {m = j} (omega arith))
-  where
-    go : (k ≡ j) ⊎ (k < j) → at r k ≡ g k
-    go (inl q) = rw q e
-    go (inr l) = h k l
+-- where all are close to k / 16, that is the tilde of each
+pub same-tilde : {k : ℕ} {a : Float} {y t : Eight} → 1 ≤ k → k < 1024 → All (Close k) y → a ≡ sixteenthsOf k → Each (constant a) t t → Each tildeOf y t
+same-tilde l h c e s = record { at0 = s .at0 ∙ e ∙ sym (tilde-close l h (c .at0)); at1 = s .at1 ∙ e ∙ sym (tilde-close l h (c .at1)); at2 = s .at2 ∙ e ∙ sym (tilde-close l h (c .at2)); at3 = s .at3 ∙ e ∙ sym (tilde-close l h (c .at3)); at4 = s .at4 ∙ e ∙ sym (tilde-close l h (c .at4)); at5 = s .at5 ∙ e ∙ sym (tilde-close l h (c .at5)); at6 = s .at6 ∙ e ∙ sym (tilde-close l h (c .at6)); at7 = s .at7 ∙ e ∙ sym (tilde-close l h (c .at7)) }
 
-pub next : (g : ℕ → Float) (r : List Float) (j : ℕ) (v : Float) → j < 8 → v ≡ g j → Prefix g r j → Prefix g (set r j v) (j + 1)
-next g r j v l e h =
-    record {
-      bound = omega arith;
-      long = length-set r j v ∙ h .long;
-      first = one-more g (set r j v) j (getD-set-same r j v nan (within (h .long)) ∙ e) (λ k p. getD-set-other r j k v nan (below k p) ∙ h .first k p);
-    }
-  where
-    within : length r ≡ 8 → j < length r
-    within q = omega arith
+-- and one exponential serves all
+pub same-exp : {a e : Float} {t s : Eight} → e ≡ expOfNegativeSquare a → Each (constant a) t t → Each (constant e) s s → Each expOfNegativeSquare t s
+same-exp p h g = record { at0 = g .at0 ∙ p ∙ ap expOfNegativeSquare (sym (h .at0)); at1 = g .at1 ∙ p ∙ ap expOfNegativeSquare (sym (h .at1)); at2 = g .at2 ∙ p ∙ ap expOfNegativeSquare (sym (h .at2)); at3 = g .at3 ∙ p ∙ ap expOfNegativeSquare (sym (h .at3)); at4 = g .at4 ∙ p ∙ ap expOfNegativeSquare (sym (h .at4)); at5 = g .at5 ∙ p ∙ ap expOfNegativeSquare (sym (h .at5)); at6 = g .at6 ∙ p ∙ ap expOfNegativeSquare (sym (h .at6)); at7 = g .at7 ∙ p ∙ ap expOfNegativeSquare (sym (h .at7)) }
 
-    below : (k : ℕ) → k < j → k ≡ j → ⊥
-    below k p q = omega arith
+-- a factor is the product of its two exponentials
+factor-of : (y : Float) {t s z c : Float} → t ≡ tildeOf y → s ≡ expOfNegativeSquare t → z ≡ negativeRest y → c ≡ expOf z → s ⊗ c ≡ smoothenedExponentialOfNegativeSquare y
+unfolding smoothenedExponentialOfNegativeSquare
+factor-of y p q r u = rw (u, r, q, p)
 
-pub prefix-all : {g : ℕ → Float} {r : List Float} {j : ℕ} → Prefix g r j → 8 ≤ j → UpTo g r 8
-prefix-all h l k p = h .first k (omega (arith, h .bound))
-
--- ---- written out
-pub eight : (g : ℕ → Float) {a b c d e f h i : Float} → a ≡ g 0 → b ≡ g 1 → c ≡ g 2 → d ≡ g 3 → e ≡ g 4 → f ≡ g 5 → h ≡ g 6 → i ≡ g 7
-    → UpTo g (a ∷ b ∷ c ∷ d ∷ e ∷ f ∷ h ∷ i ∷ []) 8
-eight g p0 p1 p2 p3 p4 p5 p6 p7 zero l = p0
-eight g p0 p1 p2 p3 p4 p5 p6 p7 (suc zero) l = p1
-eight g p0 p1 p2 p3 p4 p5 p6 p7 (suc (suc zero)) l = p2
-eight g p0 p1 p2 p3 p4 p5 p6 p7 (suc (suc (suc zero))) l = p3
-eight g p0 p1 p2 p3 p4 p5 p6 p7 (suc (suc (suc (suc zero)))) l = p4
-eight g p0 p1 p2 p3 p4 p5 p6 p7 (suc (suc (suc (suc (suc zero))))) l = p5
-eight g p0 p1 p2 p3 p4 p5 p6 p7 (suc (suc (suc (suc (suc (suc zero)))))) l = p6
-eight g p0 p1 p2 p3 p4 p5 p6 p7 (suc (suc (suc (suc (suc (suc (suc zero))))))) l = p7
-eight g p0 p1 p2 p3 p4 p5 p6 p7 (suc (suc (suc (suc (suc (suc (suc (suc k)))))))) l = absurd (omega arith)
-
--- where all are a, f of all is f of a
-pub copies : (f : Float → Float) (x : List Float) (a : Float) {v : Float} → v ≡ f a → UpTo (λ k. a) x 8 → Each f x (v ∷ v ∷ v ∷ v ∷ v ∷ v ∷ v ∷ v ∷ [])
-copies f x a {v} e h =
-    eight (Of f x) (same 0 (lit< tt)) (same 1 (lit< tt)) (same 2 (lit< tt)) (same 3 (lit< tt)) (same 4 (lit< tt)) (same 5 (lit< tt)) (same 6 (lit< tt)) (same 7 (lit< tt))
-  where
-    same : (k : ℕ) → k < 8 → v ≡ f (at x k)
-    same k l = e ∙ ap f (sym (h k l))
+pub factors-of : {y t s z c : Eight} → Each tildeOf y t → Each expOfNegativeSquare t s → Each negativeRest y z → Each expOf z c
+    → Each smoothenedExponentialOfNegativeSquare y (record { x0 = s .x0 ⊗ c .x0; x1 = s .x1 ⊗ c .x1; x2 = s .x2 ⊗ c .x2; x3 = s .x3 ⊗ c .x3; x4 = s .x4 ⊗ c .x4; x5 = s .x5 ⊗ c .x5; x6 = s .x6 ⊗ c .x6; x7 = s .x7 ⊗ c .x7 })
+factors-of {y} p q r u = record { at0 = factor-of (y .x0) (p .at0) (q .at0) (r .at0) (u .at0); at1 = factor-of (y .x1) (p .at1) (q .at1) (r .at1) (u .at1); at2 = factor-of (y .x2) (p .at2) (q .at2) (r .at2) (u .at2); at3 = factor-of (y .x3) (p .at3) (q .at3) (r .at3) (u .at3); at4 = factor-of (y .x4) (p .at4) (q .at4) (r .at4) (u .at4); at5 = factor-of (y .x5) (p .at5) (q .at5) (r .at5) (u .at5); at6 = factor-of (y .x6) (p .at6) (q .at6) (r .at6) (u .at6); at7 = factor-of (y .x7) (p .at7) (q .at7) (r .at7) (u .at7) }

@@ -1,15 +1,15 @@
 -- The bisection's steps, and where they change nothing any more. Assumes nothing.
 use mathlib.Core.Path.{_≡_, refl, sym, _∙_, ap}
-use mathlib.Core.Bool.{Bool, true, false}
-use mathlib.Core.List.{List}
+use mathlib.Core.Bool.{Bool, true, false, cond}
 use Prim.Native.Nat.{ℕ, zero, suc, _+_, _-_, _≤_, _<_}
+use native.Mathlib.Nat.{add-assoc}
 use native.Mathlib.Omega.{arith}
-use lib.ListN.{getD}
-use lib.Ieee.{Float, nan, lt}
+use lib.Ieee.{Float, lt}
 use Rattle.elementary.specs.declared.rule_set.RuleSet.{RuleSet}
-use Rattle.elementary.specs.Inside.Each.{Each}
-use Rattle.elementary.specs.NormalDistribution.{cdfOf, midOf, bisectionEnds, endsOf}
+use Rattle.elementary.specs.NormalDistribution.{cdfOf, midOf, bisectionEnds, lowest, highest, endsOf}
 use Rattle.elementary.specs.Inside.Bisection.{AfterSteps}
+use Rattle.elementary.specs.Inside.Cdf.{pointOf}
+use Rattle.elementary.proofs.tables.Laws.{Middle, middle-of, middle-16, middle-8, middle-4, middle-2, middle-1, lowest-point, highest-point}
 
 -- ---- one step
 step-up : (cdf : Float → Float) (n : ℕ) (p lo hi : Float) → lt (cdf (midOf lo hi)) p ≡ true → bisectionEnds cdf (suc n) p lo hi ≡ bisectionEnds cdf n p (midOf lo hi) hi
@@ -58,6 +58,29 @@ test-of-cdf set v x p b e t = rw (← e) t
 pub with-ends : {set : RuleSet} {p lo lo' hi hi' : Float} {i : ℕ} → lo ≡ lo' → hi ≡ hi' → AfterSteps set p lo' hi' i → AfterSteps set p lo hi i
 with-ends a b h = rw (a, b) h
 
--- a value at a point is the cdf's at every float that is the point
-pub at-point : (set : RuleSet) (x f : List Float) (k : ℕ) (mid : Float) → Each (cdfOf set) x f → k < 8 → mid ≡ getD x k nan → getD f k nan ≡ cdfOf set mid
-at-point set x f k mid h l e = h k l ∙ ap (cdfOf set) (sym e)
+-- ---- the first five steps
+module _ (set : RuleSet) (p : Float) where
+  after-step : (h n i steps r : ℕ) → Middle h n → i < n → steps < 64 → r ≡ cond (lt (cdfOf set (pointOf (i + h))) p) (i + h) i
+      → AfterSteps set p (pointOf i) (pointOf (i + (h + h))) steps → AfterSteps set p (pointOf r) (pointOf (r + h)) (steps + 1)
+  after-step h n i steps r m l s e after = go (lt (cdfOf set (pointOf (i + h))) p) refl e
+    where
+      mid : midOf (pointOf i) (pointOf (i + (h + h))) ≡ pointOf (i + h)
+      mid = middle-of h n i m l
+
+      go : (b : Bool) → lt (cdfOf set (pointOf (i + h))) p ≡ b → r ≡ cond b (i + h) i → AfterSteps set p (pointOf r) (pointOf (r + h)) (steps + 1)
+      go true t e = rw (e, add-assoc i h h, ← mid) (after-up p (pointOf i) (pointOf (i + (h + h))) steps after s (rw mid t))
+      go false t e = rw (e, ← mid) (after-down p (pointOf i) (pointOf (i + (h + h))) steps after s (rw mid t))
+
+  pub after-five : (a b c d i : ℕ)
+      → a ≡ cond (lt (cdfOf set (pointOf 16)) p) 16 0 → b ≡ cond (lt (cdfOf set (pointOf (a + 8))) p) (a + 8) a
+      → c ≡ cond (lt (cdfOf set (pointOf (b + 4))) p) (b + 4) b → d ≡ cond (lt (cdfOf set (pointOf (c + 2))) p) (c + 2) c
+      → i ≡ cond (lt (cdfOf set (pointOf (d + 1))) p) (d + 1) d → a < 17 → b < 25 → c < 29 → d < 31
+      → lt (cdfOf set lowest) p ≡ true → lt (cdfOf set highest) p ≡ false → AfterSteps set p (pointOf i) (pointOf (i + 1)) 5
+  unfolding endsOf
+  after-five a b c d i ea eb ec ed ei la lb lc ld under over =
+      after-step 1 31 d 4 i middle-1 ld (omega arith) ei
+      (after-step 2 29 c 3 d middle-2 lc (omega arith) ed
+      (after-step 4 25 b 2 c middle-4 lb (omega arith) ec
+      (after-step 8 17 a 1 b middle-8 la (omega arith) eb
+      (after-step 16 1 0 0 a middle-16 (omega arith) (omega arith) ea
+      (rw (lowest-point, highest-point) (record { bound = omega arith; under = under; over = over; rest = refl }))))))

@@ -1,22 +1,41 @@
--- Eight numbers side by side, as arrays. Definitions only.
+-- Eight numbers side by side. Definitions only.
 use mathlib.Core.Path.{_≡_}
-use mathlib.Core.List.{List}
-use Prim.Native.Nat.{ℕ, _<_}
-use lib.ListN.{getD}
-use lib.Ieee.{Float, nan}
+use lib.Ieee.{Float}
+use Rattle.elementary.specs.declared.eight.Eight.{Eight}
 
--- the number at k
-abbrev pub at : List Float → ℕ → Float
-at x k = getD x k nan
-
--- f of it
-abbrev pub Of : (Float → Float) → List Float → ℕ → Float
-Of f x k = f (at x k)
-
--- the first n of r are those of g
-abbrev pub UpTo : (ℕ → Float) → List Float → ℕ → Type 0
-UpTo g r n = (k : ℕ) → k < n → at r k ≡ g k
+-- a, whatever stands there
+abbrev pub constant : Float → Float → Float
+constant a x = a
 
 -- each of r is f of x's
-abbrev pub Each : (Float → Float) → List Float → List Float → Type 0
-Each f x r = UpTo (Of f x) r 8
+pub record Each (f : Float → Float) (x r : Eight) : Type 0 where
+  pub at0 : r .x0 ≡ f (x .x0)
+  pub at1 : r .x1 ≡ f (x .x1)
+  pub at2 : r .x2 ≡ f (x .x2)
+  pub at3 : r .x3 ≡ f (x .x3)
+  pub at4 : r .x4 ≡ f (x .x4)
+  pub at5 : r .x5 ≡ f (x .x5)
+  pub at6 : r .x6 ≡ f (x .x6)
+  pub at7 : r .x7 ≡ f (x .x7)
+
+-- each of x is a P
+pub record All (P : Float → Type 0) (x : Eight) : Type 0 where
+  pub at0 : P (x .x0)
+  pub at1 : P (x .x1)
+  pub at2 : P (x .x2)
+  pub at3 : P (x .x3)
+  pub at4 : P (x .x4)
+  pub at5 : P (x .x5)
+  pub at6 : P (x .x6)
+  pub at7 : P (x .x7)
+
+-- each of x has R to the one of r beside it
+pub record Pairs (R : Float → Float → Type 0) (x r : Eight) : Type 0 where
+  pub at0 : R (x .x0) (r .x0)
+  pub at1 : R (x .x1) (r .x1)
+  pub at2 : R (x .x2) (r .x2)
+  pub at3 : R (x .x3) (r .x3)
+  pub at4 : R (x .x4) (r .x4)
+  pub at5 : R (x .x5) (r .x5)
+  pub at6 : R (x .x6) (r .x6)
+  pub at7 : R (x .x7) (r .x7)

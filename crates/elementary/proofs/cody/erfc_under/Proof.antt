@@ -18,13 +18,16 @@ smoothened-exponential-of-negative-square-requires :
     tie.Need-smoothened-exponential-of-negative-square-requires
 smoothened-exponential-of-negative-square-requires c κs = search needs
 
-erfc-outside-requires : tie.Need-erfc-outside-requires
-erfc-outside-requires c κs = c .smoothened-exponential-of-negative-square .ensures
+erfc-abs-requires : tie.Need-erfc-abs-requires
+erfc-abs-requires c κs = c .smoothened-exponential-of-negative-square .ensures
+
+on-side-requires : tie.Need-on-side-requires
+on-side-requires c κs = search needs
 
 returns-2 : tie.Need-returns-2
 unfolding erfcOf
-returns-2 c = rw (c .erfc-outside .ensures, ← c .before .before .before .abs .ensures, c .before .before .if1 .left)
+returns-2 c = rw (c .on-side .ensures, c .before .erfc-abs .ensures, ← c .before .before .before .before .abs .ensures, c .before .before .before .if1 .left)
 
 pub erfc-under-spec : {M : Type 1} → statement M
 erfc-under-spec =
-    tie.close (tie.spec abs-requires ab-requires returns smoothened-exponential-of-negative-square-requires erfc-outside-requires returns-2)
+    tie.close (tie.spec abs-requires ab-requires returns smoothened-exponential-of-negative-square-requires erfc-abs-requires on-side-requires returns-2)

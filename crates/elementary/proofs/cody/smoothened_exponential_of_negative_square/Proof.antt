@@ -9,16 +9,16 @@ use Rattle.elementary.proofs.cody.smoothened_exponential_of_negative_sq
 tilde-requires : tie.Need-tilde-requires
 tilde-requires c κs = search needs
 
+exp-of-negative-square-requires : tie.Need-exp-of-negative-square-requires
+exp-of-negative-square-requires c κs = search needs
+
 exp-requires : tie.Need-exp-requires
 exp-requires c κs = search needs
 
-exp-requires-2 : tie.Need-exp-requires-2
-exp-requires-2 c κs = search needs
-
 returns : tie.Need-returns
 unfolding smoothenedExponentialOfNegativeSquare
-returns c = rw (c .before .exp .ensures, c .exp2 .ensures, c .before .before .tilde .ensures)
+returns c = rw (c .before .exp-of-negative-square .ensures, c .exp .ensures, c .before .before .tilde .ensures)
 
 pub smoothened-exponential-of-negative-square-spec : {M : Type 1} → statement M
 smoothened-exponential-of-negative-square-spec =
-    tie.close (tie.spec tilde-requires exp-requires exp-requires-2 returns)
+    tie.close (tie.spec tilde-requires exp-of-negative-square-requires exp-requires returns)

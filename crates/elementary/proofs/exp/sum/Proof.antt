@@ -2,12 +2,14 @@
 use mathlib.Core.Path.{refl}
 use Prim.Native.Nat.{_≤_}
 use native.Mathlib.Omega.{arith}
-use Rattle.elementary.proofs.exp.Steps.{StepsLeft, sum-step, no-steps-left, in-float}
+use borrow.Author.Needs.{needs}
+use Rattle.elementary.specs.Inside.Exp.{StepsLeft}
+use Rattle.elementary.proofs.exp.Steps.{no-steps-left}
 use Rattle.elementary.proofs.exp.sum.Statement.{statement}
 use Rattle.elementary.proofs.exp.sum.Tie as tie
 
 abbrev Inv-loop : tie.InvT-loop
-Inv-loop r p₀ i₀ p i = (i ≤ 13) × StepsLeft r p i
+Inv-loop r p₀ i₀ p i = (i ≤ 13) × StepsLeft i r p
 
 abbrev μ-loop : tie.MeasureT-loop
 μ-loop r p₀ i₀ p i = i
@@ -15,8 +17,8 @@ abbrev μ-loop : tie.MeasureT-loop
 loop-holds : tie.Need-loop-holds Inv-loop μ-loop
 loop-holds c = (omega arith, refl)
 
-int-to-float-p : tie.Need-int-to-float-p Inv-loop μ-loop
-int-to-float-p c = in-float _ (c .before .before .loop .inv .0)
+next-sum-requires : tie.Need-next-sum-requires Inv-loop μ-loop
+next-sum-requires c κs = search needs
 
 sub-i : tie.Need-sub-i Inv-loop μ-loop
 sub-i c = omega arith
@@ -25,10 +27,10 @@ loop-less : tie.Need-loop-less Inv-loop μ-loop
 loop-less c = omega arith
 
 loop-again : tie.Need-loop-again Inv-loop μ-loop
-loop-again c = (omega arith, sum-step _ _ _ (c .before .loop-test .taken) (c .before .before .loop .inv .1))
+loop-again c = (omega arith, c .next-sum .ensures)
 
 returns : tie.Need-returns Inv-loop μ-loop
 returns c = no-steps-left _ _ _ (c .loop-test .left) (c .before .loop .inv .1)
 
 pub sum-spec : {M : Type 1} → statement M
-sum-spec = tie.close (tie.spec Inv-loop μ-loop loop-holds int-to-float-p sub-i loop-less loop-again returns)
+sum-spec = tie.close (tie.spec Inv-loop μ-loop loop-holds next-sum-requires sub-i loop-less loop-again returns)

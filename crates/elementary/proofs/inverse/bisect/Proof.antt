@@ -1,19 +1,19 @@
 -- `inverse::bisect` meets its contract. Assumes nothing.
-use mathlib.Core.Path.{refl}
+use mathlib.Core.Path.{_∙_, ap}
 use Prim.Native.Nat.{_-_}
 use native.Mathlib.Omega.{arith}
 use borrow.Author.Needs.{needs}
-use Rattle.elementary.specs.NormalDistribution.{endsOf}
+use Rattle.elementary.specs.Inside.Cdf.{expOfNegativeSquare}
 use Rattle.elementary.specs.Inside.Bisection.{AfterSteps}
 use Rattle.elementary.proofs.inverse.Laws.{ends-low, ends-high, no-steps-left}
 use Rattle.elementary.proofs.inverse.bisect.Statement.{statement}
 use Rattle.elementary.proofs.inverse.bisect.Tie as tie
 
 abbrev Inv-loop : tie.InvT-loop
-Inv-loop set p guess a e at₀ at = AfterSteps set p (at .lo) (at .hi) (at .steps)
+Inv-loop set p guess k e at₀ at = AfterSteps set p (at .lo) (at .hi) (at .steps)
 
 abbrev μ-loop : tie.MeasureT-loop
-μ-loop set p guess a e at₀ at = 64 - at .steps
+μ-loop set p guess k e at₀ at = 64 - at .steps
 
 approximation-requires : tie.Need-approximation-requires Inv-loop μ-loop
 approximation-requires c κs = search needs
@@ -21,15 +21,20 @@ approximation-requires c κs = search needs
 abs-requires : tie.Need-abs-requires Inv-loop μ-loop
 abs-requires c κs = search needs
 
-tilde-requires : tie.Need-tilde-requires Inv-loop μ-loop
-tilde-requires c κs = search needs
+sixteenths-requires : tie.Need-sixteenths-requires Inv-loop μ-loop
+sixteenths-requires c κs = search needs
 
-exp-requires : tie.Need-exp-requires Inv-loop μ-loop
-exp-requires c κs = search needs
+sixteenth-requires : tie.Need-sixteenth-requires Inv-loop μ-loop
+sixteenth-requires c κs = search needs
+
+exp-of-negative-square-requires : tie.Need-exp-of-negative-square-requires Inv-loop μ-loop
+exp-of-negative-square-requires c κs = search needs
+
+first-steps-requires : tie.Need-first-steps-requires Inv-loop μ-loop
+first-steps-requires c κs = search needs
 
 loop-holds : tie.Need-loop-holds Inv-loop μ-loop
-unfolding endsOf
-loop-holds c = record { bound = omega arith; under = c .before .before .before .before .pre .0; over = c .before .before .before .before .pre .1; rest = refl }
+loop-holds c = c .first-steps .ensures
 
 same-requires : tie.Need-same-requires Inv-loop μ-loop
 same-requires c κs = search needs
@@ -53,7 +58,7 @@ refine-guess-requires c κs = search needs
 bisection-batch-requires : tie.Need-bisection-batch-requires Inv-loop μ-loop
 bisection-batch-requires c κs =
     let l = c .before .before .before .before .before .before .before .before in
-    (l .loop .inv, (omega (arith, c .before .before .before .before .before .before .if1 .taken), l .before .exp .ensures))
+    (l .loop .inv, (omega (arith, c .before .before .before .before .before .before .if1 .taken), (l .before .before .before .before .sixteenths .ensures, l .before .before .exp-of-negative-square .ensures ∙ ap expOfNegativeSquare (l .before .before .before .sixteenth .ensures))))
 
 loop-less : tie.Need-loop-less Inv-loop μ-loop
 loop-less c = omega (arith, c .bisection-batch .ensures .1, c .bisection-batch .ensures .0 .bound)
@@ -72,8 +77,10 @@ bisect-spec =
     μ-loop
     approximation-requires
     abs-requires
-    tilde-requires
-    exp-requires
+    sixteenths-requires
+    sixteenth-requires
+    exp-of-negative-square-requires
+    first-steps-requires
     loop-holds
     same-requires
     returns

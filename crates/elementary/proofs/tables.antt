@@ -1,0 +1,2 @@
+-- What the tables hold.
+pub mod Laws
