@@ -1,6 +1,9 @@
 // The normalised Black price: black.rs, line by line, and `black` of mod.rs. A function whose name ends
 // in `_under` takes the rule set; the Rust's own names stand for rule set 0.
 use crate::answer::Answer;
+use crate::constants::MINUS_FRAC_1_SQRT_2;
+use crate::constants::SMALL_T;
+use crate::constants::SQRT_2PI;
 use crate::inputs::OptionType;
 use crate::intrinsic::normalised_intrinsic;
 use crate::refusals;
@@ -32,13 +35,6 @@ ghost use Rattle.prices.specs.Inside.Exponentials.{twoBWith};
 const H_LARGE: f64 = -10.0;
 
 const CODYS_THRESHOLD: f64 = 0.46875;
-// 2 × 0.10566243270259357, a bound on t: (1 − 1/√3) / 2. The Rust calls its half the sixteenth root of
-// f64::EPSILON, which is 0.105112..
-pub(crate) const SMALL_T: f64 = 0.21132486540518713;
-
-pub(crate) const MINUS_FRAC_1_SQRT_2: f64 = -0.7071067811865476;
-
-pub(crate) const SQRT_2PI: f64 = 2.5066282746310002;
 
 // exp(−(h² + t²) / 2).
 pub(crate) fn bell(h: f64, t: f64) -> f64

@@ -1,14 +1,14 @@
 // The price and the vega of one s, which the solver asks for together: exp(−(h² + t²) / 2) is computed
 // once for both.
 use crate::answer::Answer;
-use crate::black::MINUS_FRAC_1_SQRT_2;
-use crate::black::SMALL_T;
 use crate::black::asymptotic;
 use crate::black::bell;
 use crate::black::codys_price;
 use crate::black::is_asymptotic;
 use crate::black::is_outside_asymptotic_region;
 use crate::black::normalised_black_call_under;
+use crate::constants::MINUS_FRAC_1_SQRT_2;
+use crate::constants::SMALL_T;
 use crate::inputs::OptionType;
 use crate::intrinsic::normalised_intrinsic;
 use crate::refusals;

@@ -2,8 +2,9 @@
 // done in floats by error-free transforms: the product and the sum with what rounding took off each,
 // and one sum of all. All steps go on whether their results are certain or not, and one number gathers
 // the doubts; where it is not 0, mul_add does every step.
-use crate::black::MINUS_FRAC_1_SQRT_2;
-use crate::black::SQRT_2PI;
+use crate::constants::MINUS_FRAC_1_SQRT_2;
+use crate::constants::ONE_OVER_SQRT_TWO_PI;
+use crate::constants::SQRT_2PI;
 use elementary::cody::erfcx;
 use elementary::methods::bits_of;
 use elementary::methods::max;
@@ -19,8 +20,6 @@ ghost use Rattle.elementary.specs.Inside.Bounds.{Over};
 ghost use Rattle.elementary.specs.Inside.Errors.{InRange, productError, Certain, CanSplit};
 ghost use Rattle.prices.specs.Black.{bell as bellOf, innermost as innermostOf, hornerStep, term1 as term1Of, term2 as term2Of, term3 as term3Of, term4 as term4Of, term5 as term5Of, term6 as term6Of, taylorOf, smallTInner};
 ghost use Rattle.prices.specs.Inside.SmallT.{Within, Grows, InRanges, Filled};
-
-const ONE_OVER_SQRT_TWO_PI: f64 = 0.3989422804014327;
 
 // ---- one fused step
 

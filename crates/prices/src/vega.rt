@@ -1,4 +1,5 @@
 // The normalised vega: `normalised_vega` of so_rational.rs, line by line.
+use crate::constants::ONE_OVER_SQRT_TWO_PI;
 use elementary::exp::exp;
 use elementary::methods::abs;
 use elementary::methods::powi_2;
@@ -6,8 +7,6 @@ ghost use mathlib.Core.Path.{_≡_};
 ghost use Rattle.elementary.specs.Ops.{_⊗_, _⊘_, half};
 ghost use Rattle.prices.specs.Vega.{atTheMoney, vegaVanishes, vegaOf};
 ghost use Rattle.prices.specs.Black.{bell};
-
-const ONE_OVER_SQRT_TWO_PI: f64 = 0.3989422804014327;
 
 const SQRT_DBL_MIN: f64 = 1.4916681462400413e-154;
 
