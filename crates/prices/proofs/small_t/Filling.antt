@@ -12,10 +12,8 @@ use lib.ListN.{getD, set, length-set}
 use lib.Seq.{getD-set-same, getD-set-other}
 use lib.Ieee.{Float, nan}
 use lib.Ieee.Fits.{and-l, and-r}
-use Rattle.elementary.specs.Inside.Each.{at}
-use Rattle.elementary.proofs.Laws.Eight.{one-more}
 use Rattle.prices.specs.Black.{innermost, hornerStep}
-use Rattle.prices.specs.Inside.SmallT.{Within, INNERMOST, P, Q, hornerSum, Filled}
+use Rattle.prices.specs.Inside.SmallT.{Within, INNERMOST, P, Q, hornerSum, at, Filled}
 use Rattle.prices.proofs.Laws.Flags.{or-left, or-right}
 use Rattle.prices.proofs.Laws.Sizes.{looser}
 
@@ -61,7 +59,7 @@ module _ (a h2 : Float) (k : ℕ) (y : List Float) (d e : ℕ) (v : Float) (h : 
   fill l v-is size =
       record {
         long = length-set y k v ∙ h .long;
-        right = λ z. one-more (hornerSum a h2) (set y k v) k (written ∙ v-is (or-left d e z) (or-right d e z)) (λ j p. kept j p ∙ h .right (or-left d e z) j p);
+        right = λ z j p. filled z j (eq-or-lt-of-le {n = j} {m = k} (omega arith));
         size = λ j p. go j (eq-or-lt-of-le {n = j} {m = k} (omega arith));
       }
     where
@@ -70,6 +68,10 @@ module _ (a h2 : Float) (k : ℕ) (y : List Float) (d e : ℕ) (v : Float) (h : 
 
       kept : (j : ℕ) → j < k → at (set y k v) j ≡ at y j
       kept j p = getD-set-other y k j v nan (λ q. omega arith)
+
+      filled : bitOr d e ≡ 0 → (j : ℕ) → (j ≡ k) ⊎ (j < k) → at (set y k v) j ≡ hornerSum a h2 j
+      filled z j (inl q) = rw q (written ∙ v-is (or-left d e z) (or-right d e z))
+      filled z j (inr p) = kept j p ∙ h .right (or-left d e z) j p
 
       go : (j : ℕ) → (j ≡ k) ⊎ (j < k) → Within (at (set y k v) j) (11 * j + 46)
       go j (inl q) = rw (q, written) size

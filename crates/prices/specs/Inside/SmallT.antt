@@ -6,9 +6,8 @@ use mathlib.Core.List.{List, [], _∷_}
 use Prim.Native.Nat.{ℕ, zero, suc, _+_, _*_, _^_, _≤_, _<_}
 use lib.Dec.{T}
 use lib.ListN.{length, getD}
-use lib.Ieee.{Float, binary64, isNan, toBits}
+use lib.Ieee.{Float, nan, binary64, isNan, toBits}
 use Rattle.elementary.specs.Inside.Bounds.{AtMost}
-use Rattle.elementary.specs.Inside.Each.{at, UpTo}
 use Rattle.prices.specs.Black.{innermost, hornerStep}
 
 -- x is finite and at most 2 ^ n in size
@@ -45,8 +44,12 @@ hornerSum a h2 (suc (suc zero)) = innermost a h2 36
 hornerSum a h2 (suc (suc (suc zero))) = innermost a h2 21
 hornerSum a h2 (suc (suc (suc (suc k)))) = hornerStep a h2 (hornerSum a h2 k) (getD P k 0) (getD Q k 0)
 
+-- the number at k
+abbrev pub at : List Float → ℕ → Float
+at y k = getD y k nan
+
 -- the first n of y are filled in; where there is no doubt, they are the sums
 pub record Filled (a h2 : Float) (n : ℕ) (y : List Float) (doubt : ℕ) : Type 0 where
   pub long : length y ≡ 18
-  pub right : doubt ≡ 0 → UpTo (hornerSum a h2) y n
+  pub right : doubt ≡ 0 → (k : ℕ) → k < n → at y k ≡ hornerSum a h2 k
   pub size : (k : ℕ) → k < n → Within (at y k) (11 * k + 46)

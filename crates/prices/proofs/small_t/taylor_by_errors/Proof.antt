@@ -4,10 +4,9 @@ use lib.Dec.{lit<, lit≤}
 use lib.Ieee.{Float, ofBits, ofInt}
 use borrow.Author.Needs.{needs}
 use Rattle.elementary.specs.Ops.{_⊗_, _⊘_, bits}
-use Rattle.elementary.specs.Inside.Each.{at}
 use Rattle.elementary.proofs.Laws.FmaOne.{fma-one}
 use Rattle.prices.specs.Black.{innermost, hornerStep, term1, term2, term3, term4, term5, term6, taylorOf}
-use Rattle.prices.specs.Inside.SmallT.{Within, hornerSum}
+use Rattle.prices.specs.Inside.SmallT.{Within, hornerSum, at}
 use Rattle.prices.proofs.Laws.Flags.{or-five}
 use Rattle.prices.proofs.Laws.Sizes.{looser, times, over, one-or-more}
 use Rattle.prices.proofs.small_t.taylor_by_errors.Statement.{statement}
