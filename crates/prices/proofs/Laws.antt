@@ -2,5 +2,6 @@
 pub mod Flags
 pub mod Sizes
 pub mod Refusals
+pub mod Regions
 pub mod Exponentials
 pub mod Recursion

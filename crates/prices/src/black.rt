@@ -28,8 +28,9 @@ ghost use Rattle.elementary.specs.RuleSets.{rule-set-0};
 ghost use Rattle.elementary.specs.Ops.{_⊗_, +0, half, one, mulAdd};
 ghost use Rattle.elementary.specs.Methods.{maxOf};
 ghost use Rattle.elementary.specs.Exp.{expOf};
-ghost use Rattle.prices.specs.Black.{bell as bellOf, smallTOf, seriesTerms, seriesOf, asymptoticInner, asymptoticOf, usingErfcxOf, codysOf, isOutsideAsymptoticRegion, isAsymptotic, regionOf, outOfTheMoney, plus as plusOf, callAt, callOf, normalisedBlackOf, isPositiveNormal, isFinite, priceFromNormalised, priceOf, blackAt, blackOf};
+ghost use Rattle.prices.specs.Black.{bell as bellOf, smallTOf, seriesTerms, seriesOf, asymptoticInner, asymptoticOf, usingErfcxOf, codysOf, isOutsideAsymptoticRegion, isAsymptotic, outOfTheMoney, plus as plusOf, callAt, callOf, normalisedBlackOf, isPositiveNormal, isFinite, priceFromNormalised, priceOf, blackAt, blackOf};
 ghost use Rattle.prices.specs.Inside.Exponentials.{twoBWith};
+ghost use Rattle.prices.specs.Inside.Regions.{regionAt};
 
 // The threshold of the asymptotic expansion, and H_LARGE.
 const H_LARGE: f64 = -10.0;
@@ -194,34 +195,49 @@ pub fn normalised_black_call_using_erfcx(h: f64, t: f64) -> f64
 // ---- the price
 
 // Whether the asymptotic expansion serves: h below −10 and t small, by a test without a division by s.
-pub(crate) fn is_asymptotic(x: f64, s: f64) -> bool
+fn is_asymptotic(x: f64, s: f64) -> bool
     ensures { λ r. ⌜ r ≡ isAsymptotic x s ⌝ }
 {
     x < s * H_LARGE && 0.5 * s * s + x < s * (SMALL_T + H_LARGE)
 }
 
-// The price by the formula of the region that x and s lie in.
-fn region(set: RuleSet, x: f64, s: f64) -> Answer
-    ensures { λ r. ⌜ r ≡ regionOf set x s ⌝ }
-{
-    if is_asymptotic(x, s) {
-        return asymptotic_expansion_of_normalised_black_call(x / s, 0.5 * s);
-    }
-    if 0.5 * s < SMALL_T {
-        return small_t_expansion_of_normalised_black_call(x / s, 0.5 * s);
-    }
-    Answer::Value(normalised_black_call_with_optimal_use_of_codys_functions_under(set, x, s))
+// What gives the price out of the money.
+pub(crate) enum Region {
+    Intrinsic,
+    Asymptotic,
+    SmallT,
+    Codys,
 }
 
-// Where s is 0 or below and x is finite, the intrinsic value; at an infinite x the product is NaN and
-// the test fails.
+// Where s is 0 or below and x is finite, the price is the intrinsic value; at an infinite x the product
+// is NaN and the test fails.
+pub(crate) fn region_of(x: f64, s: f64) -> Region
+    ensures { λ r. ⌜ r ≡ regionAt x s ⌝ }
+{
+    if s <= abs(x) * 0.0 {
+        return Region::Intrinsic;
+    }
+    if is_asymptotic(x, s) {
+        return Region::Asymptotic;
+    }
+    if 0.5 * s < SMALL_T {
+        Region::SmallT
+    } else {
+        Region::Codys
+    }
+}
+
 fn out_of_the_money(set: RuleSet, x: f64, s: f64) -> Answer
     ensures { λ r. ⌜ r ≡ outOfTheMoney set x s ⌝ }
 {
-    if s <= abs(x) * 0.0 {
-        return Answer::Value(normalised_intrinsic(x, OptionType::Call));
+    match region_of(x, s) {
+        Region::Intrinsic => Answer::Value(normalised_intrinsic(x, OptionType::Call)),
+        Region::Asymptotic => asymptotic_expansion_of_normalised_black_call(x / s, 0.5 * s),
+        Region::SmallT => small_t_expansion_of_normalised_black_call(x / s, 0.5 * s),
+        Region::Codys => Answer::Value(normalised_black_call_with_optimal_use_of_codys_functions_under(
+            set, x, s,
+        )),
     }
-    region(set, x, s)
 }
 
 // The sum of an amount and a value; a refusal passes up.

@@ -1,21 +1,20 @@
 // The price and the vega of one s, which the solver asks for together: exp(−(h² + t²) / 2) is computed
 // once for both.
 use crate::answer::Answer;
+use crate::black::Region;
 use crate::black::asymptotic;
 use crate::black::bell;
 use crate::black::codys_price;
-use crate::black::is_asymptotic;
 use crate::black::is_outside_asymptotic_region;
 use crate::black::normalised_black_call_under;
+use crate::black::region_of;
 use crate::constants::MINUS_FRAC_1_SQRT_2;
-use crate::constants::SMALL_T;
 use crate::inputs::OptionType;
 use crate::intrinsic::normalised_intrinsic;
 use crate::refusals;
 use crate::small_t::small_t;
 use crate::vega::normalised_vega;
 use crate::vega::vega_with;
-use elementary::methods::abs;
 use elementary::rule_set::RuleSet;
 ghost use mathlib.Core.Path.{_≡_};
 ghost use Rattle.prices.specs.Vega.{vegaOf};
@@ -49,8 +48,7 @@ fn in_asymptotic_region(h: f64, t: f64, vega: f64) -> PriceAndVega
     PriceAndVega::Both(asymptotic(h, t), vega)
 }
 
-// The three regions of normalised_black_call, after the test that makes the price intrinsic: s is 0 or
-// below and x is finite. At an infinite x the product is NaN and the test fails.
+// The price of its region, with the exponentials given.
 fn out_of_the_money(set: RuleSet, x: f64, s: f64, up: f64, down: f64) -> PriceAndVega
     ensures { λ r. ⌜ r ≡ priceAndVega (outOfTheMoneyWith set up down x s) (vegaOf x s) ⌝ }
 {
@@ -58,18 +56,18 @@ fn out_of_the_money(set: RuleSet, x: f64, s: f64, up: f64, down: f64) -> PriceAn
     let t = 0.5 * s;
     let exp_term = bell(h, t);
     let vega = vega_with(x, s, exp_term);
-    if s <= abs(x) * 0.0 {
-        return PriceAndVega::Both(normalised_intrinsic(x, OptionType::Call), vega);
+    match region_of(x, s) {
+        Region::Intrinsic => {
+            PriceAndVega::Both(normalised_intrinsic(x, OptionType::Call), vega)
+        }
+        Region::Asymptotic => in_asymptotic_region(h, t, vega),
+        Region::SmallT => PriceAndVega::Both(small_t(h, t, exp_term), vega),
+        Region::Codys => {
+            let q1 = MINUS_FRAC_1_SQRT_2 * (h + t);
+            let q2 = MINUS_FRAC_1_SQRT_2 * (h - t);
+            PriceAndVega::Both(codys_price(set, up, down, exp_term, q1, q2), vega)
+        }
     }
-    if is_asymptotic(x, s) {
-        return in_asymptotic_region(h, t, vega);
-    }
-    if t < SMALL_T {
-        return PriceAndVega::Both(small_t(h, t, exp_term), vega);
-    }
-    let q1 = MINUS_FRAC_1_SQRT_2 * (h + t);
-    let q2 = MINUS_FRAC_1_SQRT_2 * (h - t);
-    PriceAndVega::Both(codys_price(set, up, down, exp_term, q1, q2), vega)
 }
 
 // `up` is exp(x / 2) and `down` exp(−x / 2), which the caller has for every s.

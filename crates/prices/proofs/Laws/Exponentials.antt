@@ -7,9 +7,11 @@ use Rattle.elementary.specs.Ops.{+0}
 use Rattle.elementary.specs.declared.rule_set.RuleSet.{RuleSet}
 use Rattle.prices.specs.declared.answer.Answer.{Answer}
 use Rattle.prices.specs.declared.answer.Answer.the-variants.{Value, Refused}
-use Rattle.prices.specs.Black.{codysOf, regionOf, outOfTheMoney, callAt, callOf}
+use Rattle.prices.specs.Black.{codysOf, outOfTheMoney, callAt, callOf}
 use Rattle.prices.specs.declared.point.PriceAndVega.the-variants.{Both, Refused as Number}
-use Rattle.prices.specs.Inside.Exponentials.{upOf, downOf, twoBWith, codysWith, regionWith, outOfTheMoneyWith, callWith}
+use Rattle.prices.specs.Inside.Exponentials.{upOf, downOf, twoBWith, codysWith, outOfTheMoneyWith, callWith}
+use Rattle.prices.specs.Inside.Regions.{regionAt}
+use Rattle.prices.proofs.Laws.Regions.{in-region}
 use Rattle.prices.specs.Inside.Point.{priceAndVega}
 
 -- at exp(x / 2) and exp(−x / 2)
@@ -18,13 +20,9 @@ module _ (set : RuleSet) (x s : Float) where
   unfolding codysWith twoBWith codysOf
   codys-own = refl
 
-  region-own : regionWith set (upOf x) (downOf x) x s ≡ regionOf set x s
-  unfolding regionWith regionOf
-  region-own = rw codys-own
-
   out-own : outOfTheMoneyWith set (upOf x) (downOf x) x s ≡ outOfTheMoney set x s
-  unfolding outOfTheMoneyWith outOfTheMoney
-  out-own = rw region-own
+  unfolding outOfTheMoneyWith
+  out-own = rw codys-own (in-region set x s (regionAt x s) (regionAt x s) refl refl)
 
 pub at-own-exponentials : (set : RuleSet) (x s : Float) → callWith set (upOf x) (downOf x) x s ≡ callOf set x s
 unfolding callAt

@@ -1,17 +1,18 @@
 -- Prices over given exponentials, since the solver computes those of x once for every s: up stands for exp(x / 2), down for exp(−x / 2), exp-term for the bell
 -- of h and t. Definitions only.
 use mathlib.Core.Bool.{cond}
-use lib.Ieee.{Float, neg, lt, le}
+use lib.Ieee.{Float, neg, lt}
 use Rattle.elementary.specs.Ops.{_⊕_, _⊖_, _⊗_, _⊘_, +0, half}
 use Rattle.elementary.specs.declared.rule_set.RuleSet.{RuleSet}
-use Rattle.elementary.specs.Methods.{absOf, maxOf}
+use Rattle.elementary.specs.Methods.{maxOf}
 use Rattle.elementary.specs.Exp.{expOf}
 use Rattle.elementary.specs.Cody.{erfcOf, erfcxOf}
 use Rattle.prices.specs.declared.inputs.OptionType.the-variants.{Call}
 use Rattle.prices.specs.declared.answer.Answer.{Answer}
 use Rattle.prices.specs.declared.answer.Answer.the-variants.{Value}
 use Rattle.prices.specs.Intrinsic.{intrinsicOf}
-use Rattle.prices.specs.Black.{SMALL-T, CODYS-THRESHOLD, MINUS-FRAC, bell, smallTOf, asymptoticOf, isAsymptotic, callOf}
+use Rattle.prices.specs.Black.{CODYS-THRESHOLD, MINUS-FRAC, bell, smallTOf, asymptoticOf, callOf}
+use Rattle.prices.specs.Inside.Regions.{regionAt, inRegion}
 
 -- exp(x / 2)
 abbrev pub upOf : Float → Float
@@ -37,20 +38,10 @@ codysWith set up down x s =
     let t = half ⊗ s in
     maxOf (half ⊗ twoBWith set up down (bell h t) (MINUS-FRAC ⊗ (h ⊕ t)) (MINUS-FRAC ⊗ (h ⊖ t))) +0
 
--- regionOf
-unfoldable pub regionWith : RuleSet → Float → Float → Float → Float → Answer
-regionWith set up down x s =
-    let asymptotic = asymptoticOf (x ⊘ s) (half ⊗ s) in
-    let small-t = smallTOf (x ⊘ s) (half ⊗ s) in
-    let codys = Value (codysWith set up down x s) in
-    cond (isAsymptotic x s) asymptotic (cond (lt (half ⊗ s) SMALL-T) small-t codys)
-
 -- outOfTheMoney
 unfoldable pub outOfTheMoneyWith : RuleSet → Float → Float → Float → Float → Answer
 outOfTheMoneyWith set up down x s =
-    let intrinsic = Value (intrinsicOf x Call) in
-    let region = regionWith set up down x s in
-    cond (le s (absOf x ⊗ +0)) intrinsic region
+    inRegion (regionAt x s) (Value (intrinsicOf x Call)) (asymptoticOf (x ⊘ s) (half ⊗ s)) (smallTOf (x ⊘ s) (half ⊗ s)) (Value (codysWith set up down x s))
 
 -- callOf; in the money the exponentials of x are not asked for
 abbrev pub callWith : RuleSet → Float → Float → Float → Float → Answer

@@ -1,74 +1,56 @@
--- `point::out_of_the_money` meets its contract: each way out is the arm that the tests before it leave, and vega is the same on each. Assumes nothing.
+-- `point::out_of_the_money` meets its contract: the region that is met says which formula it is (Regions), and vega is the same on each way out. Assumes nothing.
 use Rattle.elementary.proofs.Laws.Compare.{not-le-of-lt}
 use Rattle.prices.specs.Black.{SMALL-T, smallTOf}
-use Rattle.prices.specs.Inside.Exponentials.{codysWith, regionWith, outOfTheMoneyWith}
+use Rattle.prices.specs.Inside.Exponentials.{codysWith}
+use Rattle.prices.proofs.Laws.Regions.{in-region-with, small-t-region}
 use borrow.Author.Needs.{needs}
 use Rattle.prices.proofs.point.out_of_the_money.Statement.{statement}
 use Rattle.prices.proofs.point.out_of_the_money.Tie as tie
 
-bell-requires : tie.Need-bell-requires
-bell-requires c κs = search needs
-
 vega-with-requires : tie.Need-vega-with-requires
 vega-with-requires c κs = c .bell .ensures
 
-abs-requires : tie.Need-abs-requires
-abs-requires c κs = search needs
-
-normalised-intrinsic-requires : tie.Need-normalised-intrinsic-requires
-normalised-intrinsic-requires c κs = search needs
-
 returns : tie.Need-returns
-unfolding outOfTheMoneyWith
 returns c =
-    let test = c .before .before in
-    rw (c .normalised-intrinsic .ensures, test .before .vega-with .ensures, rw (test .abs .ensures) at (c .before .if1 .taken))
-
-is-asymptotic-requires : tie.Need-is-asymptotic-requires
-is-asymptotic-requires c κs = search needs
-
-in-asymptotic-region-requires : tie.Need-in-asymptotic-region-requires
-in-asymptotic-region-requires c κs = search needs
+    let d = c .before .before .before in
+    rw (← in-region-with _ _ _ _ _ (d .region-of .ensures) (c .before .enum-told .given .1) _ _, c .normalised-intrinsic .ensures, d .before .vega-with .ensures)
 
 returns-2 : tie.Need-returns-2
-unfolding outOfTheMoneyWith regionWith
 returns-2 c =
-    let elsewhere = c .before .before .before in
-    rw (c .in-asymptotic-region .ensures, elsewhere .before .before .vega-with .ensures, rw (elsewhere .before .abs .ensures) at (elsewhere .if1 .left), rw (c .before .before .is-asymptotic .ensures) at (c .before .if2 .taken))
+    let d = c .before .before .before in
+    rw (← in-region-with _ _ _ _ _ (d .region-of .ensures) (c .before .enum-told2 .given .1) _ _, c .in-asymptotic-region .ensures, d .before .vega-with .ensures)
 
 small-t-requires : tie.Need-small-t-requires
-small-t-requires c κs = c .before .before .before .before .before .before .bell .ensures
+small-t-requires c κs = c .before .before .before .before .bell .ensures
 
 returns-3 : tie.Need-returns-3
-unfolding outOfTheMoneyWith regionWith smallTOf
+unfolding smallTOf
 returns-3 c =
-    let small = c .before in
-    let elsewhere = small .before .before .before in
-    rw (c .small-t .ensures, elsewhere .before .before .vega-with .ensures, rw (elsewhere .before .abs .ensures) at (elsewhere .if1 .left), rw (small .before .before .is-asymptotic .ensures) at (small .before .if2 .left), small .if3 .taken, not-le-of-lt _ SMALL-T (small .if3 .taken))
-
-codys-price-requires : tie.Need-codys-price-requires
-codys-price-requires c κs = search needs
+    let d = c .before .before .before in
+    rw (← in-region-with _ _ _ _ _ (d .region-of .ensures) (c .before .enum-told3 .given .1) _ _, c .small-t .ensures, d .before .vega-with .ensures, not-le-of-lt _ SMALL-T (small-t-region _ _ _ (d .region-of .ensures) (c .before .enum-told3 .given .1)))
 
 returns-4 : tie.Need-returns-4
-unfolding outOfTheMoneyWith regionWith codysWith
+unfolding codysWith
 returns-4 c =
-    let codys = c .before in
-    let elsewhere = codys .before .before .before in
-    rw (c .codys-price .ensures, elsewhere .before .before .before .bell .ensures, elsewhere .before .before .vega-with .ensures, rw (elsewhere .before .abs .ensures) at (elsewhere .if1 .left), rw (codys .before .before .is-asymptotic .ensures) at (codys .before .if2 .left), codys .if3 .left)
+    let d = c .before .before .before in
+    rw (← in-region-with _ _ _ _ _ (d .region-of .ensures) (c .before .enum-told4 .given .1) _ _, c .codys-price .ensures, d .before .before .bell .ensures, d .before .vega-with .ensures)
 
 pub out-of-the-money-spec : {M : Type 1} → statement M
 out-of-the-money-spec =
     tie.close
     (tie.spec
-    bell-requires
+    (λ c κs. search needs)
     vega-with-requires
-    abs-requires
-    normalised-intrinsic-requires
-    returns
-    is-asymptotic-requires
-    in-asymptotic-region-requires
-    returns-2
+    (λ c κs. search needs)
+    (λ c. search needs)
+    (λ c κs. search needs)
+    (λ c. search needs)
+    (λ c κs. search needs)
+    (λ c. search needs)
     small-t-requires
+    (λ c. search needs)
+    (λ c κs. search needs)
+    returns
+    returns-2
     returns-3
-    codys-price-requires
     returns-4)
