@@ -234,9 +234,12 @@ fn out_of_the_money(set: RuleSet, x: f64, s: f64) -> Answer
         Region::Intrinsic => Answer::Value(normalised_intrinsic(x, OptionType::Call)),
         Region::Asymptotic => asymptotic_expansion_of_normalised_black_call(x / s, 0.5 * s),
         Region::SmallT => small_t_expansion_of_normalised_black_call(x / s, 0.5 * s),
-        Region::Codys => Answer::Value(normalised_black_call_with_optimal_use_of_codys_functions_under(
-            set, x, s,
-        )),
+        Region::Codys =>
+            Answer::Value(normalised_black_call_with_optimal_use_of_codys_functions_under(
+                set,
+                x,
+                s,
+            )),
     }
 }
 

@@ -57,9 +57,7 @@ fn out_of_the_money(set: RuleSet, x: f64, s: f64, up: f64, down: f64) -> PriceAn
     let exp_term = bell(h, t);
     let vega = vega_with(x, s, exp_term);
     match region_of(x, s) {
-        Region::Intrinsic => {
-            PriceAndVega::Both(normalised_intrinsic(x, OptionType::Call), vega)
-        }
+        Region::Intrinsic => { PriceAndVega::Both(normalised_intrinsic(x, OptionType::Call), vega) }
         Region::Asymptotic => in_asymptotic_region(h, t, vega),
         Region::SmallT => PriceAndVega::Both(small_t(h, t, exp_term), vega),
         Region::Codys => {
