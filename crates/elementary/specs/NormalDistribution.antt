@@ -4,7 +4,6 @@ use Prim.Native.Nat.{ℕ, zero, suc}
 use lib.Ieee.{Float, nan, inf, neg, lt, le, ne}
 use Rattle.elementary.specs.Ops.{_⊕_, _⊗_, bits, +0, half, one, two}
 use Rattle.elementary.specs.declared.rule_set.RuleSet.{RuleSet}
-use Rattle.elementary.specs.Methods.{absOf}
 use Rattle.elementary.specs.Cody.{erfcOf}
 
 -- 1 / √2, std's
@@ -14,10 +13,6 @@ FRAC-1-SQRT-2 = bits 0x3fe6_a09e_667f_3bcd  -- 0.7071067811865476
 -- the cdf
 unfoldable pub cdfOf : RuleSet → Float → Float
 cdfOf set y = half ⊗ erfcOf set (neg y ⊗ FRAC-1-SQRT-2)
-
--- the size of erfc's argument
-abbrev pub sizeOf : Float → Float
-sizeOf y = absOf (neg y ⊗ FRAC-1-SQRT-2)
 
 -- ---- the bisection behind the inverse, over any cdf
 
