@@ -168,11 +168,13 @@ const Q: [u32; 14] = [
     6555,
 ];
 
+// The sums, with the doubts of all.
 struct Sums {
     y: [f64; 18],
     doubt: u64,
 }
 
+// The first four entries.
 fn innermost_sums(a: f64, h2: f64) -> Sums
     requires { ⌜ InRanges a h2 ⌝ }
     ensures { λ r. ⌜ Filled a h2 4 (r .y) (r .doubt) ⌝ }
@@ -190,6 +192,7 @@ fn innermost_sums(a: f64, h2: f64) -> Sums
     Sums { y: y, doubt: doubt }
 }
 
+// The others.
 fn horner_sums(a: f64, h2: f64, from: Sums) -> Sums
     requires { ⌜ InRanges a h2 ⌝ ∗ ⌜ Filled a h2 4 (from .y) (from .doubt) ⌝ }
     ensures { λ r. ⌜ Filled a h2 18 (r .y) (r .doubt) ⌝ }
@@ -228,9 +231,9 @@ fn taylor_by_errors(a: f64, h2: f64, t2: f64) -> Fused
     ensures { λ r. ⌜ (r .doubt ≡ 0 → r .value ≡ taylorOf a h2 t2) ⌝ }
 {
     let s = horner_sums(a, h2, innermost_sums(a, h2));
-    let y2 = innermost_by_errors(a, h2, 10);
+    let bracket = innermost_by_errors(a, h2, 10);
     let y1 = innermost_by_errors(a, h2, 3);
-    let y22 = horner_step_by_errors(a, h2, y2.value, 15, 7);
+    let y2 = horner_step_by_errors(a, h2, bracket.value, 15, 7);
     let y6 = horner_step_by_errors(a, h2, s.y[16], 135135, 89055);
     let t4 = t2 * t2;
     let t6 = t4 * t2;
@@ -239,12 +242,12 @@ fn taylor_by_errors(a: f64, h2: f64, t2: f64) -> Fused
     let t12 = t6 * t6;
     let sum = Fused {
         value: y6.value / 6227020800.0 * t12,
-        doubt: s.doubt | y1.doubt | y2.doubt | y22.doubt | y6.doubt,
+        doubt: s.doubt | y1.doubt | bracket.doubt | y2.doubt | y6.doubt,
     };
     let sum = add_term(sum, s.y[17], 39916800.0, t10);
     let sum = add_term(sum, s.y[14], 362880.0, t8);
     let sum = add_term(sum, s.y[11], 5040.0, t6);
-    let sum = add_term(sum, y22.value, 120.0, t4);
+    let sum = add_term(sum, y2.value, 120.0, t4);
     let sum = add_term(sum, y1.value, 6.0, t2);
     Fused {
         value: a + sum.value,

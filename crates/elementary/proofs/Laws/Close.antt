@@ -1,14 +1,14 @@
 -- Numbers that lie in one sixteenth: their tilde, and where they stand among the borders of erfc's regions. Assumes nothing.
 use mathlib.Core.Path.{_≡_, refl, sym, ap, _∙_}
-use mathlib.Core.Bool.{Bool, true, false, _&&_, cond, true≢false}
+use mathlib.Core.Bool.{Bool, true, false, _&&_, true≢false}
 use Prim.Native.Nat.{ℕ, zero, suc, _+_, _-_, _*_, _^_, _≤_, _<_}
-use native.Mathlib.Nat.{mul-assoc, mul-comm, mul-one, mul-right-comm, mul-pos, mul-le-mul-right, le-trans, lt-of-lt-of-le, lt-of-not-le, lt-irrefl}
+use native.Mathlib.Nat.{mul-assoc, mul-one, mul-right-comm, mul-pos, mul-le-mul-right, le-trans, lt-of-lt-of-le, lt-of-not-le, lt-irrefl}
 use native.Mathlib.Omega.{arith}
 use borrow.Author.Tests.{lt-ltb}
 use lib.IntN.{pos, negsuc}
 use lib.Dec.{T, lit≤, not-T, le→leb, ltb→lt}
 use lib.Pow.{pow-add, pow-pos, pow-mono, pow-lt, shl-lt}
-use lib.Ieee.{Float, nan, inf, fin, binary64, up, down, round, neg, mul, div, lt, le, eq, fits, ofBits, ofInt, inFloat}
+use lib.Ieee.{Float, nan, inf, fin, binary64, up, down, round, neg, div, lt, le, fits, ofBits, inFloat}
 use lib.Ieee.Bits.{is-true, is-false}
 use lib.Ieee.Fits.{down-pos, up-pos, mul-fits, ofInt-fits}
 use lib.Ieee.Exact.{HasValue, round-exact}

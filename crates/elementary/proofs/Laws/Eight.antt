@@ -1,7 +1,6 @@
 -- Eight numbers side by side. Assumes nothing.
 use mathlib.Core.Path.{_≡_, sym, _∙_, ap}
 use Prim.Native.Nat.{ℕ, _≤_, _<_}
-use native.Mathlib.Omega.{arith}
 use lib.Ieee.{Float}
 use Rattle.elementary.specs.Ops.{_⊗_}
 use Rattle.elementary.specs.declared.eight.Eight.{Eight}

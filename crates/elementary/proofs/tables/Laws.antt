@@ -1,15 +1,13 @@
 -- The tables' entries are the values of the definitions, by computation. Assumes nothing.
-use mathlib.Core.Path.{_≡_, refl, sym, _∙_, ap}
-use mathlib.Core.Logic.{_⊎_, inl, inr}
+use mathlib.Core.Path.{_≡_, refl, _∙_, ap}
 use mathlib.Core.List.{List, [], _∷_}
-use Prim.Native.Nat.{ℕ, zero, suc, _+_, _<_, _≤_}
+use Prim.Native.Nat.{ℕ, zero, suc, _+_, _<_}
 use native.Mathlib.Nat.{add-zero, add-suc, suc-add, zero-add, lt-of-not-le}
 use native.Mathlib.Omega.{arith}
 use borrow.Author.Tests.{ne-eqb}
-use lib.Dec.{T, eqb}
 use lib.ListN.{length, getD, List·getD-eq-default}
-use lib.Ieee.{Float, binary64, nanBits, add, sub, mul, div, neg, ofBits, ofInt, toSigned, round, units, size, lt, le, eq, ne}
-use Rattle.elementary.specs.Ops.{bits, +0}
+use lib.Ieee.{Float, add, sub, mul, div, neg, ofBits, ofInt, toSigned, round, units, size, lt, le, eq, ne}
+use Rattle.elementary.specs.Ops.{bits}
 use Rattle.elementary.specs.declared.rule_set.RuleSet.{RuleSet}
 use Rattle.elementary.specs.Floor.{floorOf}
 use Rattle.elementary.specs.Methods.{absOf}

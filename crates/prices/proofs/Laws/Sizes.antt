@@ -16,8 +16,7 @@ use lib.Ieee.Scale.{finite}
 use lib.Ieee.Bits.{is-false, ofBits-toBits, toBits-lt}
 use Rattle.elementary.specs.Ops.{_⊕_, _⊖_, _⊗_, _⊘_, bits, float}
 use Rattle.elementary.specs.Inside.Bounds.{AtMost, Over}
-use Rattle.elementary.specs.Inside.Errors.{productError, sumError, orderedSumError, roundedHigh, cutHigh, outward, inward}
-use Rattle.elementary.specs.Inside.Errors.{CanSplit}
+use Rattle.elementary.specs.Inside.Errors.{CanSplit, productError, sumError, orderedSumError, roundedHigh, cutHigh, outward, inward}
 use Rattle.elementary.proofs.Laws.Bits.{no-nan-pattern}
 use Rattle.elementary.proofs.Laws.Decode.{finite-no-nan, finite-field}
 use Rattle.elementary.proofs.Laws.Values.{recast, value-low, value-mid, whole-value}

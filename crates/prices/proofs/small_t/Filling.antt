@@ -55,27 +55,21 @@ step-is a h2 k = let e : suc (suc (suc (suc k))) ≡ k + 4 = omega arith in subs
 
 -- ---- one more entry
 module _ (a h2 : Float) (k : ℕ) (y : List Float) (d e : ℕ) (v : Float) (h : Filled a h2 k y d) where
+  -- what holds of v at k and of the entries before it
+  each : (R : Float → ℕ → Type 0) → k < 18 → R v k → ((j : ℕ) → j < k → R (at y j) j) → (j : ℕ) → j < k + 1 → R (at (set y k v) j) j
+  each R l new old j p = go (eq-or-lt-of-le {n = j} {m = k} (omega arith))
+    where
+      go : (j ≡ k) ⊎ (j < k) → R (at (set y k v) j) j
+      go (inl q) = rw (q, getD-set-same y k v nan (omega (arith, h .long))) new
+      go (inr q) = rw (getD-set-other y k j v nan (λ e. omega arith)) (old j q)
+
   fill : k < 18 → (d ≡ 0 → e ≡ 0 → v ≡ hornerSum a h2 k) → Within v (11 * k + 46) → Filled a h2 (k + 1) (set y k v) (bitOr d e)
   fill l v-is size =
       record {
         long = length-set y k v ∙ h .long;
-        right = λ z j p. filled z j (eq-or-lt-of-le {n = j} {m = k} (omega arith));
-        size = λ j p. go j (eq-or-lt-of-le {n = j} {m = k} (omega arith));
+        right = λ z. each (λ x j. x ≡ hornerSum a h2 j) l (v-is (or-left d e z) (or-right d e z)) (h .right (or-left d e z));
+        size = each (λ x j. Within x (11 * j + 46)) l size (h .size);
       }
-    where
-      written : at (set y k v) k ≡ v
-      written = getD-set-same y k v nan (omega (arith, h .long))
-
-      kept : (j : ℕ) → j < k → at (set y k v) j ≡ at y j
-      kept j p = getD-set-other y k j v nan (λ q. omega arith)
-
-      filled : bitOr d e ≡ 0 → (j : ℕ) → (j ≡ k) ⊎ (j < k) → at (set y k v) j ≡ hornerSum a h2 j
-      filled z j (inl q) = rw q (written ∙ v-is (or-left d e z) (or-right d e z))
-      filled z j (inr p) = kept j p ∙ h .right (or-left d e z) j p
-
-      go : (j : ℕ) → (j ≡ k) ⊎ (j < k) → Within (at (set y k v) j) (11 * j + 46)
-      go j (inl q) = rw (q, written) size
-      go j (inr p) = rw (kept j p) (h .size j p)
 
   pub fill-innermost : k < 4 → (e ≡ 0 → v ≡ innermost a h2 (getD INNERMOST k 0)) → Within v 46 → Filled a h2 (k + 1) (set y k v) (bitOr d e)
   fill-innermost l v-is size = fill (omega arith) (λ z u. v-is u ∙ innermost-is a h2 k l) (looser (11 * k + 46) (omega arith) size)

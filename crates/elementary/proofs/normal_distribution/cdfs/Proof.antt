@@ -1,6 +1,5 @@
 -- `normal_distribution::cdfs` meets its contract. Assumes nothing.
 use mathlib.Core.Path.{sym, _∙_}
-use native.Mathlib.Omega.{arith}
 use borrow.Author.Needs.{needs}
 use Rattle.elementary.proofs.Laws.Close.{all-close}
 use Rattle.elementary.proofs.Laws.Eight.{through}

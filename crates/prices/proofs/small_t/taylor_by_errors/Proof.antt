@@ -132,16 +132,16 @@ returns c z =
     let y6 = c .before .before .before .before .before .before .before .before .before .before .before .before .before .before .horner-step-by-errors2 in
     let y2 = c .before .before .before .before .before .before .before .before .before .before .before .before .before .before .before .before .horner-step-by-errors in
     let y1 = c .before .before .before .before .before .before .before .before .before .before .before .before .before .before .before .before .before .innermost-by-errors2 in
-    let inner2 = c .before .before .before .before .before .before .before .before .before .before .before .before .before .before .before .before .before .before .innermost-by-errors in
+    let bracket = c .before .before .before .before .before .before .before .before .before .before .before .before .before .before .before .before .before .before .innermost-by-errors in
     let sums = c .before .before .before .before .before .before .before .before .before .before .before .before .before .before .before .before .before .before .before .horner-sums in
     let z4 = f5 .0 z in
     let z3 = f4 .0 z4 in
     let z2 = f3 .0 z3 in
     let z1 = f2 .0 z2 in
-    let zs = or-five (sums .result .doubt) (y1 .result .doubt) (inner2 .result .doubt) (y2 .result .doubt) (y6 .result .doubt) (f1 .0 z1) in
+    let zs = or-five (sums .result .doubt) (y1 .result .doubt) (bracket .result .doubt) (y2 .result .doubt) (y6 .result .doubt) (f1 .0 z1) in
     let right = sums .ensures .right (zs .0) in
     sym (fma-one _ _)
-    ∙ rw (f5 .1 .0 z, f4 .1 .0 z4, f3 .1 .0 z3, f2 .1 .0 z2, f1 .1 .0 z1, term1-is a h2 (y1 .result .value) (y1 .ensures .0 (zs .1)), term2-is a h2 (y2 .result .value) (y2 .ensures .0 (zs .3) ∙ rw (inner2 .ensures .0 (zs .2))), term3-is a h2 (at (sums .result .y) 11) (right 11 (lit< tt)), term4-is a h2 (at (sums .result .y) 14) (right 14 (lit< tt)), term5-is a h2 (at (sums .result .y) 17) (right 17 (lit< tt)), term6-is a h2 (y6 .result .value) (y6 .ensures .0 (zs .4) ∙ rw (right 16 (lit< tt))))
+    ∙ rw (f5 .1 .0 z, f4 .1 .0 z4, f3 .1 .0 z3, f2 .1 .0 z2, f1 .1 .0 z1, term1-is a h2 (y1 .result .value) (y1 .ensures .0 (zs .1)), term2-is a h2 (y2 .result .value) (y2 .ensures .0 (zs .3) ∙ rw (bracket .ensures .0 (zs .2))), term3-is a h2 (at (sums .result .y) 11) (right 11 (lit< tt)), term4-is a h2 (at (sums .result .y) 14) (right 14 (lit< tt)), term5-is a h2 (at (sums .result .y) 17) (right 17 (lit< tt)), term6-is a h2 (y6 .result .value) (y6 .ensures .0 (zs .4) ∙ rw (right 16 (lit< tt))))
 
 pub taylor-by-errors-spec : {M : Type 1} → statement M
 taylor-by-errors-spec = tie.close (tie.spec innermost-sums-requires horner-sums-requires innermost-by-errors-requires innermost-by-errors-requires-2 horner-step-by-errors-requires element-copy-out-horner-step-by-errors horner-step-by-errors-requires-2 element-copy-out-add-term add-term-requires element-copy-out-add-term-2 add-term-requires-2 element-copy-out-add-term-3 add-term-requires-3 add-term-requires-4 add-term-requires-5 returns)
