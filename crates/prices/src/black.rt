@@ -253,6 +253,16 @@ fn plus(amount: f64, price: Answer) -> Answer
     }
 }
 
+// The same answer, made of its parts: passed on whole, it would be copied byte by byte.
+fn rebuild(answer: Answer) -> Answer
+    ensures { λ r. ⌜ r ≡ answer ⌝ }
+{
+    match answer {
+        Answer::Value(b) => Answer::Value(b),
+        Answer::Refused(n) => Answer::Refused(n),
+    }
+}
+
 // In the money the price at −x is out of the money: the call to itself is made once.
 fn call_at(set: RuleSet, depth: u64, x: f64, s: f64) -> Answer
     ensures { λ r. ⌜ r ≡ callAt depth set x s ⌝ }
@@ -264,7 +274,7 @@ fn call_at(set: RuleSet, depth: u64, x: f64, s: f64) -> Answer
         let intrinsic = normalised_intrinsic(x, OptionType::Call);
         return plus(intrinsic, call_at(set, depth - 1, -x, s));
     }
-    out_of_the_money(set, x, s)
+    rebuild(out_of_the_money(set, x, s))
 }
 
 pub fn normalised_black_call_under(set: RuleSet, x: f64, s: f64) -> Answer

@@ -18,6 +18,7 @@ use Rattle.prices.proofs.black.call_at.Kinds as call-at-kinds
 use Rattle.prices.proofs.black.+call_at.Lts-call_at as call-at-lts
 use Rattle.prices.proofs.black.out_of_the_money.Reads as out-of-the-money-reads
 use Rattle.prices.proofs.black.plus.Reads as plus-reads
+use Rattle.prices.proofs.black.rebuild.Reads as rebuild-reads
 use Rattle.prices.proofs.intrinsic.normalised_intrinsic.Reads as normalised-intrinsic-reads
 use Rattle.prices.proofs.black.+call_at.{statement}
 use Rattle.prices.proofs.black.+call_at.Tie.{close}
@@ -59,6 +60,8 @@ claims t = (
   call-at.Post,
   plus-reads.Asked,
   plus-reads.Learnt,
+  rebuild-reads.Asked,
+  rebuild-reads.Learnt,
 )
 
 call-at-out-of-the-money-requires : (t : ℕ) → call-at-lts.Need-out-of-the-money-requires (claims t) (call-at-at t) call-at.Post
@@ -85,8 +88,12 @@ call-at-returns-2 t c = mapped _ _ _ _ _ _ _ (c .before .before .before .before 
 call-at-out-of-the-money-requires-2 : (t : ℕ) → call-at-lts.Need-out-of-the-money-requires-2 (claims t) (call-at-at t) call-at.Post
 call-at-out-of-the-money-requires-2 t c κs = tt
 
+call-at-rebuild-requires : (t : ℕ) → call-at-lts.Need-rebuild-requires (claims t) (call-at-at t) call-at.Post
+call-at-rebuild-requires t c κs = tt
+
 call-at-returns-3 : (t : ℕ) → call-at-lts.Need-returns-3 (claims t) (call-at-at t) call-at.Post
-call-at-returns-3 t c = direct _ _ _ _ _ (c .before .before .if1 .left) (c .before .if2 .left) (c .out-of-the-money2 .ensures)
+call-at-returns-3 t c =
+    direct _ _ _ _ _ (c .before .before .before .if1 .left) (c .before .before .if2 .left) (c .rebuild .ensures ∙ c .before .out-of-the-money2 .ensures)
 
 pub +call-at-spec : {M : Type 1} → statement M
 +call-at-spec = close μ-call-at λ t. call-at-lts.spec (claims t)
@@ -100,4 +107,5 @@ pub +call-at-spec : {M : Type 1} → statement M
     (call-at-plus-requires t)
     (call-at-returns-2 t)
     (call-at-out-of-the-money-requires-2 t)
+    (call-at-rebuild-requires t)
     (call-at-returns-3 t)
