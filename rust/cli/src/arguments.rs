@@ -2,15 +2,29 @@
 
 use crate::failure::Failure;
 use gintubalos::OptionType;
-use std::{collections::VecDeque, ffi::OsString, path::PathBuf};
+use std::{
+    collections::{BTreeMap, BTreeSet, VecDeque},
+    ffi::OsString,
+    num::NonZero,
+    path::PathBuf,
+    str::FromStr,
+    thread,
+};
 
-/// The words that are no options, and the options. An option begins with two hyphens, so that -1 is a number.
+/// Options that stand alone, and options with a value, as in `--limit 9` and `--limit=9`.
+const FLAGS: [&str; 4] = ["--all", "--bits", "--repair", "--steps"];
+const VALUES: [&str; 2] = ["--jobs", "--limit"];
+
+/// The words that are no options, and the options. An option begins with two hyphens, so that -1 is a number; after `--`
+/// every word is one. Of an option that is given twice the last counts.
 #[derive(Default)]
 pub struct Arguments {
     words: VecDeque<OsString>,
-    limit: Option<i32>,
-    limit_is_next: bool,
-    steps: bool,
+    flags: BTreeSet<&'static str>,
+    values: BTreeMap<&'static str, String>,
+    /// The option whose value is the next word.
+    wanting: Option<&'static str>,
+    no_more_options: bool,
     pub help: bool,
 }
 
@@ -25,26 +39,56 @@ pub struct Market {
 
 impl Arguments {
     pub fn take(&mut self, word: OsString) -> Result<(), Failure> {
-        let text = word.to_str().unwrap_or("");
-        if std::mem::take(&mut self.limit_is_next) {
-            return self.take_limit(text);
-        }
-        match text {
-            "--limit" => self.limit_is_next = true,
-            "--steps" => self.steps = true,
-            "--help" | "-h" => self.help = true,
-            _ if text.starts_with("--limit=") => self.take_limit(&text["--limit=".len()..])?,
-            _ if text.starts_with("--") => return Err(Failure::usage(format!("there is no option {text}"))),
-            _ => self.words.push_back(word),
+        let text = word.to_string_lossy().into_owned();
+        if let Some(name) = self.wanting.take() {
+            self.values.insert(name, text);
+        } else if self.no_more_options || !(text.starts_with("--") || text == "-h") {
+            self.words.push_back(word);
+        } else {
+            self.take_option(&text)?;
         }
         Ok(())
     }
 
-    fn take_limit(&mut self, text: &str) -> Result<(), Failure> {
-        let limit =
-            text.parse().map_err(|_| Failure::usage(format!("{text} is no limit: a whole number of 32 bits")))?;
-        self.limit = Some(limit);
+    fn take_option(&mut self, text: &str) -> Result<(), Failure> {
+        let (name, value) = text.split_once('=').map_or((text, None), |(name, value)| (name, Some(value)));
+        let one_of = |names: &[&'static str]| names.iter().copied().find(|known| *known == name);
+        match (one_of(&FLAGS), one_of(&VALUES), value) {
+            (Some(flag), _, None) => {
+                self.flags.insert(flag);
+            }
+            (_, Some(name), Some(value)) => {
+                self.values.insert(name, value.to_owned());
+            }
+            (_, Some(name), None) => self.wanting = Some(name),
+            _ if text == "--" => self.no_more_options = true,
+            _ if text == "--help" || text == "-h" => self.help = true,
+            (Some(flag), _, Some(_)) => return Err(Failure::usage(format!("{flag} has no value"))),
+            _ => return Err(Failure::usage(format!("there is no option {text}"))),
+        }
         Ok(())
+    }
+
+    pub fn flag(&mut self, name: &str) -> bool {
+        self.flags.remove(name)
+    }
+
+    fn value<T: FromStr>(&mut self, name: &str, what: &str) -> Result<Option<T>, Failure> {
+        let Some(text) = self.values.remove(name) else {
+            return Ok(None);
+        };
+        text.parse().map(Some).map_err(|_| Failure::usage(format!("{name}: {text} is {what}")))
+    }
+
+    /// The limit, by default the one that the original library's public function has.
+    pub fn limit(&mut self) -> Result<i32, Failure> {
+        Ok(self.value("--limit", "no limit: a whole number of 32 bits")?.unwrap_or(2))
+    }
+
+    /// How many threads work, by default as many as the machine has.
+    pub fn jobs(&mut self) -> Result<NonZero<usize>, Failure> {
+        let jobs = self.value("--jobs", "no number of threads: a whole number from 1 on")?;
+        Ok(jobs.unwrap_or_else(|| thread::available_parallelism().unwrap_or(NonZero::<usize>::MIN)))
     }
 
     fn word(&mut self, name: &str) -> Result<OsString, Failure> {
@@ -80,22 +124,25 @@ impl Arguments {
         Ok(Market { price, forward, strike, expiry, kind: self.kind()? })
     }
 
-    /// The limit, by default the one that the original library's public function has.
-    pub fn limit(&mut self) -> i32 {
-        self.limit.take().unwrap_or(2)
+    /// All that is left: the files' names, one at least.
+    pub fn paths(&mut self) -> Result<Vec<PathBuf>, Failure> {
+        let first = self.path()?;
+        Ok([first].into_iter().chain(self.words.drain(..).map(PathBuf::from)).collect())
     }
 
-    pub fn steps(&mut self) -> bool {
-        std::mem::take(&mut self.steps)
+    /// A record's number, from 0 on.
+    pub fn record_number(&mut self) -> Result<u64, Failure> {
+        let word = self.word("the record's number")?;
+        let word = word.to_string_lossy();
+        word.parse().map_err(|_| Failure::usage(format!("{word} is no record's number: a whole number from 0 on")))
     }
 
     /// Nothing may be left that the command did not ask for: it would be a slip of the pen.
     pub fn end(self) -> Result<(), Failure> {
-        if self.limit_is_next {
-            return Err(Failure::usage("--limit wants a number"));
+        if let Some(name) = self.wanting {
+            return Err(Failure::usage(format!("{name} wants a number")));
         }
-        if self.limit.is_some() || self.steps {
-            let name = if self.steps { "--steps" } else { "--limit" };
+        if let Some(name) = self.flags.first().or(self.values.keys().next()) {
             return Err(Failure::usage(format!("{name} is not for this command")));
         }
         match self.words.front() {

@@ -21,6 +21,12 @@ pub enum Failure {
         path: PathBuf,
         bytes: u64,
     },
+    /// 23, since the file has no whole record k.
+    NoRecord {
+        refusal: Refusal,
+        path: PathBuf,
+        k: u64,
+    },
     File {
         path: PathBuf,
         error: io::Error,
@@ -40,10 +46,17 @@ impl Failure {
         |error| Failure::File { path, error }
     }
 
+    /// A file that should be there and is not.
+    pub fn missing(path: impl Into<PathBuf>) -> Failure {
+        Failure::file(path)(io::ErrorKind::NotFound.into())
+    }
+
     pub fn status(&self) -> u8 {
         match self {
             Failure::Usage { .. } => USAGE,
-            Failure::Refusal(refusal) | Failure::Part { refusal, .. } => refusal.number,
+            Failure::Refusal(refusal) | Failure::Part { refusal, .. } | Failure::NoRecord { refusal, .. } => {
+                refusal.number
+            }
             Failure::File { .. } | Failure::Output { .. } => IO_ERROR,
         }
     }
@@ -55,7 +68,11 @@ impl fmt::Display for Failure {
             Failure::Usage { message } => write!(f, "{message}; see gintubalos --help"),
             Failure::Refusal(refusal) => write!(f, "{refusal}"),
             Failure::Part { refusal, path, bytes } => {
-                write!(f, "{refusal}: {} ends in a part of {bytes} bytes", path.display())
+                let path = path.display();
+                write!(f, "{refusal}: {path} ends in a part of {bytes} bytes, which file --repair {path} takes away")
+            }
+            Failure::NoRecord { refusal, path, k } => {
+                write!(f, "{refusal}: {} has no whole record {k}", path.display())
             }
             Failure::File { path, error } => write!(f, "{}: {error}", path.display()),
             Failure::Output { error } => write!(f, "standard output: {error}"),

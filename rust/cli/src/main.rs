@@ -1,14 +1,17 @@
-//! `gintubalos`: solve, price, file, recheck and list on the command line. Every answer is the proved library's; this
+//! `gintubalos`: solve, price, file, recheck, list and show on the command line. Every answer is the proved library's; this
 //! program reads arguments and files, and writes answers down.
 
 #![forbid(unsafe_code)]
 
 mod arguments;
-mod books;
+mod book_file;
 mod failure;
+mod filing;
 mod help;
 mod output;
 mod progress;
+mod rechecking;
+mod records;
 mod solving;
 
 use arguments::Arguments;
@@ -41,22 +44,23 @@ fn main() -> ExitCode {
 fn run(out: &mut impl Write) -> Result<u8, Failure> {
     let mut words = env::args_os().skip(1);
     let command =
-        words.next().ok_or_else(|| Failure::usage("a command is wanted: solve, black, file, recheck or list"))?;
+        words.next().ok_or_else(|| Failure::usage("a command is wanted: solve, black, file, recheck, list or show"))?;
     let mut arguments = Arguments::default();
     for word in words {
         arguments.take(word)?;
     }
     let command = command.to_string_lossy();
     if arguments.help || ["--help", "-h", "help"].contains(&&*command) {
-        help::write(out)?;
+        help::write(out, &command)?;
         return Ok(0);
     }
     match &*command {
         "solve" => solving::solve(arguments, out)?,
         "black" => solving::black(arguments, out)?,
-        "file" => books::file(arguments, out)?,
-        "recheck" => return books::recheck(arguments, out),
-        "list" => books::list(arguments, out)?,
+        "file" => filing::file(arguments, out)?,
+        "recheck" => return rechecking::recheck(arguments, out),
+        "list" => rechecking::list(arguments, out)?,
+        "show" => filing::show(arguments, out)?,
         other => return Err(Failure::usage(format!("there is no command {other}"))),
     }
     Ok(0)

@@ -6,10 +6,12 @@ use std::{
 };
 
 const WIDTH: u64 = 40;
-const PAUSE: Duration = Duration::from_millis(100);
+pub const PAUSE: Duration = Duration::from_millis(100);
 
 pub struct Progress {
     total: u64,
+    /// Records of the files before this one.
+    passed: u64,
     /// When the bar was last drawn; none where nobody would see it.
     last: Option<Instant>,
 }
@@ -17,26 +19,35 @@ pub struct Progress {
 impl Progress {
     /// For so many records; 0 where their number isn't known.
     pub fn new(total: u64) -> Progress {
-        Progress { total, last: io::stderr().is_terminal().then(Instant::now) }
+        Progress { total, passed: 0, last: io::stderr().is_terminal().then(Instant::now) }
     }
 
+    /// So many records of this file are done.
     pub fn at(&mut self, done: u64) {
-        // The clock is read for one record in 256, so that it takes no time from the others.
-        if !done.is_multiple_of(256) || self.last.is_none_or(|last| last.elapsed() < PAUSE) {
+        if self.last.is_none_or(|last| last.elapsed() < PAUSE) {
             return;
         }
         self.last = Some(Instant::now());
         // A bar that can't be drawn stops nothing.
-        let _ = write!(io::stderr(), "\r{}", bar(done, self.total));
+        let _ = write!(io::stderr(), "\r{}", bar(self.passed + done, self.total));
     }
-}
 
-/// Clears the line for what is written next.
-impl Drop for Progress {
-    fn drop(&mut self) {
+    /// A file of so many records is done.
+    pub fn pass(&mut self, records: u64) {
+        self.passed += records;
+    }
+
+    /// Clears the line for what is written next.
+    pub fn clear(&self) {
         if self.last.is_some() {
             let _ = write!(io::stderr(), "\r\x1b[K");
         }
+    }
+}
+
+impl Drop for Progress {
+    fn drop(&mut self) {
+        self.clear();
     }
 }
 

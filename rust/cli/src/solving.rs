@@ -11,21 +11,27 @@ use gintubalos::{
 };
 use std::io::{self, Write};
 
+/// So many steps are shown.
+const MOST_ROWS: i32 = 1000;
+
 pub fn solve(mut arguments: Arguments, out: &mut impl Write) -> Result<(), Failure> {
     let market = arguments.market()?;
-    let (limit, steps) = (arguments.limit(), arguments.steps());
+    let limit = arguments.limit()?;
+    let steps = arguments.flag("--steps");
+    // The patterns are the table's: without it --bits is left, and told to be out of place.
+    let bits = steps && arguments.flag("--bits");
     arguments.end()?;
     let Market { price, forward, strike, expiry, kind } = market;
-    let answer = if steps {
-        let run = step_by_step(price, forward, strike, expiry, kind, limit);
+    let answer = limited(price, forward, strike, expiry, kind, limit);
+    if steps {
+        // By demand 3 a run with a lower limit has the same first records.
+        let run = step_by_step(price, forward, strike, expiry, kind, limit.min(MOST_ROWS));
+        let completed = answer.map_or_else(|refusal| refusal.steps, |solution| solution.steps);
         write_question(out, &market, limit)?;
-        write_steps(out, &run.trail)?;
-        run.answer
-    } else {
-        limited(price, forward, strike, expiry, kind, limit)
-    };
+        write_steps(out, &run.trail, completed, bits)?;
+    }
     let solution = answer?;
-    output::float(out, "volatility", solution.volatility)?;
+    output::volatility(out, solution.volatility, solution.sentinel())?;
     output::ways(out, solution.branch, solution.ending, solution.steps)?;
     Ok(())
 }
@@ -40,29 +46,35 @@ fn write_question(out: &mut impl Write, market: &Market, limit: i32) -> io::Resu
     writeln!(out)
 }
 
-/// Each step on two lines, decimal above bits.
-fn write_steps(out: &mut impl Write, steps: &[Step]) -> io::Result<()> {
+/// What the table's words mean.
+const LEGEND: &str = "\
+The loop seeks the s whose price b is the target: the price asked for, taken out
+of the money and normalised, which the trail does not hold. s is the volatility
+times the root of the expiry, b the normalised price at s, vega its slope there;
+left and right are the bracket after the step's move.
+";
+
+/// Each step on two lines, and with its bits on four.
+fn write_steps(out: &mut impl Write, steps: &[Step], completed: u32, bits: bool) -> io::Result<()> {
     if steps.is_empty() {
         return writeln!(out, "No step was completed.\n");
     }
-    writeln!(out, "The loop seeks the s whose price b is the target: the price asked for, taken out of the money and")?;
-    writeln!(
-        out,
-        "normalised, which the trail does not hold. s is the volatility times the root of the expiry, b the"
-    )?;
-    writeln!(
-        out,
-        "normalised price at s, vega its slope there; left and right are the bracket after the step's move.\n"
-    )?;
+    writeln!(out, "{LEGEND}")?;
     let mut rows = Vec::new();
     for (i, step) in steps.iter().enumerate() {
-        let [s, b, vega, left, right, after] = [step.s, step.price, step.vega, step.left, step.right, step.s_after];
-        for (name, form) in [((i + 1).to_string(), output::decimal as fn(f64) -> String), (String::new(), output::bits)]
-        {
-            rows.push([name, form(s), form(b), form(vega), form(left), form(right), form(after)]);
+        let mut number = (i + 1).to_string();
+        for floats in [[step.s, step.price, step.vega], [step.left, step.right, step.s_after]] {
+            for form in [output::decimal as fn(f64) -> String, output::bits].into_iter().take(1 + usize::from(bits)) {
+                let [a, b, c] = floats.map(form);
+                rows.push([std::mem::take(&mut number), a, b, c]);
+            }
         }
     }
-    output::table(out, ["step", "s", "price b", "vega", "left", "right", "s after"], &rows)?;
+    output::table(out, &[["step", "s", "price b", "vega"], ["", "left", "right", "s after"]], &rows)?;
+    let more = completed.saturating_sub(steps.len() as u32);
+    if more > 0 {
+        writeln!(out, "and {more} steps more, which are not shown")?;
+    }
     writeln!(out)
 }
 

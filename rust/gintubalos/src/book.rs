@@ -1,6 +1,6 @@
 //! The book of 64-byte records, and relist's line.
 
-use crate::{bits, Branch, Ending, OptionType, Refusal};
+use crate::{bits, Branch, Ending, OptionType, Refusal, Sentinel};
 use std::iter::FusedIterator;
 
 /// The bytes of a record in a book.
@@ -80,6 +80,11 @@ impl<'a> Record<'a> {
     /// The ending, at byte 50; none where the byte is outside the layout.
     pub fn ending(&self) -> Option<Ending> {
         Ending::from_byte(self.0[50])
+    }
+
+    /// What the filed volatility stands for where none is meant.
+    pub fn sentinel(&self) -> Option<Sentinel> {
+        self.branch().and_then(|branch| Sentinel::of(branch, self.volatility()))
     }
 
     /// The record's bytes.

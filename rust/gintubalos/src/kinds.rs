@@ -52,6 +52,35 @@ pub enum Ending {
     Limit = 2,
 }
 
+/// A volatility of branch 0 that stands for none.
+#[derive(Clone, Copy, Debug, PartialEq, Eq)]
+pub enum Sentinel {
+    /// −f64::MAX.
+    BelowIntrinsic,
+    /// f64::MAX, over √expiry where it is found after normalising: with a short expiry an infinity.
+    AboveMaximum,
+}
+
+impl Sentinel {
+    /// What an answer's volatility stands for, none where it is one. Branch 0 has 0 besides, for the intrinsic value itself.
+    pub(crate) fn of(branch: Branch, volatility: f64) -> Option<Sentinel> {
+        match branch {
+            Branch::BeforeAGuess if volatility < 0.0 => Some(Sentinel::BelowIntrinsic),
+            Branch::BeforeAGuess if volatility > 0.0 => Some(Sentinel::AboveMaximum),
+            _ => None,
+        }
+    }
+}
+
+impl fmt::Display for Sentinel {
+    fn fmt(&self, f: &mut fmt::Formatter) -> fmt::Result {
+        f.pad(match self {
+            Sentinel::BelowIntrinsic => "the price is below the intrinsic value",
+            Sentinel::AboveMaximum => "the price is at or above the maximum",
+        })
+    }
+}
+
 /// Document 01's byte of each case, and its words.
 macro_rules! bytes {
     ($($t:ident { $($case:ident = $words:literal),* })*) => { $(

@@ -1,6 +1,6 @@
 //! solve: the wrapper with limit 2, with any limit, and with its steps.
 
-use crate::{bits, Branch, Ending, OptionType, Refusal};
+use crate::{bits, Branch, Ending, OptionType, Refusal, Sentinel};
 
 /// The bytes of a step's record in a trail.
 pub const STEP_BYTES: usize = 48;
@@ -17,6 +17,24 @@ pub struct Solution {
     pub ending: Ending,
     /// The number of completed steps.
     pub steps: u32,
+}
+
+impl Solution {
+    /// What the volatility stands for where none is meant.
+    ///
+    /// ```
+    /// use gintubalos::{
+    ///     implied_volatility_from_a_transformed_rational_guess_with_limited_iterations as solve, OptionType, Sentinel,
+    /// };
+    ///
+    /// let below = solve(99.0, 200.0, 100.0, 1.0, OptionType::Call, 2)?;
+    /// assert_eq!(below.sentinel(), Some(Sentinel::BelowIntrinsic));
+    /// assert_eq!(solve(10.0, 100.0, 95.0, 1.0, OptionType::Call, 2)?.sentinel(), None);
+    /// # Ok::<(), gintubalos::Refusal>(())
+    /// ```
+    pub fn sentinel(&self) -> Option<Sentinel> {
+        Sentinel::of(self.branch, self.volatility)
+    }
 }
 
 /// A completed step: a record of the trail. Its prices and ends are the loop's own, for an option that is out of the money
