@@ -1,10 +1,11 @@
-//! `gintubalos`: solve, price, file, recheck, list and show on the command line. Every answer is the proved library's; this
+//! `gintubalos`: demo, solve, price, file, recheck, list and show on the command line. Every answer is the proved library's; this
 //! program reads arguments and files, and writes answers down.
 
 #![forbid(unsafe_code)]
 
 mod arguments;
 mod book_file;
+mod demo;
 mod failure;
 mod filing;
 mod help;
@@ -43,8 +44,9 @@ fn main() -> ExitCode {
 /// The status: 0, or what a recheck found.
 fn run(out: &mut impl Write) -> Result<u8, Failure> {
     let mut words = env::args_os().skip(1);
-    let command =
-        words.next().ok_or_else(|| Failure::usage("a command is wanted: solve, black, file, recheck, list or show"))?;
+    let command = words
+        .next()
+        .ok_or_else(|| Failure::usage("a command is wanted: demo, solve, black, file, recheck, list or show"))?;
     let mut arguments = Arguments::default();
     for word in words {
         arguments.take(word)?;
@@ -55,6 +57,14 @@ fn run(out: &mut impl Write) -> Result<u8, Failure> {
         return Ok(0);
     }
     match &*command {
+        "--version" => {
+            arguments.end()?;
+            write_version(out)?;
+        }
+        "demo" => {
+            arguments.end()?;
+            return demo::demo(out);
+        }
         "solve" => solving::solve(arguments, out)?,
         "black" => solving::black(arguments, out)?,
         "file" => filing::file(arguments, out)?,
@@ -64,4 +74,12 @@ fn run(out: &mut impl Write) -> Result<u8, Failure> {
         other => return Err(Failure::usage(format!("there is no command {other}"))),
     }
     Ok(0)
+}
+
+/// What it was built from; the build script asks for it.
+fn write_version(out: &mut impl Write) -> io::Result<()> {
+    writeln!(out, "gintubalos {}", env!("CARGO_PKG_VERSION"))?;
+    writeln!(out, "commit   {}", env!("GINTUBALOS_COMMIT"))?;
+    writeln!(out, "kit      {}", env!("GINTUBALOS_KIT"))?;
+    writeln!(out, "archive  sha256 {}", env!("GINTUBALOS_HASH"))
 }

@@ -15,7 +15,6 @@ use std::{
     collections::BTreeMap,
     io::{self, Write},
     num::NonZero,
-    path::Path,
     sync::{
         atomic::{AtomicU64, Ordering},
         mpsc::{self, RecvTimeoutError, SyncSender},
@@ -188,13 +187,13 @@ struct Options {
     jobs: NonZero<usize>,
 }
 
-fn recheck_book(
-    path: &Path,
+fn recheck_records(
+    records: Records,
     options: &Options,
     progress: &mut Progress,
     out: &mut impl Write,
 ) -> Result<Summary, Failure> {
-    let records = Mutex::new(Records::open(path)?);
+    let records = Mutex::new(records);
     let done = AtomicU64::new(0);
     let mut summary = Summary::default();
     thread::scope(|scope| {
@@ -237,7 +236,7 @@ pub fn recheck(mut arguments: Arguments, out: &mut impl Write) -> Result<u8, Fai
             progress.clear();
             writeln!(out, "{}:", records::name(path))?;
         }
-        match recheck_book(path, &options, &mut progress, out) {
+        match Records::open(path).and_then(|records| recheck_records(records, &options, &mut progress, out)) {
             Ok(summary) => {
                 progress.clear();
                 summary.write(out)?;
@@ -256,6 +255,14 @@ pub fn recheck(mut arguments: Arguments, out: &mut impl Write) -> Result<u8, Fai
         }
     }
     Ok(status)
+}
+
+/// A book in memory; the status is a recheck's.
+pub fn recheck_bytes(book: &'static [u8], out: &mut impl Write) -> Result<u8, Failure> {
+    let options = Options { all: false, jobs: NonZero::<usize>::MIN };
+    let summary = recheck_records(Records::of(book), &options, &mut Progress::new(0), out)?;
+    summary.write(out)?;
+    Ok(summary.status())
 }
 
 pub fn list(mut arguments: Arguments, out: &mut impl Write) -> Result<(), Failure> {

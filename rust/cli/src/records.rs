@@ -61,6 +61,11 @@ impl Records {
         Ok(Records { path: name(path).into(), source, next: 0 })
     }
 
+    /// Of a book in memory.
+    pub fn of(book: &'static [u8]) -> Records {
+        Records { path: "the book".into(), source: Box::new(book), next: 0 }
+    }
+
     /// The next records, none at the end.
     pub fn block(&mut self) -> Result<Option<Block>, Failure> {
         let mut bytes = Vec::with_capacity(BLOCK * RECORD as usize);

@@ -14,21 +14,29 @@ use std::io::{self, Write};
 /// So many steps are shown.
 const MOST_ROWS: i32 = 1000;
 
+/// How the steps are shown.
+pub struct Table {
+    pub bits: bool,
+}
+
 pub fn solve(mut arguments: Arguments, out: &mut impl Write) -> Result<(), Failure> {
     let market = arguments.market()?;
     let limit = arguments.limit()?;
-    let steps = arguments.flag("--steps");
     // The patterns are the table's: without it --bits is left, and told to be out of place.
-    let bits = steps && arguments.flag("--bits");
+    let table = arguments.flag("--steps").then(|| Table { bits: arguments.flag("--bits") });
     arguments.end()?;
-    let Market { price, forward, strike, expiry, kind } = market;
+    write_solution(&market, limit, table, out)
+}
+
+pub fn write_solution(market: &Market, limit: i32, table: Option<Table>, out: &mut impl Write) -> Result<(), Failure> {
+    let &Market { price, forward, strike, expiry, kind } = market;
     let answer = limited(price, forward, strike, expiry, kind, limit);
-    if steps {
+    if let Some(table) = table {
         // By demand 3 a run with a lower limit has the same first records.
         let run = step_by_step(price, forward, strike, expiry, kind, limit.min(MOST_ROWS));
         let completed = answer.map_or_else(|refusal| refusal.steps, |solution| solution.steps);
-        write_question(out, &market, limit)?;
-        write_steps(out, &run.trail, completed, bits)?;
+        write_question(out, market, limit)?;
+        write_steps(out, &run.trail, completed, &table)?;
     }
     let solution = answer?;
     output::volatility(out, solution.volatility, solution.sentinel())?;
@@ -55,7 +63,7 @@ left and right are the bracket after the step's move.
 ";
 
 /// Each step on two lines, and with its bits on four.
-fn write_steps(out: &mut impl Write, steps: &[Step], completed: u32, bits: bool) -> io::Result<()> {
+fn write_steps(out: &mut impl Write, steps: &[Step], completed: u32, table: &Table) -> io::Result<()> {
     if steps.is_empty() {
         return writeln!(out, "No step was completed.\n");
     }
@@ -64,7 +72,9 @@ fn write_steps(out: &mut impl Write, steps: &[Step], completed: u32, bits: bool)
     for (i, step) in steps.iter().enumerate() {
         let mut number = (i + 1).to_string();
         for floats in [[step.s, step.price, step.vega], [step.left, step.right, step.s_after]] {
-            for form in [output::decimal as fn(f64) -> String, output::bits].into_iter().take(1 + usize::from(bits)) {
+            for form in
+                [output::decimal as fn(f64) -> String, output::bits].into_iter().take(1 + usize::from(table.bits))
+            {
                 let [a, b, c] = floats.map(form);
                 rows.push([std::mem::take(&mut number), a, b, c]);
             }

@@ -144,7 +144,7 @@ fn killed() {
         acknowledged += u64::from(output.status.success());
     }
     let bytes = fs::metadata(&path).map_or(0, |metadata| metadata.len());
-    assert!(bytes % 64 == 0 && bytes / 64 >= acknowledged, "{bytes} bytes, {acknowledged} acknowledged");
+    assert!(bytes.is_multiple_of(64) && bytes / 64 >= acknowledged, "{bytes} bytes, {acknowledged} acknowledged");
     filed(&path, 1);
     assert_eq!(output(&["recheck", name(&path)]).0, 0);
 }

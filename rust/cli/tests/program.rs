@@ -105,6 +105,8 @@ fn usage() {
     for line in [
         "",
         "price",
+        "demo now",
+        "--version now",
         "solve",
         "solve 1 1 1 1",
         "solve 1 1 1 1 straddle",
@@ -149,4 +151,28 @@ fn usage() {
     let (_, out, _) = output(&words("list --help"));
     assert!(out.contains("gintubalos list BOOK") && out.contains("figures are solved again"), "{out}");
     assert!(!out.contains("gintubalos solve"), "{out}");
+}
+
+/// The bundled book agrees, and has branches 0 to 4 and every ending; then question six.
+#[test]
+fn demo() {
+    let (status, out, err) = output(&["demo"]);
+    assert_eq!((status, &*err), (0, ""));
+    assert!(out.contains("\nrecords     14\nagree       14\ndiffer      0\nrefused     0\n"), "{out}");
+    assert!(out.ends_with(&format!("{TABLE}\n{SOLUTION}")), "{out}");
+    assert!(out.lines().all(|line| line.chars().count() <= 80), "{out}");
+    let (records, part) = include_bytes!("../src/demo.book").as_chunks::<64>();
+    assert!(part.is_empty());
+    let seen = |byte: usize| records.iter().map(|record| record[byte]).collect::<std::collections::BTreeSet<_>>();
+    assert_eq!((seen(49), seen(50)), ((0..=4).collect(), (0..=2).collect()));
+}
+
+#[test]
+fn version() {
+    let (status, out, err) = output(&["--version"]);
+    assert_eq!((status, &*err), (0, ""));
+    let lines: Vec<&str> = out.lines().collect();
+    assert_eq!(lines[0], format!("gintubalos {}", env!("CARGO_PKG_VERSION")));
+    assert!(lines[1].starts_with("commit   ") && lines[2].starts_with("kit      "), "{out}");
+    assert_eq!(lines[3].strip_prefix("archive  sha256 ").map(str::len), Some(64), "{out}");
 }

@@ -25,7 +25,6 @@ pub fn output(words: &[&str]) -> (i32, String, String) {
 }
 
 /// The same with bytes on standard input.
-
 pub fn output_of(words: &[&str], input: &[u8]) -> (i32, String, String) {
     let piped = Stdio::piped;
     let started = program().args(words).stdin(piped()).stdout(piped()).stderr(piped()).spawn();
