@@ -5,9 +5,10 @@
  * length in bytes. No pointer may be null, also where its length is 0, and what one call is lent may not overlap. Every
  * call returns; none keeps a pointer, has a state or calls another library.
  *
- * The archive is for x86-64 Linux, and all bits rest on the default floating-point environment: rounding to nearest, and
- * subnormal numbers neither flushed to zero nor taken for zero. A program that has set MXCSR otherwise (-ffast-math does, at
- * its start) gets other bits.
+ * The archive is for x86-64 Linux, and all bits rest on the default floating-point environment: rounding to nearest, no
+ * exception traps, subnormal numbers neither flushed to zero nor taken for zero. It is the caller's to see to it: a program
+ * that has set MXCSR otherwise (-ffast-math does, at its start) gets other bits. gintubalos_environment_is_default says
+ * whether it holds.
  *
  * A kind is 1 for a Call, 2 for a Put; any other is refused with 24 before all else.
  *
@@ -28,6 +29,7 @@
 
 #include <stddef.h>
 #include <stdint.h>
+#include <xmmintrin.h>
 
 #ifdef __cplusplus
 extern "C" {
@@ -48,6 +50,11 @@ extern "C" {
 #define GINTUBALOS_BRANCH(outcome) ((uint8_t)((outcome) >> 8))
 #define GINTUBALOS_ENDING(outcome) ((uint8_t)((outcome) >> 16))
 #define GINTUBALOS_STEPS(outcome) ((uint32_t)((outcome) >> 32))
+
+/* 1 in the default floating-point environment, which every call needs, else 0. It reads MXCSR and not its flags. */
+static inline int gintubalos_environment_is_default(void) {
+    return (_mm_getcsr() & 0xFFC0u) == 0x1F80u;
+}
 
 /* ---- The Black price, and the volatility of a price ---- */
 

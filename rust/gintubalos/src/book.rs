@@ -1,6 +1,6 @@
 //! The book of 64-byte records, and relist's line.
 
-use crate::{bits, Branch, Ending, OptionType, Refusal, Sentinel};
+use crate::{bits, environment::in_default, Branch, Ending, OptionType, Refusal, Sentinel};
 use std::iter::FusedIterator;
 
 /// The bytes of a record in a book.
@@ -117,7 +117,8 @@ pub fn file(
 ) -> Result<u64, Refusal> {
     let [price, forward, strike, expiry] =
         [market_price, forward_price, strike_price, time_to_maturity].map(f64::to_bits);
-    let (count, outcome) = bits::file(price, forward, strike, expiry, option_type as u8, max_iteration, book, used);
+    let (count, outcome) =
+        in_default(|| bits::file(price, forward, strike, expiry, option_type.byte(), max_iteration, book, used));
     refusal(outcome).map_or(Ok(count), Err)
 }
 
@@ -135,7 +136,7 @@ pub fn file(
 /// # Ok::<(), gintubalos::Refusal>(())
 /// ```
 pub fn recheck(book: &[u8], used: u64, k: u64) -> Result<bool, Refusal> {
-    let (agrees, outcome) = bits::recheck(book, used, k);
+    let (agrees, outcome) = in_default(|| bits::recheck(book, used, k));
     refusal(outcome).map_or(Ok(agrees == 1), Err)
 }
 
@@ -219,6 +220,6 @@ impl FusedIterator for Records<'_> {}
 /// ```
 pub fn line(index: u64, bytes: &[u8]) -> String {
     let mut out = [0; 128];
-    let length = bits::line(index, bytes, &mut out);
+    let length = in_default(|| bits::line(index, bytes, &mut out));
     out[..length].iter().map(|byte| char::from(*byte)).collect()
 }

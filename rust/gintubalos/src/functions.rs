@@ -1,6 +1,6 @@
 //! The functions of the two lower layers: on plain numbers in `bits`, and with the types of Rust.
 
-use crate::{OptionType, Refusal, Side};
+use crate::{environment::in_default, OptionType, Refusal, Side};
 
 /// What an argument crosses as: a float as its bits, all else as a byte.
 pub trait Crosses {
@@ -17,6 +17,13 @@ impl Crosses for f64 {
     }
 }
 
+impl Crosses for OptionType {
+    type Plain = u8;
+    fn plain(self) -> u8 {
+        self.byte()
+    }
+}
+
 macro_rules! bytes {
     ($($t:ty)*) => { $(impl Crosses for $t {
         type Plain = u8;
@@ -26,7 +33,7 @@ macro_rules! bytes {
     })* };
 }
 
-bytes!(OptionType Side bool);
+bytes!(Side bool);
 
 /// Declares the archive's functions and wraps each: on plain numbers in `bits`, and beside it with the types of Rust.
 macro_rules! functions {
@@ -45,7 +52,8 @@ macro_rules! functions {
             }
         }
 
-        /// The functions on the bits of floats and on bytes, as the archive has them. An answer is the value's bits, a
+        /// The functions on the bits of floats and on bytes, as the archive has them, in the caller's floating-point
+        /// environment, which has to be the default one. An answer is the value's bits, a
         /// NaN's where it is refused, and document 01's number, 0 where it isn't. A kind is 1 or 2, and refused with 24
         /// where it is neither; a side is Left at 0, a choice false at 0.
         ///
@@ -81,13 +89,13 @@ macro_rules! functions {
         $($(#[$doc])*
         #[allow(clippy::too_many_arguments)]
         pub fn $name($($x: $t),*) -> f64 {
-            f64::from_bits(bits::$name($($x.plain()),*))
+            f64::from_bits(in_default(|| bits::$name($($x.plain()),*)))
         })*
 
         $($(#[$answer_doc])*
         #[allow(clippy::too_many_arguments)]
         pub fn $answer($($z: $u),*) -> Result<f64, Refusal> {
-            match bits::$answer($($z.plain()),*) {
+            match in_default(|| bits::$answer($($z.plain()),*)) {
                 (value, 0) => Ok(f64::from_bits(value)),
                 (_, number) => Err(Refusal { number, steps: 0 }),
             }

@@ -1,15 +1,18 @@
 //! The kinds that document 01 has as bytes.
 
-use std::{fmt, ops::Neg};
+use std::{
+    fmt,
+    ops::{Mul, Neg},
+};
 
-/// The kind of an option, as document 01's byte.
+/// The kind of an option, with the original library's numbers: the sign of what it pays.
 #[derive(Clone, Copy, Debug, PartialEq, Eq)]
-#[repr(u8)]
+#[repr(i8)]
 pub enum OptionType {
     /// The right to buy.
     Call = 1,
     /// The right to sell.
-    Put = 2,
+    Put = -1,
 }
 
 /// The end of the interval at which the cubic's second derivative is given.
@@ -83,7 +86,7 @@ impl fmt::Display for Sentinel {
 
 /// Document 01's byte of each case, and its words.
 macro_rules! bytes {
-    ($($t:ident { $($case:ident = $words:literal),* })*) => { $(
+    ($($t:ident { $($case:ident = $byte:literal, $words:literal;)* })*) => { $(
         impl $t {
             /// The case that has this byte in document 01, none for a byte outside it.
             ///
@@ -95,10 +98,23 @@ macro_rules! bytes {
             /// assert_eq!(Ending::from_byte(3), None);
             /// ```
             pub const fn from_byte(byte: u8) -> Option<$t> {
-                $(if byte == $t::$case as u8 {
+                $(if byte == $t::$case.byte() {
                     return Some($t::$case);
                 })*
                 None
+            }
+
+            /// Document 01's byte of the case.
+            ///
+            /// ```
+            /// use gintubalos::{Branch, OptionType};
+            ///
+            /// assert_eq!((OptionType::Put.byte(), Branch::UpperLoop.byte()), (2, 4));
+            /// ```
+            pub const fn byte(self) -> u8 {
+                match self {
+                    $($t::$case => $byte,)*
+                }
             }
         }
 
@@ -113,16 +129,23 @@ macro_rules! bytes {
 }
 
 bytes! {
-    OptionType { Call = "Call", Put = "Put" }
-    Branch {
-        BeforeAGuess = "answered before a guess",
-        LowerLoop = "lower loop",
-        LowerMiddle = "lower middle",
-        UpperMiddle = "upper middle",
-        UpperLoop = "upper loop",
-        UpperTail = "rest of the upper tail"
+    OptionType {
+        Call = 1, "Call";
+        Put = 2, "Put";
     }
-    Ending { NoLoop = "no loop", StepTest = "step test", Limit = "limit" }
+    Branch {
+        BeforeAGuess = 0, "answered before a guess";
+        LowerLoop = 1, "lower loop";
+        LowerMiddle = 2, "lower middle";
+        UpperMiddle = 3, "upper middle";
+        UpperLoop = 4, "upper loop";
+        UpperTail = 5, "rest of the upper tail";
+    }
+    Ending {
+        NoLoop = 0, "no loop";
+        StepTest = 1, "step test";
+        Limit = 2, "limit";
+    }
 }
 
 /// The other kind, as in the original library.
@@ -136,3 +159,46 @@ impl Neg for OptionType {
         }
     }
 }
+
+/// The original library's conversions and products: a Call is 1 and a Put −1, a number from 0 on is a Call's, and a product
+/// with a Put changes the sign.
+macro_rules! as_a_sign {
+    ($($t:ty)*) => { $(
+        impl From<OptionType> for $t {
+            fn from(kind: OptionType) -> $t {
+                <$t>::from(kind as i8)
+            }
+        }
+
+        impl From<$t> for OptionType {
+            fn from(number: $t) -> OptionType {
+                if number >= <$t>::from(0i8) {
+                    OptionType::Call
+                } else {
+                    OptionType::Put
+                }
+            }
+        }
+
+        impl Mul<OptionType> for $t {
+            type Output = $t;
+
+            fn mul(self, kind: OptionType) -> $t {
+                match kind {
+                    OptionType::Call => self,
+                    OptionType::Put => -self,
+                }
+            }
+        }
+
+        impl Mul<$t> for OptionType {
+            type Output = $t;
+
+            fn mul(self, number: $t) -> $t {
+                number * self
+            }
+        }
+    )* };
+}
+
+as_a_sign!(f32 f64 i8 i16 i32 i64 i128 isize);

@@ -1,13 +1,22 @@
 //! The proved functions, for Rust. Any bits may come in, a NaN comes back with the bits 7FF8000000000000, and what is not a
 //! price, a forward, a strike, an expiry or a sigma is refused with a number.
 //!
-//! The archive behind it is for x86-64 Linux. All bits rest on the default floating-point environment, in which a Rust
-//! program runs: rounding to nearest, subnormal numbers neither flushed to zero nor taken for zero. A program that has C code
-//! change MXCSR gets other bits.
+//! The archive behind it is for x86-64 Linux. All bits rest on the default floating-point environment: rounding to nearest,
+//! subnormal numbers neither flushed to zero nor taken for zero. Each call looks at the control word, and where it is
+//! another one sets the default for the call and puts it back, so that the bits do not depend on what C code has set.
 //!
-//! A program that calls the original library's two functions keeps its calls: names and arguments are the same. Its `use`
-//! lines change in their first word, and an answer is a `Result`, since what the original computes on or panics at is
-//! refused here with document 01's number.
+//! The archive, libabi.a, is what `rt staticlib abi` writes. It is looked for in the folder that the environment variable
+//! GINTUBALOS_ABI names when the crate is built, else in target/staticlib of the repository that the crate stands in. A
+//! program that has the crate as a git dependency names the folder, once, in its .cargo/config.toml:
+//!
+//! ```toml
+//! [env]
+//! GINTUBALOS_ABI = "/where/libabi.a/is"
+//! ```
+//!
+//! A program that calls the original library's two functions keeps its calls: names and arguments are the same, and
+//! [`OptionType`] has the original's numbers, conversions and products. Its `use` lines change in their first word, and an
+//! answer is a `Result`, since what the original computes on or panics at is refused here with document 01's number.
 //!
 //! ```
 //! use gintubalos::{
@@ -29,6 +38,7 @@
 #![deny(missing_docs)]
 
 mod book;
+mod environment;
 mod functions;
 mod kinds;
 mod refusal;

@@ -1,6 +1,6 @@
 //! solve: the wrapper with limit 2, with any limit, and with its steps.
 
-use crate::{bits, Branch, Ending, OptionType, Refusal, Sentinel};
+use crate::{bits, environment::in_default, Branch, Ending, OptionType, Refusal, Sentinel};
 
 /// The bytes of a step's record in a trail.
 pub const STEP_BYTES: usize = 48;
@@ -70,7 +70,8 @@ impl Step {
 }
 
 /// What the archive answers in two words.
-fn to_solution((volatility, outcome): (u64, u64)) -> Result<Solution, Refusal> {
+fn to_solution(solve: impl FnOnce() -> (u64, u64)) -> Result<Solution, Refusal> {
+    let (volatility, outcome) = in_default(solve);
     let bits::Outcome { number, branch, ending, steps } = outcome.into();
     match number {
         0 => Ok(Solution {
@@ -103,13 +104,9 @@ pub fn implied_volatility_from_a_transformed_rational_guess(
 ) -> Result<f64, Refusal> {
     let [price, forward, strike, expiry] =
         [market_price, forward_price, strike_price, time_to_maturity].map(f64::to_bits);
-    to_solution(bits::implied_volatility_from_a_transformed_rational_guess(
-        price,
-        forward,
-        strike,
-        expiry,
-        option_type as u8,
-    ))
+    to_solution(|| {
+        bits::implied_volatility_from_a_transformed_rational_guess(price, forward, strike, expiry, option_type.byte())
+    })
     .map(|solution| solution.volatility)
 }
 
@@ -137,7 +134,7 @@ pub fn implied_volatility_from_a_transformed_rational_guess_with_limited_iterati
 ) -> Result<Solution, Refusal> {
     let [price, forward, strike, expiry] =
         [market_price, forward_price, strike_price, time_to_maturity].map(f64::to_bits);
-    to_solution(bits::solve_without_trail(price, forward, strike, expiry, option_type as u8, max_iteration))
+    to_solution(|| bits::solve_without_trail(price, forward, strike, expiry, option_type.byte(), max_iteration))
 }
 
 /// The same, with its steps written to the lent trail: step i's record is at byte 48 × i, and bytes after the last record
@@ -167,15 +164,17 @@ pub fn implied_volatility_from_a_transformed_rational_guess_with_trail(
 ) -> Result<Solution, Refusal> {
     let [price, forward, strike, expiry] =
         [market_price, forward_price, strike_price, time_to_maturity].map(f64::to_bits);
-    to_solution(bits::implied_volatility_from_a_transformed_rational_guess_with_limited_iterations(
-        price,
-        forward,
-        strike,
-        expiry,
-        option_type as u8,
-        max_iteration,
-        trail,
-    ))
+    to_solution(|| {
+        bits::implied_volatility_from_a_transformed_rational_guess_with_limited_iterations(
+            price,
+            forward,
+            strike,
+            expiry,
+            option_type.byte(),
+            max_iteration,
+            trail,
+        )
+    })
 }
 
 /// The first `count` records of a trail, or as many as it has.

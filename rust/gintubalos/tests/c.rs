@@ -53,6 +53,9 @@ fn declarations() -> Functions {
         code += part.split_once("*/").map_or(part, |(_, after)| after);
     }
     let code: String = code.lines().filter(|line| !line.starts_with('#')).flat_map(|line| [line, " "]).collect();
+    // What the header defines itself is no function of the archive.
+    let (before, definition) = code.split_once("static inline").expect("the environment's check");
+    let code = [before, definition.split_once('}').expect("its end").1].concat();
     let typed = |words: &str| {
         let name = words.rfind(|c: char| !c.is_alphanumeric() && c != '_').expect("a type and a name");
         (words[..=name].trim().to_owned(), words[name + 1..].to_owned())
@@ -82,7 +85,7 @@ fn expected() -> Vec<String> {
     macro_rules! same {
         ($($name:ident($($argument:expr),*))*) => { [$(line(stringify!($name), bits::$name($($argument),*), 0)),*] };
     }
-    let mut lines = Vec::new();
+    let mut lines = vec!["environment 1 0 0 1".to_owned()];
     lines.extend(same! {
         bits_of(x) is_zero(x) abs(x) powi_2(x) floor(x) sqrt(x) exp(x) ln(x) powf_1_3(x) d_int(x) ab(x) cd(x) pq(x)
         erfcx_above_threshold(x) erfc(x) smoothened_exponential_of_negative_square(x)

@@ -95,7 +95,22 @@ static void book(void) {
     printf("line %.*s", (int)length, (const char *)line);
 }
 
+/* As it is, with upward rounding, with flushed subnormals, and with a flag alone. */
+static void environment(void) {
+    const unsigned word = _mm_getcsr();
+    const unsigned words[] = {word, word | 0x4000u, word | 0x8000u, word | 0x20u};
+    printf("environment");
+    for (int i = 0; i < 4; i++) {
+        _mm_setcsr(words[i]);
+        int is_default = gintubalos_environment_is_default();
+        _mm_setcsr(word);
+        printf(" %d", is_default);
+    }
+    printf("\n");
+}
+
 int main(void) {
+    environment();
     unary();
     prices();
     solves();
