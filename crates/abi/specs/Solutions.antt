@@ -8,12 +8,14 @@ use lib.Ieee.{binary64, ofBits}
 use Rattle.solver.specs.declared.quote.Quote.{Quote}
 use Rattle.solver.specs.declared.answers.Solution.{Solution}
 use Rattle.solver.specs.declared.answers.Solution.the-variants.{Refused}
+use Rattle.solver.specs.declared.answers.Target.{Target}
+use Rattle.solver.specs.declared.answers.Target.the-variants.{Refused as NoTarget}
 use Rattle.solver.specs.declared.answers.Filing.{Filing}
 use Rattle.solver.specs.declared.answers.Filing.the-variants.{Refused as NotFiled}
 use Rattle.solver.specs.declared.answers.Checking.{Checking}
 use Rattle.solver.specs.Answers.{numberIn, branchIn, endingIn, stepsIn, filingNumber, filingSteps, checkingNumber, checkingAgrees, checkingSteps}
 use Rattle.elementary.specs.RuleSets.{rule-set-0}
-use Rattle.solver.specs.Solve.{SolveResult, solveOf, solveWithTrail, quoteOf, stepsOf}
+use Rattle.solver.specs.Solve.{SolveResult, solveOf, solveWithTrail, targetOf, quoteOf, stepsOf}
 use Rattle.solver.specs.Book.{isKind, kindFrom, FileResult, fileOf, Read}
 
 -- number, branch, ending and steps in one word: bytes 0, 1 and 2, and from byte 4 on the steps
@@ -49,6 +51,10 @@ solveWithTrailFor kind q limit bytes = let known = solveWithTrail rule-set-0 q (
 -- solve without a trail, for so many steps
 unfoldable pub solveFor : ℕ → Quote → ℕ → Solution
 solveFor kind q n = let known = solveOf rule-set-0 q n .answer in cond (isKind kind) known (Refused 24 0)
+
+-- the target of its loop
+unfoldable pub targetFor : ℕ → Quote → Target
+targetFor kind q = let known = targetOf rule-set-0 q in cond (isKind kind) known (NoTarget 24)
 
 -- file, into slot `used` of the book
 unfoldable pub fileFor : ℕ → Quote → ℤ → List ℕ → ℕ → FileResult

@@ -4,6 +4,8 @@ use Prim.Native.Nat.{ℕ}
 use lib.Ieee.{Float, nan}
 use Rattle.solver.specs.declared.answers.Solution.{Solution}
 use Rattle.solver.specs.declared.answers.Solution.the-variants.{Solved, Refused}
+use Rattle.solver.specs.declared.answers.Target.{Target}
+use Rattle.solver.specs.declared.answers.Target.the-variants.{Sought, NoLoop, Refused as NoTarget}
 use Rattle.solver.specs.declared.answers.Filing.{Filing}
 use Rattle.solver.specs.declared.answers.Filing.the-variants.{Filed, Refused as NotFiled}
 use Rattle.solver.specs.declared.answers.Checking.{Checking}
@@ -77,3 +79,17 @@ abbrev pub checkingSteps : Checking → ℕ
 checkingSteps Agrees = 0
 checkingSteps Differs = 0
 checkingSteps (NotChecked number steps) = steps
+
+-- ---- target's
+
+-- 0 where there is a target or no loop
+abbrev pub targetNumber : Target → ℕ
+targetNumber (Sought beta) = 0
+targetNumber NoLoop = 0
+targetNumber (NoTarget number) = number
+
+-- NaN where there is none
+abbrev pub targetValue : Target → Float
+targetValue (Sought beta) = beta
+targetValue NoLoop = nan
+targetValue (NoTarget number) = nan

@@ -20,6 +20,8 @@ use Rattle.solver.specs.declared.state.State.{State}
 use Rattle.solver.specs.declared.state.Record.{Record}
 use Rattle.solver.specs.declared.answers.Solution.{Solution}
 use Rattle.solver.specs.declared.answers.Solution.the-variants.{Solved, Refused}
+use Rattle.solver.specs.declared.answers.Target.{Target}
+use Rattle.solver.specs.declared.answers.Target.the-variants.{Sought, NoLoop, Refused as NoTarget}
 use Rattle.solver.specs.Loop.{Ending, by-test, by-limit, by-refusal, Run, run}
 use Rattle.solver.specs.Step.{nextBy}
 use Rattle.solver.specs.Guess.{Start, answered, stopped, looping, normalisedStart}
@@ -59,6 +61,16 @@ startOf set short q =
     let number = inputNumber q in
     let accepted = acceptedStart set q in
     cond (eqb number 0) (cond short (stopped 21) accepted) (stopped number)
+
+-- what a loop seeks: the target that its start has
+abbrev pub targetIn : Start → Target
+targetIn (answered v) = NoLoop
+targetIn (stopped n) = NoTarget n
+targetIn (looping branch beta step st) = Sought beta
+
+-- of a quote's loop
+unfoldable pub targetOf : RuleSet → Quote → Target
+targetOf set q = targetIn (startOf set false q)
 
 -- ---- the run
 

@@ -1,4 +1,5 @@
-// What solve, file and recheck answer. A refusal has document 01's number and the completed steps.
+// What solve, file, recheck and target answer. A refusal has document 01's number and, where there is
+// a loop, the completed steps.
 
 // A volatility, the branch whose loop found it, how that loop ended, and its completed steps.
 pub struct ImpliedVolatility {
@@ -23,4 +24,12 @@ pub enum Checking {
     Agrees,
     Differs,
     Refused(u8, u32),
+}
+
+// The price that a loop seeks, out of the money and normalised; no loop where the answer comes before
+// a guess.
+pub enum Target {
+    Sought(f64),
+    NoLoop,
+    Refused(u8),
 }

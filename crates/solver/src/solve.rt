@@ -2,6 +2,7 @@
 // with document 01's refusals, its trail, and the wrapper of mod.rs.
 use crate::answers::ImpliedVolatility;
 use crate::answers::Solution;
+use crate::answers::Target;
 use crate::guess::normalised_start;
 use crate::normalised_market::NormalisedMarket;
 use crate::numbers;
@@ -34,7 +35,7 @@ ghost use Rattle.solver.specs.Step.{nextBy};
 ghost use Rattle.solver.specs.Inside.Branch.{branchStep};
 ghost use Rattle.solver.specs.Inside.Start.{HasExponentials, HasExponentialsIn, startMeaning, Implements};
 ghost use Rattle.solver.specs.Inside.Trail.{trailIfKept};
-ghost use Rattle.solver.specs.Solve.{capOf, overExpiry, acceptedStart, inputNumber, solutionOf, resultOfRun, solveKeeping, solveOf, solveWithTrail, quoteOf, stepsOf};
+ghost use Rattle.solver.specs.Solve.{capOf, overExpiry, acceptedStart, inputNumber, solutionOf, resultOfRun, solveKeeping, solveOf, solveWithTrail, targetOf, quoteOf, stepsOf};
 ghost use Rattle.solver.specs.Trail.{trailAfter};
 
 const IMPLIED_VOLATILITY_MAXIMUM_ITERATIONS: u32 = 2;
@@ -286,4 +287,19 @@ pub fn implied_volatility_from_a_transformed_rational_guess(
         option_type,
         IMPLIED_VOLATILITY_MAXIMUM_ITERATIONS,
     )
+}
+
+// What the quote's loop seeks.
+pub fn target(set: RuleSet, quote: Quote) -> Target
+    ensures { λ r. ⌜ r ≡ targetOf set quote ⌝ }
+{
+    let cause = input_number(quote);
+    if cause != 0 {
+        return Target::Refused(cause);
+    }
+    match accepted_start(set, quote) {
+        Start::Answered(_) => Target::NoLoop,
+        Start::Stopped(n) => Target::Refused(n),
+        Start::Looping(_, m, _) => Target::Sought(m.beta),
+    }
 }

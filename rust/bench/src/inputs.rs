@@ -1,6 +1,10 @@
 //! Inputs from a fixed seed. A market's price is ours at a random volatility, and its class what our solve answers.
 
-use gintubalos::{bits, black, exp, ln, normalised_black_call, normalised_vega, sqrt, OptionType};
+use gintubalos::{
+    bits, black,
+    probe::{exp, ln, normalised_black_call, normalised_vega, sqrt},
+    OptionType,
+};
 use random_words::Words;
 
 /// Below this half-volatility the Rust expands in small t.

@@ -7,7 +7,7 @@ mod inputs;
 mod listing;
 
 use clock::{measure, over, Effort, SIDES};
-use gintubalos::bits;
+use gintubalos::probe::bits;
 use inputs::{Class, Market, CLASSES, REGIONS};
 use std::{env, process::exit};
 
@@ -97,7 +97,7 @@ impl Bench {
         let mut trail = [0; 48 * LIMIT as usize];
         let ours = |m: &Market| {
             let [price, forward, strike, expiry] = m.bits();
-            bits::implied_volatility_from_a_transformed_rational_guess_with_limited_iterations(
+            bits::implied_volatility_from_a_transformed_rational_guess_with_trail(
                 price, forward, strike, expiry, m.kind, LIMIT, &mut trail,
             )
             .0

@@ -7,7 +7,7 @@ use crate::{
 };
 use gintubalos::{
     implied_volatility_from_a_transformed_rational_guess_step_by_step as step_by_step,
-    implied_volatility_from_a_transformed_rational_guess_with_limited_iterations as limited, Step,
+    implied_volatility_from_a_transformed_rational_guess_with_limited_iterations as limited, target, Refusal, Step,
 };
 use std::io::{self, Write};
 
@@ -36,7 +36,7 @@ pub fn write_solution(market: &Market, limit: i32, table: Option<Table>, out: &m
         let run = step_by_step(price, forward, strike, expiry, kind, limit.min(MOST_ROWS));
         let completed = answer.map_or_else(|refusal| refusal.steps, |solution| solution.steps);
         write_question(out, market, limit)?;
-        write_steps(out, &run.trail, completed, &table)?;
+        write_steps(out, &run.trail, target(price, forward, strike, expiry, kind), completed, &table)?;
     }
     let solution = answer?;
     output::volatility(out, solution.volatility, solution.sentinel())?;
@@ -57,30 +57,44 @@ fn write_question(out: &mut impl Write, market: &Market, limit: i32) -> io::Resu
 /// What the table's words mean.
 const LEGEND: &str = "\
 The loop seeks the s whose price b is the target: the price asked for, taken out
-of the money and normalised, which the trail does not hold. s is the volatility
-times the root of the expiry, b the normalised price at s, vega its slope there;
-left and right are the bracket after the step's move.
+of the money and normalised. s is the volatility times the root of the expiry, b
+the normalised price at s, error what b is above the target, vega the slope of b
+there; left and right are the bracket after the step's move.
 ";
 
-/// Each step on two lines, and with its bits on four.
-fn write_steps(out: &mut impl Write, steps: &[Step], completed: u32, table: &Table) -> io::Result<()> {
+/// Each step on three lines, and with its bits on six.
+fn write_steps(
+    out: &mut impl Write,
+    steps: &[Step],
+    target: Result<Option<f64>, Refusal>,
+    completed: u32,
+    table: &Table,
+) -> io::Result<()> {
+    let Ok(Some(target)) = target else {
+        return writeln!(out, "No step was completed: the answer comes without a loop.\n");
+    };
+    writeln!(out, "{LEGEND}")?;
+    output::float(out, "target", target)?;
+    writeln!(out)?;
     if steps.is_empty() {
         return writeln!(out, "No step was completed.\n");
     }
-    writeln!(out, "{LEGEND}")?;
     let mut rows = Vec::new();
     for (i, step) in steps.iter().enumerate() {
         let mut number = (i + 1).to_string();
-        for floats in [[step.s, step.price, step.vega], [step.left, step.right, step.s_after]] {
+        let lines = [[step.s, step.price, step.price - target], [step.left, step.right, step.vega]];
+        for floats in lines.into_iter().map(Some).chain([None]) {
             for form in
                 [output::decimal as fn(f64) -> String, output::bits].into_iter().take(1 + usize::from(table.bits))
             {
-                let [a, b, c] = floats.map(form);
+                let [a, b, c] =
+                    floats.map_or([form(step.s_after), String::new(), String::new()], |floats| floats.map(form));
                 rows.push([std::mem::take(&mut number), a, b, c]);
             }
         }
     }
-    output::table(out, &[["step", "s", "price b", "vega"], ["", "left", "right", "s after"]], &rows)?;
+    let heads = [["step", "s", "price b", "error"], ["", "left", "right", "vega"], ["", "s after", "", ""]];
+    output::table(out, &heads, &rows)?;
     let more = completed.saturating_sub(steps.len() as u32);
     if more > 0 {
         writeln!(out, "and {more} steps more, which are not shown")?;

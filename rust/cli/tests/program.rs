@@ -36,20 +36,23 @@ fn solve() {
 }
 
 const TABLE: &str = "\
-step  s                   price b              vega
-      left                right                s after
-----  ------------------  -------------------  -------------------
-1     0.1859788921092648  0.05125514016701893  0.3823972304882393
-      0.1859788921092648  0.3202914122718575   0.1860933713105415
-2     0.1860933713105415  0.0512989176042581   0.38241308317975137
-      0.1859788921092648  0.1860933713105415   0.18609337131054046
+target      0.05129891760425771       3FAA43DA0ADC689A
+
+step  s                    price b              error
+      left                 right                vega
+      s after
+----  -------------------  -------------------  ---------------------
+1     0.1859788921092648   0.05125514016701893  -4.377743723878169e-5
+      0.1859788921092648   0.3202914122718575   0.3823972304882393
+      0.1860933713105415
+2     0.1860933713105415   0.0512989176042581   3.885780586188048e-16
+      0.1859788921092648   0.1860933713105415   0.38241308317975137
+      0.18609337131054046
 ";
 
 const TABLE_WITH_BITS: &str = "\
-1     0.1859788921092648  0.05125514016701893  0.3823972304882393
-      3FC7CE2805AD8475    3FAA3E1D1D89DA20     3FD879323BC1CA21
-      0.1859788921092648  0.3202914122718575   0.1860933713105415
-      3FC7CE2805AD8475    3FD47FA78D396D0D     3FC7D1E857E3FD10
+1     0.1859788921092648   0.05125514016701893  -4.377743723878169e-5
+      3FC7CE2805AD8475     3FAA3E1D1D89DA20     BF06F3B54A39E800
 ";
 
 #[test]
@@ -66,7 +69,8 @@ fn steps() {
     let (status, out, _) = output(&words("solve 10 100 95 1 call --steps --limit 2147483647"));
     assert!(status == 0 && out.contains("\n3     0.18") && out.contains("step test"), "{out}");
     // Without a loop, and refused inside one: the completed steps are shown.
-    assert!(output(&words("solve 0 100 95 1 put --steps")).1.contains("No step was completed."));
+    assert!(output(&words("solve 0 100 95 1 put --steps")).1.contains("No step was completed: the answer comes without a loop."));
+    assert!(output(&words("solve 10 100 95 1 call --steps --limit 0")).1.contains("\n\nNo step was completed.\n"));
     let (status, out, err) = output(&[&["solve", "--steps", "--limit", "20"], &SEVEN[..]].concat());
     assert_eq!(status, 7);
     assert!(out.contains("\n3     ") && !out.contains("\n4     ") && !out.contains("volatility  "));

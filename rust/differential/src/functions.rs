@@ -4,7 +4,7 @@ use crate::borders::{self, Edges};
 use crate::edges::{edges, sixteenths, POINTS};
 use crate::inputs::{exponent, fused, line, pair, positive, probability, square, whole, wide, Arguments};
 use crate::prices as markets;
-use gintubalos::bits as ours;
+use gintubalos::probe::bits as ours;
 use random_words::Words;
 use rust_over_rules::elementary::{self, bits_of, NAN_BITS};
 use rust_over_rules::lets_be_rational::{cody::optimized as cody, normal_distribution as normal};

@@ -2,7 +2,7 @@
 //! where it changes.
 
 use crate::edges::{neighbour, POINTS, SIGN};
-use gintubalos::standard_normal_cdf;
+use gintubalos::probe::standard_normal_cdf;
 use random_words::Words;
 use std::f64::consts::{LN_2, SQRT_2};
 

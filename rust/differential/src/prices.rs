@@ -303,7 +303,7 @@ pub fn convex(words: &mut Words) -> [u64; 9] {
 #[cfg(test)]
 mod tests {
     use super::*;
-    use gintubalos::bits;
+    use gintubalos::probe::bits;
 
     /// How many of 100 000 inputs have the property.
     fn count<const N: usize>(inputs: fn(&mut Words) -> [u64; N], property: impl Fn([u64; N]) -> bool) -> usize {

@@ -59,7 +59,7 @@ const STEPS: [u32; 12] = [0, 0, 0, 0, 1, 2, 3, 3, 4, 4, 5, 5];
 #[cfg(test)]
 mod tests {
     use super::*;
-    use gintubalos::bits;
+    use gintubalos::probe::bits;
 
     #[test]
     fn each_is_refused_with_7() {
@@ -73,7 +73,7 @@ mod tests {
             assert_eq!(bits::normalised_black_call(x, s).1, 7);
         }
         for ([price, forward, strike, expiry, kind], steps) in SOLVES.into_iter().zip(STEPS) {
-            let found = bits::implied_volatility_from_a_transformed_rational_guess_with_limited_iterations(
+            let found = bits::implied_volatility_from_a_transformed_rational_guess_with_trail(
                 price,
                 forward,
                 strike,

@@ -26,9 +26,9 @@ pub struct Part {
     pub random: fn(&mut Words, &mut Tally),
 }
 
-pub const SOLVE: &str = "implied_volatility_from_a_transformed_rational_guess_with_limited_iterations";
+pub const SOLVE: &str = "implied_volatility_from_a_transformed_rational_guess_with_trail";
 
-pub const PARTS: [Part; 7] = [
+pub const PARTS: [Part; 8] = [
     Part { name: SOLVE, inputs: 2_000_000, quick: 100_000, edges: solve_edges, random: solve_random },
     Part {
         name: "implied_volatility_from_a_transformed_rational_guess",
@@ -38,11 +38,18 @@ pub const PARTS: [Part; 7] = [
         random: |words, tally| wrapper(tally, random_question(words)),
     },
     Part {
-        name: "solve_without_trail",
+        name: "implied_volatility_from_a_transformed_rational_guess_with_limited_iterations",
         inputs: 200_000,
         quick: 20_000,
         edges: without_trail_edges,
         random: |words, tally| without_trail(tally, random_question(words), limit(words).min(200)),
+    },
+    Part {
+        name: "target",
+        inputs: 1_000_000,
+        quick: 100_000,
+        edges: target_edges,
+        random: |words, tally| target(tally, random_question(words)),
     },
     Part { name: "file", inputs: 200_000, quick: 20_000, edges: books::file_edges, random: books::file_random },
     Part {
@@ -89,7 +96,7 @@ pub fn first_difference(ours: &[u8], rust: &[u8]) -> String {
 pub fn solve(tally: &mut Tally, question: Question, limit: i32, len: usize) -> ours::Outcome {
     let [price, forward, strike, expiry] = question.floats;
     let mut trail = pattern(len);
-    let found = ours::implied_volatility_from_a_transformed_rational_guess_with_limited_iterations(
+    let found = ours::implied_volatility_from_a_transformed_rational_guess_with_trail(
         price,
         forward,
         strike,
@@ -135,7 +142,14 @@ fn wrapper(tally: &mut Tally, question: Question) {
 
 fn without_trail(tally: &mut Tally, question: Question, limit: i32) {
     let [price, forward, strike, expiry] = question.floats;
-    let found = ours::solve_without_trail(price, forward, strike, expiry, question.kind, limit);
+    let found = ours::implied_volatility_from_a_transformed_rational_guess_with_limited_iterations(
+        price,
+        forward,
+        strike,
+        expiry,
+        question.kind,
+        limit,
+    );
     let expected = match question.market() {
         Ok(market) => answer(&solver::solve(market, limit, None)),
         Err(number) => (NAN_BITS, word(number, 0, 0, 0)),
@@ -145,6 +159,16 @@ fn without_trail(tally: &mut Tally, question: Question, limit: i32) {
         let name = PARTS[2].name;
         format!("{name}({}, {limit}): {found}, the Rust has {expected}", question.text())
     });
+}
+
+fn target(tally: &mut Tally, question: Question) {
+    let [price, forward, strike, expiry] = question.floats;
+    let found = ours::target(price, forward, strike, expiry, question.kind);
+    let expected = match question.market().and_then(solver::target) {
+        Ok(target) => (target.map_or(NAN_BITS, bits_of), 0),
+        Err(number) => (NAN_BITS, number),
+    };
+    tally.count(found == expected, || format!("target({}): {found:X?}, the Rust has {expected:X?}", question.text()));
 }
 
 // ---- inputs
@@ -225,6 +249,11 @@ fn solve_edges(tally: &mut Tally) {
             }
         }
     }
+}
+
+fn target_edges(tally: &mut Tally) {
+    combinations(|question| target(tally, question));
+    fixed_questions().into_iter().for_each(|question| target(tally, question));
 }
 
 fn wrapper_edges(tally: &mut Tally) {

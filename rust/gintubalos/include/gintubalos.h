@@ -1,4 +1,5 @@
-/* The proved functions, for C: link libabi.a. Document 01 has the rules.
+/* The proved functions that programs use, for C: link libabi.a. Document 01 has the rules. The functions behind these, which
+ * only the comparison with the Rust and the bench call, are in gintubalos_probe.h.
  *
  * A float crosses as its 64 bits, in both directions: any 64 bits may come in, and a NaN comes back as 7FF8000000000000.
  * What is not a price, a forward, a strike, an expiry or a sigma is refused with a number. A slice is a pointer and its
@@ -69,14 +70,19 @@ uint64_t gintubalos_implied_volatility_from_a_transformed_rational_guess(
     uint64_t price, uint64_t forward, uint64_t strike, uint64_t expiry, uint8_t kind, uint64_t *outcome);
 
 /* The same with any limit. */
-uint64_t gintubalos_solve_without_trail(uint64_t price, uint64_t forward, uint64_t strike, uint64_t expiry, uint8_t kind,
-                                        int32_t limit, uint64_t *outcome);
+uint64_t gintubalos_implied_volatility_from_a_transformed_rational_guess_with_limited_iterations(
+    uint64_t price, uint64_t forward, uint64_t strike, uint64_t expiry, uint8_t kind, int32_t limit, uint64_t *outcome);
 
 /* The same with any limit and a trail: 1 to 4, 21, then 6 or 7. Record i is at byte 48 x i: s, computed price b, vega, left
  * end and right end after the move, s after; six floats, little-endian. Bytes after the last record stay. */
-uint64_t gintubalos_implied_volatility_from_a_transformed_rational_guess_with_limited_iterations(
+uint64_t gintubalos_implied_volatility_from_a_transformed_rational_guess_with_trail(
     uint64_t price, uint64_t forward, uint64_t strike, uint64_t expiry, uint8_t kind, int32_t limit, uint8_t *trail,
     size_t trail_length, uint64_t *outcome);
+
+/* The bits of the price that the loop seeks, out of the money and normalised: what the prices b of its records come near to.
+ * A NaN's where the answer comes without a loop, with 0 in `number`, and where it is refused: 1 to 4, then 6 or 7. */
+uint64_t gintubalos_target(uint64_t price, uint64_t forward, uint64_t strike, uint64_t expiry, uint8_t kind,
+                           uint8_t *number);
 
 /* ---- The book. A record has 64 bytes, little-endian: at 0 price, 8 forward, 16 strike, 24 expiry, 32 volatility (floats);
  * 40 limit (int32_t); 44 steps (uint32_t); 48 kind; 49 branch; 50 ending; 51 to 63 zero. ---- */
@@ -96,70 +102,6 @@ uint64_t gintubalos_read(const uint8_t *book, size_t book_length, uint64_t used,
 /* Lays relist's line of a record, or of a last part under 64 bytes, at the start of `out`: its length, line feed included,
  * without a 0 at its end. An `out` under 128 bytes stays, and the answer is 0. */
 size_t gintubalos_line(uint64_t index, const uint8_t *bytes, size_t length, uint8_t *out, size_t out_length);
-
-/* ---- Prices. `number` gets the number, 0 for none; the value is then a NaN. ---- */
-
-uint64_t gintubalos_normalised_intrinsic(uint64_t x, uint8_t kind, uint8_t *number);
-uint64_t gintubalos_normalised_vega(uint64_t x, uint64_t s);
-/* 7 at the asymptotic region's edge, from both. */
-uint64_t gintubalos_normalised_black(uint64_t x, uint64_t s, uint8_t kind, uint8_t *number);
-uint64_t gintubalos_normalised_black_call(uint64_t x, uint64_t s, uint8_t *number);
-uint64_t gintubalos_normalised_black_call_using_erfcx(uint64_t h, uint64_t t);
-uint64_t gintubalos_normalised_black_call_with_optimal_use_of_codys_functions(uint64_t x, uint64_t s);
-/* 8 where t is too large. */
-uint64_t gintubalos_small_t_expansion_of_normalised_black_call(uint64_t h, uint64_t t, uint8_t *number);
-/* 7 outside its region. */
-uint64_t gintubalos_asymptotic_expansion_of_normalised_black_call(uint64_t h, uint64_t t, uint8_t *number);
-
-/* ---- The rational cubic. A side is Left at 0 and Right at any other byte, a choice is false at 0. ---- */
-
-/* 6 where x, x_l or x_r is infinite. */
-uint64_t gintubalos_rational_cubic_interpolation(uint64_t x, uint64_t x_l, uint64_t x_r, uint64_t y_l, uint64_t y_r,
-                                                 uint64_t d_l, uint64_t d_r, uint64_t r, uint8_t *number);
-uint64_t gintubalos_minimum_rational_cubic_control_parameter(uint64_t d_l, uint64_t d_r, uint64_t s,
-                                                             uint8_t prefer_shape_preservation_over_smoothness);
-uint64_t gintubalos_rational_cubic_control_parameter(uint64_t x_l, uint64_t x_r, uint64_t y_l, uint64_t y_r, uint64_t d_l,
-                                                     uint64_t d_r, uint64_t second_derivative, uint8_t side);
-uint64_t gintubalos_convex_rational_cubic_control_parameter(uint64_t x_l, uint64_t x_r, uint64_t y_l, uint64_t y_r,
-                                                            uint64_t d_l, uint64_t d_r, uint64_t second_derivative,
-                                                            uint8_t prefer_shape_preservation_over_smoothness,
-                                                            uint8_t side);
-
-/* ---- The normal distribution and Cody's functions ---- */
-
-uint64_t gintubalos_standard_normal_cdf(uint64_t x);
-uint64_t gintubalos_inverse_normal_cdf(uint64_t x);
-uint64_t gintubalos_inverse_f_upper_map(uint64_t f);
-/* NaN from 2^1020 on, either way, since x times 16 overflows there; the cdf from 7FB6A09E667F3BCC on, either way. */
-uint64_t gintubalos_erfc(uint64_t x);
-/* The largest float below -26.6287357137514. */
-uint64_t gintubalos_erfcx(uint64_t x);
-uint64_t gintubalos_erfcx_above_threshold(uint64_t y);
-uint64_t gintubalos_smoothened_exponential_of_negative_square(uint64_t y);
-uint64_t gintubalos_smoothened_exponential_of_positive_square(uint64_t x);
-uint64_t gintubalos_d_int(uint64_t x);
-uint64_t gintubalos_ab(uint64_t z);
-uint64_t gintubalos_cd(uint64_t y);
-uint64_t gintubalos_pq(uint64_t z);
-
-/* ---- Elementary functions ---- */
-
-/* x's own bits, 7FF8000000000000 at a NaN. */
-uint64_t gintubalos_bits_of(uint64_t x);
-/* 1 for a zero, else 0. */
-uint64_t gintubalos_is_zero(uint64_t x);
-uint64_t gintubalos_abs(uint64_t x);
-/* The other one if one is NaN; of two zeros of unequal sign, +0. */
-uint64_t gintubalos_max(uint64_t a, uint64_t b);
-uint64_t gintubalos_powi_2(uint64_t y);
-/* IEEE 754's roundToIntegralTowardNegative, squareRoot and fusedMultiplyAdd. */
-uint64_t gintubalos_floor(uint64_t x);
-uint64_t gintubalos_sqrt(uint64_t x);
-uint64_t gintubalos_mul_add(uint64_t a, uint64_t b, uint64_t c);
-uint64_t gintubalos_exp(uint64_t y);
-uint64_t gintubalos_ln(uint64_t y);
-/* 0 for a zero. */
-uint64_t gintubalos_powf_1_3(uint64_t y);
 
 #ifdef __cplusplus
 }

@@ -37,16 +37,16 @@
 
 #![deny(missing_docs)]
 
+pub mod bits;
 mod book;
 mod environment;
-mod functions;
 mod kinds;
+#[cfg(feature = "probe")]
+pub mod probe;
 mod refusal;
 mod solution;
-mod solver;
 
 pub use book::*;
-pub use functions::*;
 pub use kinds::*;
 pub use refusal::*;
 pub use solution::*;

@@ -1,4 +1,4 @@
-//! solve: the wrapper with limit 2, with any limit, and with its steps.
+//! solve: the wrapper with limit 2, with any limit, and with its steps; its loop's target; and the Black price.
 
 use crate::{bits, environment::in_default, Branch, Ending, OptionType, Refusal, Sentinel};
 
@@ -134,7 +134,16 @@ pub fn implied_volatility_from_a_transformed_rational_guess_with_limited_iterati
 ) -> Result<Solution, Refusal> {
     let [price, forward, strike, expiry] =
         [market_price, forward_price, strike_price, time_to_maturity].map(f64::to_bits);
-    to_solution(|| bits::solve_without_trail(price, forward, strike, expiry, option_type.byte(), max_iteration))
+    to_solution(|| {
+        bits::implied_volatility_from_a_transformed_rational_guess_with_limited_iterations(
+            price,
+            forward,
+            strike,
+            expiry,
+            option_type.byte(),
+            max_iteration,
+        )
+    })
 }
 
 /// The same, with its steps written to the lent trail: step i's record is at byte 48 × i, and bytes after the last record
@@ -165,7 +174,7 @@ pub fn implied_volatility_from_a_transformed_rational_guess_with_trail(
     let [price, forward, strike, expiry] =
         [market_price, forward_price, strike_price, time_to_maturity].map(f64::to_bits);
     to_solution(|| {
-        bits::implied_volatility_from_a_transformed_rational_guess_with_limited_iterations(
+        bits::implied_volatility_from_a_transformed_rational_guess_with_trail(
             price,
             forward,
             strike,
@@ -246,4 +255,57 @@ pub fn implied_volatility_from_a_transformed_rational_guess_step_by_step(
     );
     let completed = answer.map_or_else(|refusal| refusal.steps, |solution| solution.steps);
     Run { answer, trail: steps(&trail, completed).collect() }
+}
+
+/// The price that the loop seeks, out of the money and normalised: the target of its steps' prices. None where the answer
+/// comes without a loop. Refused with 1 to 4, then 6 or 7.
+///
+/// ```
+/// use gintubalos::{implied_volatility_from_a_transformed_rational_guess_step_by_step, target, OptionType};
+///
+/// let run = implied_volatility_from_a_transformed_rational_guess_step_by_step(
+///     10.0, 100.0, 95.0, 1.0, OptionType::Call, 9,
+/// );
+/// let sought = target(10.0, 100.0, 95.0, 1.0, OptionType::Call)?.expect("a loop");
+/// assert!((run.trail[2].price - sought).abs() < 1e-16);
+/// assert_eq!(target(0.0, 100.0, 95.0, 1.0, OptionType::Put)?, None);
+/// # Ok::<(), gintubalos::Refusal>(())
+/// ```
+pub fn target(
+    market_price: f64,
+    forward_price: f64,
+    strike_price: f64,
+    time_to_maturity: f64,
+    option_type: OptionType,
+) -> Result<Option<f64>, Refusal> {
+    let [price, forward, strike, expiry] =
+        [market_price, forward_price, strike_price, time_to_maturity].map(f64::to_bits);
+    match in_default(|| bits::target(price, forward, strike, expiry, option_type.byte())) {
+        (target, 0) => Ok(Some(f64::from_bits(target)).filter(|target| !target.is_nan())),
+        (_, number) => Err(Refusal { number, steps: 0 }),
+    }
+}
+
+/// The Black price of a European option on a future: the original library's function. Refused with 2, 3, 5 or 4 for an input
+/// that has no price, with 7 at the asymptotic region's edge.
+///
+/// ```
+/// use gintubalos::{black, OptionType};
+///
+/// let price = black(100.0, 95.0, 0.2, 1.0, OptionType::Call)?;
+/// assert_eq!(price.to_bits(), 0x4025_0A01_494A_D7E2);
+/// # Ok::<(), gintubalos::Refusal>(())
+/// ```
+pub fn black(
+    forward_price: f64,
+    strike_price: f64,
+    sigma: f64,
+    time_to_maturity: f64,
+    option_type: OptionType,
+) -> Result<f64, Refusal> {
+    let [forward, strike, sigma, expiry] = [forward_price, strike_price, sigma, time_to_maturity].map(f64::to_bits);
+    match in_default(|| bits::black(forward, strike, sigma, expiry, option_type.byte())) {
+        (price, 0) => Ok(f64::from_bits(price)),
+        (_, number) => Err(Refusal { number, steps: 0 }),
+    }
 }

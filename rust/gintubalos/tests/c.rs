@@ -1,6 +1,6 @@
-//! The C header: it declares the archive's functions, each as it is, and a C program calls them.
+//! The C headers: they declare the archive's functions, each as it is, and a C program calls them.
 
-use gintubalos::bits;
+use gintubalos::probe::bits;
 use std::{
     collections::BTreeMap,
     env, fs,
@@ -12,9 +12,9 @@ use std::{
 /// A function's type in C: what it returns, then what it takes.
 type Functions = BTreeMap<String, Vec<String>>;
 
-/// The exported functions of the crate `abi`, with the types that they have in C.
-fn exports() -> Functions {
-    let folder = Path::new(env!("CARGO_MANIFEST_DIR")).join("../../crates/abi/src");
+/// The exported functions of a part of the crate `abi`, with the types that they have in C.
+fn exports(part: &str) -> Functions {
+    let folder = Path::new(env!("CARGO_MANIFEST_DIR")).join("../../crates/abi/src").join(part);
     let mut functions = Functions::new();
     for entry in fs::read_dir(folder).expect("the sources of abi") {
         let text = fs::read_to_string(entry.expect("a file").path()).expect("a source");
@@ -44,18 +44,20 @@ fn in_c(rattle: &str) -> &'static [&'static str] {
     }
 }
 
-/// The functions that the header declares.
-fn declarations() -> Functions {
+/// The functions that a header declares.
+fn declarations(header: &str) -> Functions {
     let text =
-        fs::read_to_string(Path::new(env!("CARGO_MANIFEST_DIR")).join("include/gintubalos.h")).expect("a header");
+        fs::read_to_string(Path::new(env!("CARGO_MANIFEST_DIR")).join("include").join(header)).expect("a header");
     let mut code = String::new();
     for part in text.split("/*") {
         code += part.split_once("*/").map_or(part, |(_, after)| after);
     }
     let code: String = code.lines().filter(|line| !line.starts_with('#')).flat_map(|line| [line, " "]).collect();
     // What the header defines itself is no function of the archive.
-    let (before, definition) = code.split_once("static inline").expect("the environment's check");
-    let code = [before, definition.split_once('}').expect("its end").1].concat();
+    let code = match code.split_once("static inline") {
+        Some((before, definition)) => [before, definition.split_once('}').expect("its end").1].concat(),
+        None => code,
+    };
     let typed = |words: &str| {
         let name = words.rfind(|c: char| !c.is_alphanumeric() && c != '_').expect("a type and a name");
         (words[..=name].trim().to_owned(), words[name + 1..].to_owned())
@@ -71,10 +73,15 @@ fn declarations() -> Functions {
 }
 
 #[test]
-fn header_and_archive_have_the_same_functions() {
-    let (exports, declarations) = (exports(), declarations());
-    assert!(exports.len() > 40 && exports.keys().all(|name| name.starts_with("gintubalos_")));
-    assert_eq!(declarations, exports);
+fn headers_and_archive_have_the_same_functions() {
+    for (part, header, prefix) in
+        [("product", "gintubalos.h", "gintubalos_"), ("probe", "gintubalos_probe.h", "gintubalos_probe_")]
+    {
+        let (exports, declarations) = (exports(part), declarations(header));
+        assert!(exports.len() > 8 && exports.keys().all(|name| name.starts_with(prefix)), "{header}");
+        assert_eq!(declarations, exports, "{header}");
+    }
+    assert!(!exports("product").keys().any(|name| name.starts_with("gintubalos_probe_")));
 }
 
 /// What the C program should print.
@@ -112,6 +119,9 @@ fn expected() -> Vec<String> {
         line("black", refused, 4),
         line("black", refused, 24),
     ]);
+    let target = bits::target(10f64.to_bits(), 100f64.to_bits(), 95f64.to_bits(), 1f64.to_bits(), 1);
+    assert!((f64::from_bits(target.0) - 0.0512989176042577).abs() < 1e-15 && target.1 == 0);
+    lines.extend([line("target", target.0, 0), line("target", refused, 0), line("target", refused, 24)]);
     let more = "wrapper 3FC7D1E857E3FCEB 0 2 2 2
 untrailed 3FC7D1E857E3FCEB 0 2 2 2
 solve 3FC7D1E857E3FCEC 0 2 2 3

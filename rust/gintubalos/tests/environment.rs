@@ -4,6 +4,7 @@ use gintubalos::{
     implied_volatility_from_a_transformed_rational_guess as wrapper,
     implied_volatility_from_a_transformed_rational_guess_with_limited_iterations as limited,
     implied_volatility_from_a_transformed_rational_guess_with_trail as with_trail,
+    probe::*,
     OptionType::{Call, Put},
     *,
 };

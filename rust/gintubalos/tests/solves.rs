@@ -3,7 +3,7 @@
 use gintubalos::bits::*;
 use gintubalos::bits::{
     implied_volatility_from_a_transformed_rational_guess as wrapper,
-    implied_volatility_from_a_transformed_rational_guess_with_limited_iterations as solve,
+    implied_volatility_from_a_transformed_rational_guess_with_trail as solve,
 };
 
 const NAN_BITS: u64 = 0x7FF8_0000_0000_0000;

@@ -1,5 +1,6 @@
 //! solve, its trail and the book with the types of Rust.
 
+use gintubalos::probe::{ln, normalised_black_call, normalised_vega};
 use gintubalos::OptionType::{Call, Put};
 use gintubalos::{
     implied_volatility_from_a_transformed_rational_guess as wrapper,

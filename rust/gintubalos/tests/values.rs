@@ -1,7 +1,7 @@
 //! The archive's functions through the safe crate: document 01's own values.
 
 use gintubalos::OptionType::{Call, Put};
-use gintubalos::*;
+use gintubalos::{black, probe::*, Refusal, Side};
 
 /// A refusal by a function that takes no step.
 fn refused(number: u8) -> Result<f64, Refusal> {

@@ -1,7 +1,8 @@
 //! The Rust's solve with document 01's refusals above it, and the records of its steps.
 
+use crate::elementary::{ln, max, sqrt};
 use crate::lets_be_rational::{self, so_rational};
-use crate::prices::positive_normal;
+use crate::prices::{normalised_intrinsic, positive_normal};
 use crate::refusals::catch_refusal;
 use crate::steps::{watch, Step};
 use crate::OptionType;
@@ -96,4 +97,19 @@ pub fn implied_volatility_from_a_transformed_rational_guess(market: Market) -> R
     market.run(|| {
         lets_be_rational::implied_volatility_from_a_transformed_rational_guess(price, forward, strike, expiry, kind)
     })
+}
+
+/// The price that the loop seeks, none where the answer comes without one: the Rust's mapping, in its order.
+pub fn target(market: Market) -> Result<Option<f64>, u8> {
+    if solve(market, 0, None).answer?.branch == 0 {
+        return Ok(None);
+    }
+    let Market { mut price, forward, strike, mut kind, .. } = market;
+    let x = ln(forward / strike);
+    if kind * x > 0.0 {
+        price = max(price - max(kind * (forward - strike), 0.0), 0.0);
+        kind = -kind;
+    }
+    let beta = price / (sqrt(forward) * sqrt(strike));
+    Ok(Some(if kind * x > 0.0 { max(beta - normalised_intrinsic(x, kind), 0.0) } else { beta }))
 }

@@ -12,9 +12,11 @@ use Rattle.elementary.specs.declared.rule_set.RuleSet.{RuleSet}
 use Rattle.solver.specs.declared.quote.Quote.{Quote}
 use Rattle.solver.specs.declared.answers.Solution.{Solution}
 use Rattle.solver.specs.declared.answers.Solution.the-variants.{Refused}
+use Rattle.solver.specs.declared.answers.Target.{Target}
+use Rattle.solver.specs.declared.answers.Target.the-variants.{Refused as NoTarget}
 use Rattle.solver.specs.declared.state.Start.{Start as CodeStart}
 use Rattle.solver.specs.Inside.Start.{startMeaning}
-use Rattle.solver.specs.Solve.{acceptedStart, inputNumber, startOf, SolveResult, resultFrom, solveKeeping}
+use Rattle.solver.specs.Solve.{acceptedStart, inputNumber, startOf, targetIn, targetOf, SolveResult, resultFrom, solveKeeping}
 use Rattle.solver.specs.Inside.Trail.{trailIfKept}
 use Rattle.solver.proofs.Laws.LoopInvariant.{no-record}
 
@@ -34,6 +36,16 @@ module _ (keep : Bool) (bytes : ℕ) (set : RuleSet) (q : Quote) (n : ℕ) where
     pub by-start : (keep && ltb bytes (48 * n)) ≡ false → (s : CodeStart) → startMeaning set s ≡ acceptedStart set q → (s′ : CodeStart) → s ≡ s′ → w ≡ resultFrom (startMeaning set s′) (q .expiry) n
     unfolding solveKeeping startOf
     by-start t s b s′ g = rw (← g, b, ← e, h, t)
+
+-- and what target is
+module _ (set : RuleSet) (q : Quote) (k : ℕ) (e : k ≡ inputNumber q) where
+  pub no-target : (k ≡ 0 → ⊥) → NoTarget k ≡ targetOf set q
+  unfolding targetOf startOf
+  no-target h = rw (← e, ne-eqb k 0 h)
+
+  pub target-of : k ≡ 0 → (s : CodeStart) → startMeaning set s ≡ acceptedStart set q → (s′ : CodeStart) → s ≡ s′ → (r : Target) → r ≡ targetIn (startMeaning set s′) → r ≡ targetOf set q
+  unfolding targetOf startOf
+  target-of h s b s′ g r t = rw (t, ← g, b, ← e, h)
 
 -- whether the trail is too short, from what the code compared
 module _ (keep : Bool) (bytes n : ℕ) where

@@ -1,0 +1,13 @@
+-- `abi::probe::black::normalised_black` meets its contract: the byte says a kind, or none. Assumes nothing.
+use borrow.Author.Needs.{needs}
+use Rattle.abi.proofs.probe.black.normalised_black.Statement.{statement}
+use Rattle.abi.proofs.probe.black.normalised_black.Tie as tie
+
+returns : tie.Need-returns
+returns c = rw (← c .before .before .before .is-kind .ensures, c .before .before .if1 .taken, ← c .before .kind-from .ensures) (c .normalised-black .ensures)
+
+returns-2 : tie.Need-returns-2
+returns-2 c = rw (← c .before .is-kind .ensures, c .if1 .left)
+
+pub normalised-black-spec : {M : Type 1} → statement M
+normalised-black-spec = tie.close (tie.spec (λ c κs. search needs) (λ c κs. search needs) (λ c κs. search needs) returns returns-2)

@@ -1,0 +1,16 @@
+-- `abi::product::solve::solve_for` meets its contract: the byte says a kind, or none. Assumes nothing.
+use borrow.Author.Needs.{needs}
+use Rattle.abi.specs.Solutions.{solveFor}
+use Rattle.abi.proofs.product.solve.solve_for.Statement.{statement}
+use Rattle.abi.proofs.product.solve.solve_for.Tie as tie
+
+returns : tie.Need-returns
+unfolding solveFor
+returns c = rw (← c .before .before .is-kind .ensures, c .before .if1 .taken) (c .solve-quote .ensures)
+
+returns-2 : tie.Need-returns-2
+unfolding solveFor
+returns-2 c = rw (← c .before .is-kind .ensures, c .if1 .left)
+
+pub solve-for-spec : {M : Type 1} → statement M
+solve-for-spec = tie.close (tie.spec (λ c κs. search needs) (λ c κs. search needs) returns returns-2)

@@ -1,0 +1,28 @@
+// The normalised intrinsic value. Floats are their bits on both sides, a kind is document 01's byte.
+ghost use mathlib.Core.Path.{_≡_};
+ghost use lib.Ieee.{binary64, toBits, ofBits};
+ghost use Rattle.prices.specs.Answers.{numberOf, valueOf};
+ghost use Rattle.abi.specs.Bytes.{ofKind, intrinsicAnswer};
+use crate::export::export_answer;
+use elementary::methods::float_of;
+use prices::answer::Answer;
+use solver::book::is_kind;
+use solver::book::kind_from;
+use solver::numbers;
+
+fn intrinsic(x: f64, kind: u8) -> Answer
+    ensures { λ r. ⌜ r ≡ ofKind kind (intrinsicAnswer x) ⌝ }
+{
+    if is_kind(kind) {
+        return Answer::Value(prices::intrinsic::normalised_intrinsic(x, kind_from(kind)));
+    }
+    Answer::Refused(numbers::OUTSIDE_THE_LAYOUT)
+}
+
+#[no_mangle]
+pub extern "C" fn gintubalos_probe_normalised_intrinsic(x: u64, kind: u8, number: &mut u8) -> u64
+    ensures { λ r. ⌜ r ≡ toBits binary64 (valueOf (ofKind kind (intrinsicAnswer (ofBits binary64 x)))) ⌝ }
+    ensures { λ _. ⌜ now (number .exit) ≡ numberOf (ofKind kind (intrinsicAnswer (ofBits binary64 x))) ⌝ }
+{
+    export_answer(intrinsic(float_of(x), kind), number)
+}
