@@ -69,7 +69,9 @@ fn steps() {
     let (status, out, _) = output(&words("solve 10 100 95 1 call --steps --limit 2147483647"));
     assert!(status == 0 && out.contains("\n3     0.18") && out.contains("step test"), "{out}");
     // Without a loop, and refused inside one: the completed steps are shown.
-    assert!(output(&words("solve 0 100 95 1 put --steps")).1.contains("No step was completed: the answer comes without a loop."));
+    assert!(output(&words("solve 0 100 95 1 put --steps"))
+        .1
+        .contains("No step was completed: the answer comes without a loop."));
     assert!(output(&words("solve 10 100 95 1 call --steps --limit 0")).1.contains("\n\nNo step was completed.\n"));
     let (status, out, err) = output(&[&["solve", "--steps", "--limit", "20"], &SEVEN[..]].concat());
     assert_eq!(status, 7);
@@ -179,4 +181,16 @@ fn version() {
     assert_eq!(lines[0], format!("gintubalos {}", env!("CARGO_PKG_VERSION")));
     assert!(lines[1].starts_with("commit   ") && lines[2].starts_with("kit      "), "{out}");
     assert_eq!(lines[3].strip_prefix("archive  sha256 ").map(str::len), Some(64), "{out}");
+}
+
+/// An output that can't be written is told, whatever was to be written there.
+#[test]
+fn full_output() {
+    for line in ["demo", "--help", "--version", "solve 10 100 95 1 call --steps", "black 100 95 0.2 1 call"] {
+        let full = std::fs::OpenOptions::new().write(true).open("/dev/full").expect("a device of Linux");
+        let output = common::program().args(words(line)).stdout(full).output().expect("the program starts");
+        let err = String::from_utf8(output.stderr).expect("text");
+        assert_eq!(output.status.code(), Some(74), "{line}");
+        assert!(err.starts_with("gintubalos: standard output: "), "{err}");
+    }
 }
