@@ -14,12 +14,14 @@ pub struct Progress {
     passed: u64,
     /// When the bar was last drawn; none where nobody would see it.
     last: Option<Instant>,
+    /// Whether it stands there.
+    shown: bool,
 }
 
 impl Progress {
     /// For so many records; 0 where their number isn't known.
     pub fn new(total: u64) -> Progress {
-        Progress { total, passed: 0, last: io::stderr().is_terminal().then(Instant::now) }
+        Progress { total, passed: 0, last: io::stderr().is_terminal().then(Instant::now), shown: false }
     }
 
     /// So many records of this file are done.
@@ -28,6 +30,7 @@ impl Progress {
             return;
         }
         self.last = Some(Instant::now());
+        self.shown = true;
         // A bar that can't be drawn stops nothing.
         let _ = write!(io::stderr(), "\r{}", bar(self.passed + done, self.total));
     }
@@ -38,8 +41,8 @@ impl Progress {
     }
 
     /// Clears the line for what is written next.
-    pub fn clear(&self) {
-        if self.last.is_some() {
+    pub fn clear(&mut self) {
+        if std::mem::take(&mut self.shown) {
             let _ = write!(io::stderr(), "\r\x1b[K");
         }
     }
