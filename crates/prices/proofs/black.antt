@@ -1,3 +1,2 @@
 -- Laws that the proofs of black use.
 mod Depth
-mod Reading

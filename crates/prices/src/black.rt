@@ -22,20 +22,17 @@ use elementary::rule_set::RULE_SET_0;
 use elementary::rule_set::RuleSet;
 use elementary::sqrt::sqrt;
 ghost use mathlib.Core.Path.{_≡_};
-ghost use mathlib.Core.Bool.{not, cond, _&&_};
 ghost use lib.Ieee.{neg};
 ghost use Rattle.elementary.specs.RuleSets.{rule-set-0};
-ghost use Rattle.elementary.specs.Ops.{_⊗_, +0, half, one, mulAdd};
-ghost use Rattle.elementary.specs.Methods.{maxOf};
-ghost use Rattle.elementary.specs.Exp.{expOf};
+ghost use Rattle.elementary.specs.Ops.{_⊗_, half, one, mulAdd};
 ghost use Rattle.prices.specs.Black.{bell as bellOf, smallTOf, seriesTerms, seriesOf, asymptoticInner, asymptoticOf, usingErfcxOf, codysOf, isOutsideAsymptoticRegion, isAsymptotic, outOfTheMoney, plus as plusOf, callAt, callOf, normalisedBlackOf, isPositiveNormal, isFinite, priceFromNormalised, priceOf, blackAt, blackOf};
-ghost use Rattle.prices.specs.Inside.Exponentials.{twoBWith};
+ghost use Rattle.prices.specs.Inside.Exponentials.{upOf, downOf, twoBWith};
 ghost use Rattle.prices.specs.Inside.Regions.{regionAt};
 
 // The threshold of the asymptotic expansion, and H_LARGE.
 const H_LARGE: f64 = -10.0;
 
-const CODYS_THRESHOLD: f64 = 0.46875;
+pub(crate) const CODYS_THRESHOLD: f64 = 0.46875;
 
 // exp(−(h² + t²) / 2).
 pub(crate) fn bell(h: f64, t: f64) -> f64
@@ -46,44 +43,23 @@ pub(crate) fn bell(h: f64, t: f64) -> f64
 
 // ---- optimal use of Cody's functions
 
-// Twice the price, from the exponentials of x / 2, −x / 2 and −(h² + t²) / 2.
-fn two_b(set: RuleSet, up: f64, down: f64, exp_term: f64, q1: f64, q2: f64) -> f64
-    ensures { λ r. ⌜ r ≡ twoBWith set up down «exp_term» q1 q2 ⌝ }
+// Twice the price; each exponential is computed where it is read.
+fn two_b(set: RuleSet, x: f64, h: f64, t: f64, q1: f64, q2: f64) -> f64
+    ensures { λ r. ⌜ r ≡ twoBWith set (upOf x) (downOf x) (bellOf h t) q1 q2 ⌝ }
 {
     if q1 < CODYS_THRESHOLD {
+        let first = exp(0.5 * x) * erfc_under(set, q1);
         if q2 < CODYS_THRESHOLD {
-            return up * erfc_under(set, q1) - down * erfc_under(set, q2);
+            return first - exp(-0.5 * x) * erfc_under(set, q2);
         }
-        return up * erfc_under(set, q1) - exp_term * erfcx(q2);
+        return first - bell(h, t) * erfcx(q2);
     }
     if q2 < CODYS_THRESHOLD {
-        return exp_term * erfcx(q1) - down * erfc_under(set, q2);
+        return bell(h, t) * erfcx(q1) - exp(-0.5 * x) * erfc_under(set, q2);
     }
-    exp_term * (erfcx(q1) - erfcx(q2))
+    bell(h, t) * (erfcx(q1) - erfcx(q2))
 }
 
-// Cody's price, from the same exponentials.
-pub(crate) fn codys_price(set: RuleSet, up: f64, down: f64, exp_term: f64, q1: f64, q2: f64) -> f64
-    ensures { λ r. ⌜ r ≡ maxOf (half ⊗ twoBWith set up down «exp_term» q1 q2) +0 ⌝ }
-{
-    max(0.5 * two_b(set, up, down, exp_term, q1, q2), 0.0)
-}
-
-// exp(y) where the condition holds, else 0, which nobody reads.
-fn exp_if(condition: bool, y: f64) -> f64
-    ensures { λ r. ⌜ r ≡ cond condition (expOf y) +0 ⌝ }
-{
-    if condition { exp(y) } else { 0.0 }
-}
-
-// exp(−(h² + t²) / 2) is read where not both terms have erfc.
-fn not_both(a: bool, b: bool) -> bool
-    ensures { λ r. ⌜ r ≡ not (a && b) ⌝ }
-{
-    if a { !b } else { true }
-}
-
-// Each exponential is computed only where it is read.
 pub fn normalised_black_call_with_optimal_use_of_codys_functions_under(
     set: RuleSet,
     x: f64,
@@ -95,12 +71,7 @@ pub fn normalised_black_call_with_optimal_use_of_codys_functions_under(
     let t = 0.5 * s;
     let q1 = MINUS_FRAC_1_SQRT_2 * (h + t);
     let q2 = MINUS_FRAC_1_SQRT_2 * (h - t);
-    let first_erfc = q1 < CODYS_THRESHOLD;
-    let second_erfc = q2 < CODYS_THRESHOLD;
-    let up = exp_if(first_erfc, 0.5 * x);
-    let down = exp_if(second_erfc, -0.5 * x);
-    let exp_term = exp_if(not_both(first_erfc, second_erfc), -0.5 * (h * h + t * t));
-    codys_price(set, up, down, exp_term, q1, q2)
+    max(0.5 * two_b(set, x, h, t, q1, q2), 0.0)
 }
 
 pub fn normalised_black_call_with_optimal_use_of_codys_functions(x: f64, s: f64) -> f64

@@ -1,10 +1,10 @@
 // The price and the vega of one s, which the solver asks for together: exp(−(h² + t²) / 2) is computed
 // once for both.
 use crate::answer::Answer;
+use crate::black::CODYS_THRESHOLD;
 use crate::black::Region;
 use crate::black::asymptotic;
 use crate::black::bell;
-use crate::black::codys_price;
 use crate::black::is_outside_asymptotic_region;
 use crate::black::normalised_black_call_under;
 use crate::black::region_of;
@@ -15,11 +15,16 @@ use crate::refusals;
 use crate::small_t::small_t;
 use crate::vega::normalised_vega;
 use crate::vega::vega_with;
+use elementary::cody::erfc_under;
+use elementary::cody::erfcx;
+use elementary::methods::max;
 use elementary::rule_set::RuleSet;
 ghost use mathlib.Core.Path.{_≡_};
+ghost use Rattle.elementary.specs.Ops.{_⊗_, +0, half};
+ghost use Rattle.elementary.specs.Methods.{maxOf};
 ghost use Rattle.prices.specs.Vega.{vegaOf};
 ghost use Rattle.prices.specs.Black.{asymptoticOf};
-ghost use Rattle.prices.specs.Inside.Exponentials.{outOfTheMoneyWith, callWith};
+ghost use Rattle.prices.specs.Inside.Exponentials.{twoBWith, outOfTheMoneyWith, callWith};
 ghost use Rattle.prices.specs.Inside.Point.{priceAndVega};
 
 // A price and a vega, or document 01's number.
@@ -36,6 +41,29 @@ fn price_and_vega_from(answer: Answer, vega: f64) -> PriceAndVega
         Answer::Value(b) => PriceAndVega::Both(b, vega),
         Answer::Refused(n) => PriceAndVega::Refused(n),
     }
+}
+
+// Twice the price, from the exponentials of x / 2, −x / 2 and −(h² + t²) / 2.
+fn two_b_with(set: RuleSet, up: f64, down: f64, exp_term: f64, q1: f64, q2: f64) -> f64
+    ensures { λ r. ⌜ r ≡ twoBWith set up down «exp_term» q1 q2 ⌝ }
+{
+    if q1 < CODYS_THRESHOLD {
+        if q2 < CODYS_THRESHOLD {
+            return up * erfc_under(set, q1) - down * erfc_under(set, q2);
+        }
+        return up * erfc_under(set, q1) - exp_term * erfcx(q2);
+    }
+    if q2 < CODYS_THRESHOLD {
+        return exp_term * erfcx(q1) - down * erfc_under(set, q2);
+    }
+    exp_term * (erfcx(q1) - erfcx(q2))
+}
+
+// Cody's price, from the same exponentials.
+fn codys_price(set: RuleSet, up: f64, down: f64, exp_term: f64, q1: f64, q2: f64) -> f64
+    ensures { λ r. ⌜ r ≡ maxOf (half ⊗ twoBWith set up down «exp_term» q1 q2) +0 ⌝ }
+{
+    max(0.5 * two_b_with(set, up, down, exp_term, q1, q2), 0.0)
 }
 
 // Outside of the expansion's own region 7.
