@@ -30,4 +30,5 @@ returns-4 c =
 
 pub fma-finite-spec : {M : Type 1} → statement M
 fma-finite-spec =
-    tie.close (tie.spec (λ c κs. search needs) (λ c κs. search needs) (λ c κs. search needs) returns returns-2 returns-3 fma-nonzero-requires returns-4)
+    tie.close
+    (tie.spec (λ c κs. search needs) (λ c κs. search needs) (λ c κs. search needs) returns returns-2 returns-3 fma-nonzero-requires returns-4)

@@ -31,4 +31,5 @@ returns c = rw (← c .before .product .ensures) (c .sum-wide .ensures)
 pub fma-nonzero-spec : {M : Type 1} → statement M
 fma-nonzero-spec =
     tie.close
-    (tie.spec (λ c. search needs) (λ c. search needs) (λ c κs. search needs) (λ c. search needs) (λ c. search needs) (λ c. search needs) sum-wide-requires returns)
+    (tie.spec (λ c. search needs) (λ c. search needs) (λ c κs. search needs) (λ c. search needs) (λ c. search needs) (λ c. search needs)
+    sum-wide-requires returns)

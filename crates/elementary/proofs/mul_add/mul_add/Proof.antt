@@ -35,4 +35,5 @@ returns-3 c = sym (fma-factor binary64 _ _ _ (rw (← factors (c .before), c .if
 pub mul-add-spec : {M : Type 1} → statement M
 mul-add-spec =
     tie.close
-    (tie.spec (λ c κs. search needs) (λ c κs. search needs) (λ c κs. search needs) (λ c κs. search needs) fma-finite-requires (λ c. search needs) returns-2 returns-3)
+    (tie.spec (λ c κs. search needs) (λ c κs. search needs) (λ c κs. search needs) (λ c κs. search needs) fma-finite-requires (λ c. search needs)
+    returns-2 returns-3)

@@ -32,11 +32,8 @@ add-t11 c =
     let h = halves (c .args .a) (c .args .b) (c .pre .0) (c .pre .1) in
     record { fits = top (c .args .a / 2 ^ 32 * (c .args .b / 2 ^ 32)) _ (h .3) (add-mid-2 c .fits) }
 
-add-t14 : tie.Need-add-t14
-add-t14 c = search needs
-
 returns : tie.Need-returns
 returns c = product-law (c .args .a) (c .args .b)
 
 pub product-spec : {M : Type 1} → statement M
-product-spec = tie.close (tie.spec mul-low mul-mid mul-mid-2 add-mid add-mid-2 mul-t9 add-t11 add-t14 returns)
+product-spec = tie.close (tie.spec mul-low mul-mid mul-mid-2 add-mid add-mid-2 mul-t9 add-t11 (λ c. search needs) returns)

@@ -30,4 +30,5 @@ returns-3 c =
 pub shift-right-wide-spec : {M : Type 1} → statement M
 shift-right-wide-spec =
     tie.close
-    (tie.spec returns (λ c. search needs) (λ c. search needs) (λ c. search needs) (λ c. search needs) add-t11 (λ c κs. search needs) returns-2 returns-3)
+    (tie.spec returns (λ c. search needs) (λ c. search needs) (λ c. search needs) (λ c. search needs) add-t11 (λ c κs. search needs) returns-2
+    returns-3)

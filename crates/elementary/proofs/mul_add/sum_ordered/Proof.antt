@@ -78,20 +78,6 @@ returns-3 c =
 pub sum-ordered-spec : {M : Type 1} → statement M
 sum-ordered-spec =
     tie.close
-    (tie.spec
-    (λ c. search needs)
-    (λ c κs. search needs)
-    (λ c κs. search needs)
-    add-wide-requires
-    (λ c κs. search needs)
-    returns
-    (λ c κs. search needs)
-    (λ c κs. at-most c)
-    (λ c κs. search needs)
-    (λ c κs. search needs)
-    (λ c κs. search needs)
-    (λ c κs. le-of-lt (above c))
-    sub-wide-requires-3
-    round-signed-requires-2
-    returns-2
-    returns-3)
+    (tie.spec (λ c. search needs) (λ c κs. search needs) (λ c κs. search needs) add-wide-requires (λ c κs. search needs) returns
+    (λ c κs. search needs) (λ c κs. at-most c) (λ c κs. search needs) (λ c κs. search needs) (λ c κs. search needs) (λ c κs. le-of-lt (above c))
+    sub-wide-requires-3 round-signed-requires-2 returns-2 returns-3)

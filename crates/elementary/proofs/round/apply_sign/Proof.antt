@@ -9,8 +9,5 @@ use Rattle.elementary.proofs.round.apply_sign.Tie as tie
 returns : tie.Need-returns
 returns c = sym (ap (λ (b : Bool). cond b (neg (c .before .args .r)) (c .before .args .r)) (c .if1 .taken))
 
-returns-2 : tie.Need-returns-2
-returns-2 c = search needs
-
 pub apply-sign-spec : {M : Type 1} → statement M
-apply-sign-spec = tie.close (tie.spec returns returns-2)
+apply-sign-spec = tie.close (tie.spec returns (λ c. search needs))

@@ -12,9 +12,6 @@ use Rattle.elementary.proofs.round.low_bits.Tie as tie
 bit : (d : ℕ) → d < 64 → (1 * 2 ^ d) % 2 ^ 64 ≡ 2 ^ d
 bit d h = shl-exact 1 d 64 (lit< tt) (omega arith) ∙ one-mul (2 ^ d)
 
-shl-result : tie.Need-shl-result
-shl-result c = search needs
-
 rem-result : tie.Need-rem-result
 rem-result c = subst (λ (z : ℕ). 0 < z) (sym (bit (c .before .args .d) (omega arith))) (pow-pos (c .before .args .d))
 
@@ -27,4 +24,4 @@ returns-2 c =
     sym (mod-eq-of-lt (lt-of-lt-of-le (c .before .fits .m .fits) (pow-mono h)))
 
 pub low-bits-spec : {M : Type 1} → statement M
-low-bits-spec = tie.close (tie.spec shl-result rem-result returns returns-2)
+low-bits-spec = tie.close (tie.spec (λ c. search needs) rem-result returns returns-2)

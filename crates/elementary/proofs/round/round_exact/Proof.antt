@@ -19,16 +19,10 @@ rearrange v E T = mul-assoc v E T ∙ ap (λ (z : ℕ). v * z) (mul-comm E T)
 none : (v : ℕ) → v ≤ 0 → v ≡ 0
 none v h = omega arith
 
-is-nonzero-requires : tie.Need-is-nonzero-requires
-is-nonzero-requires c κs = search needs
-
 round-signed-requires : tie.Need-round-signed-requires
 round-signed-requires c κs =
     let a = c .before .before in
     (ltb-true 0 (wide (a .args .hi) (a .args .lo)) (sym (c .before .is-nonzero .ensures) ∙ c .if1 .taken), ((λ _. refl), a .pre))
-
-apply-sign-requires : tie.Need-apply-sign-requires
-apply-sign-requires c κs = search needs
 
 returns : tie.Need-returns
 returns c =
@@ -47,5 +41,4 @@ returns-2 c =
     ∙ ap (λ (t : ℕ). round binary64 (a .args .neg) t (2 ^ 2404)) (sym (ap (λ (t : ℕ). t * 2 ^ a .args .e) z ∙ zero-mul (2 ^ a .args .e)))
 
 pub round-exact-spec : {M : Type 1} → statement M
-round-exact-spec =
-    tie.close (tie.spec is-nonzero-requires round-signed-requires apply-sign-requires returns returns-2)
+round-exact-spec = tie.close (tie.spec (λ c κs. search needs) round-signed-requires (λ c κs. search needs) returns returns-2)

@@ -7,12 +7,6 @@ use borrow.Author.Needs.{needs}
 use Rattle.elementary.proofs.round.round_signed.Statement.{statement}
 use Rattle.elementary.proofs.round.round_signed.Tie as tie
 
-round-wide-requires : tie.Need-round-wide-requires
-round-wide-requires c κs = search needs
-
-apply-sign-requires : tie.Need-apply-sign-requires
-apply-sign-requires c κs = search needs
-
 returns : tie.Need-returns
 returns c num den D C =
     let s = c .before .before .args .neg in
@@ -21,4 +15,4 @@ returns c num den D C =
     ∙ sign.with-sign binary64 s num den
 
 pub round-signed-spec : {M : Type 1} → statement M
-round-signed-spec = tie.close (tie.spec round-wide-requires apply-sign-requires returns)
+round-signed-spec = tie.close (tie.spec (λ c κs. search needs) (λ c κs. search needs) returns)

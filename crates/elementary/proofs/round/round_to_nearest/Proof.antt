@@ -41,9 +41,6 @@ shl-is k h = omega arith
 under : (k q : ℕ) → k ≤ 2045 → q ≤ 2 ^ 53 → k * 2 ^ 52 % 2 ^ 64 + q ≤ 2047 * 2 ^ 52
 under k q h l = omega arith
 
-drop-count-requires : tie.Need-drop-count-requires
-drop-count-requires c κs = search needs
-
 float-from-bits-result : tie.Need-float-from-bits-result
 float-from-bits-result c = no-nan-pattern 0x7ff0_0000_0000_0000 (lit≤ tt)
 
@@ -54,21 +51,6 @@ returns c num den D C =
     let K : 2045 < a .args .e + 11 - 1330 = omega arith in
     let P : 0 < a .args .e + 11 - 1330 = omega arith in
     pattern.too-large (z .0) (a .args .e + 11 - 1330) K (leaf.kept-ge (z .1) P) ∙ sym (leaf.round-units (z .1) num den D C)
-
-add-d : tie.Need-add-d
-add-d c = search needs
-
-sub-d : tie.Need-sub-d
-sub-d c = search needs
-
-shift-right-requires : tie.Need-shift-right-requires
-shift-right-requires c κs = search needs
-
-low-bits-requires : tie.Need-low-bits-requires
-low-bits-requires c κs = search needs
-
-any-requires : tie.Need-any-requires
-any-requires c κs = search needs
 
 halve-to-even-requires : tie.Need-halve-to-even-requires
 halve-to-even-requires c κs =
@@ -99,16 +81,5 @@ returns-2 c num den D C =
 pub round-to-nearest-spec : {M : Type 1} → statement M
 round-to-nearest-spec =
     tie.close
-    (tie.spec
-    drop-count-requires
-    float-from-bits-result
-    returns
-    add-d
-    sub-d
-    shift-right-requires
-    low-bits-requires
-    any-requires
-    halve-to-even-requires
-    add-result
-    float-from-bits-result-2
-    returns-2)
+    (tie.spec (λ c κs. search needs) float-from-bits-result returns (λ c. search needs) (λ c. search needs) (λ c κs. search needs)
+    (λ c κs. search needs) (λ c κs. search needs) halve-to-even-requires add-result float-from-bits-result-2 returns-2)

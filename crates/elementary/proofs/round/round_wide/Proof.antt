@@ -28,26 +28,8 @@ fits-in z e h l = omega arith
 leading-zeros-requires : tie.Need-leading-zeros-requires
 leading-zeros-requires c κs = low-pos (c .before .args .hi) (c .before .args .lo) (c .before .pre .0) (c .if1 .taken)
 
-shift-left-requires : tie.Need-shift-left-requires
-shift-left-requires c κs = search needs
-
-sub-round-to-nearest : tie.Need-sub-round-to-nearest
-sub-round-to-nearest c = search needs
-
-round-to-nearest-requires : tie.Need-round-to-nearest-requires
-round-to-nearest-requires c κs = search needs
-
 leading-zeros-requires-2 : tie.Need-leading-zeros-requires-2
 leading-zeros-requires-2 c κs = high-pos (c .before .args .hi) (c .if1 .left)
-
-sub-d : tie.Need-sub-d
-sub-d c = search needs
-
-shift-left-requires-2 : tie.Need-shift-left-requires-2
-shift-left-requires-2 c κs = search needs
-
-shift-right-requires : tie.Need-shift-right-requires
-shift-right-requires c κs = search needs
 
 add-m : tie.Need-add-m
 add-m c =
@@ -55,18 +37,6 @@ add-m c =
     let z = c .before .before .leading-zeros2 in
     rw (c .before .shift-left2 .ensures, c .shift-right .ensures)
     (record { fits = words.top-lt (a .args .hi) (a .args .lo) (z .result) (64 - z .result) (whole (z .result) (z .ensures .small)) (z .ensures .high) (a .fits .lo .fits) })
-
-low-bits-requires : tie.Need-low-bits-requires
-low-bits-requires c κs = search needs
-
-any-requires : tie.Need-any-requires
-any-requires c κs = search needs
-
-add-round-to-nearest : tie.Need-add-round-to-nearest
-add-round-to-nearest c = search needs
-
-round-to-nearest-requires-2 : tie.Need-round-to-nearest-requires-2
-round-to-nearest-requires-2 c κs = search needs
 
 returns : tie.Need-returns
 returns c num den D C =
@@ -101,19 +71,6 @@ returns-2 c num den D C =
 pub round-wide-spec : {M : Type 1} → statement M
 round-wide-spec =
     tie.close
-    (tie.spec
-    leading-zeros-requires
-    shift-left-requires
-    sub-round-to-nearest
-    round-to-nearest-requires
-    leading-zeros-requires-2
-    sub-d
-    shift-left-requires-2
-    shift-right-requires
-    add-m
-    low-bits-requires
-    any-requires
-    add-round-to-nearest
-    round-to-nearest-requires-2
-    returns
-    returns-2)
+    (tie.spec leading-zeros-requires (λ c κs. search needs) (λ c. search needs) (λ c κs. search needs) leading-zeros-requires-2 (λ c. search needs)
+    (λ c κs. search needs) (λ c κs. search needs) add-m (λ c κs. search needs) (λ c κs. search needs) (λ c. search needs) (λ c κs. search needs)
+    returns returns-2)

@@ -13,9 +13,6 @@ range c = z-in (c .args .m) (c .args .e) (c .pre .0) (c .pre .1) (c .pre .2) (c 
 cast-z : tie.Need-cast-z
 cast-z c = omega (arith, range c)
 
-add-s : tie.Need-add-s
-add-s c = search needs
-
 add-s-2 : tie.Need-add-s-2
 add-s-2 c = omega (arith, range c)
 
@@ -28,14 +25,8 @@ shl-root-digits c = omega (arith, range c)
 root-digits-requires : tie.Need-root-digits-requires
 root-digits-requires c κs = shift-low (c .args .m) (c .args .e) (c .pre .0) (c .pre .1) (c .pre .2) (c .pre .3)
 
-add-result : tie.Need-add-result
-add-result c = search needs
-
 sub-result : tie.Need-sub-result
 sub-result c = omega (arith, range (c .before))
-
-mul-result : tie.Need-mul-result
-mul-result c = search needs
 
 add-result-2 : tie.Need-add-result-2
 add-result-2 c =
@@ -60,4 +51,5 @@ returns c =
 pub root-of-significand-spec : {M : Type 1} → statement M
 root-of-significand-spec =
     tie.close
-    (tie.spec cast-z add-s add-s-2 sub-s shl-root-digits root-digits-requires add-result sub-result mul-result add-result-2 add-result-3 float-from-bits-result returns)
+    (tie.spec cast-z (λ c. search needs) add-s-2 sub-s shl-root-digits root-digits-requires (λ c. search needs) sub-result (λ c. search needs)
+    add-result-2 add-result-3 float-from-bits-result returns)

@@ -85,5 +85,4 @@ returns-4 : tie.Need-returns-4
 returns-4 c = nan-quotient ∙ sym (root-none (c .before .before .args .x) (c .before .if1 .left) (c .if3 .left))
 
 pub sqrt-spec : {M : Type 1} → statement M
-sqrt-spec =
-    tie.close (tie.spec float-to-bits-b sqrt-of-positive-requires returns returns-2 returns-3 returns-4)
+sqrt-spec = tie.close (tie.spec float-to-bits-b sqrt-of-positive-requires returns returns-2 returns-3 returns-4)
