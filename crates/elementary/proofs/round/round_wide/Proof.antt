@@ -1,7 +1,7 @@
 -- `round::round_wide` meets its contract: the leading 64 digits of the two words; the rest joins the flag (Words). Assumes nothing.
 use mathlib.Core.Path.{_≡_, sym, ap, _∙_, subst}
 use Prim.Native.Nat.{ℕ, _+_, _-_, _*_, _/_, _%_, _^_, _≤_, _<_}
-use native.Mathlib.Nat.{mul-assoc, mul-pos}
+use native.Mathlib.Nat.{mul-assoc, mul-pos, pos-of-ne-zero}
 use native.Mathlib.Omega.{arith}
 use lib.Pow.{pow-add, pow-pos}
 use Rattle.elementary.specs.Inside.Round.{Cut, Any, wide}
@@ -15,9 +15,6 @@ only-low hi lo z = omega arith
 
 leading-zeros-requires : tie.Need-leading-zeros-requires
 leading-zeros-requires c κs = rw (only-low (c .before .args .hi) (c .before .args .lo) (c .if1 .taken)) at (c .before .pre .0)
-
-high-pos : (hi : ℕ) → (hi ≡ 0 → ⊥) → 0 < hi
-high-pos hi h = omega arith
 
 add-m : tie.Need-add-m
 add-m c =
@@ -49,6 +46,6 @@ returns-2 c num den D C =
 pub round-wide-spec : {M : Type 1} → statement M
 round-wide-spec =
     tie.close
-    (tie.spec leading-zeros-requires (λ c κs. search needs) (λ c. search needs) (λ c κs. search needs) (λ c κs. high-pos _ (c .if1 .left)) (λ c. search needs)
+    (tie.spec leading-zeros-requires (λ c κs. search needs) (λ c. search needs) (λ c κs. search needs) (λ c κs. pos-of-ne-zero (c .if1 .left)) (λ c. search needs)
     (λ c κs. search needs) (λ c κs. search needs) add-m (λ c κs. search needs) (λ c κs. search needs) (λ c. search needs) (λ c κs. search needs)
     returns returns-2)
