@@ -1,6 +1,5 @@
 -- Numbers of two words: what a shift to the right keeps and drops, and the product by halves of a word. Assumes nothing.
 use mathlib.Core.Path.{_≡_, refl, sym, ap, _∙_, subst}
-use mathlib.Core.Logic.{_⊎_, inl, inr}
 use Prim.Native.Nat.{ℕ, _+_, _-_, _*_, _/_, _%_, _^_, _≤_, _<_}
 use native.Mathlib.Nat.{le-of-lt, lt-of-le-of-lt, lt-of-lt-of-le, mod-eq-of-lt, mul-assoc, mul-comm, mul-left-comm, mul-le-mul-left, div-add-mod', add-mul, mul-add, add-assoc, add-comm, add-left-comm, mul-div-mul-right, mod-lt, mul-lt-mul-of-pos-right}
 use native.Mathlib.Omega.{arith}

@@ -3,7 +3,7 @@ use mathlib.Core.Path.{_≡_, refl, sym, ap, _∙_}
 use mathlib.Core.Logic.{_⊎_, inl, inr}
 use mathlib.Core.Bool.{Bool, true, false, _&&_, Bool·beq, cond}
 use Prim.Native.Nat.{ℕ, zero, suc, _+_, _-_, _*_, _/_, _%_, _^_, _≤_, _<_, compare, Ordering, Ordering·lt, Ordering·eq, Ordering·gt}
-use native.Mathlib.Nat.{le-of-eq, le-of-lt, lt-of-lt-of-le, eq-or-lt-of-le, eq-zero-or-pos, mul-assoc, mul-comm, mul-left-comm, mul-pos, mul-le-mul-right, mul-lt-mul-of-pos-right, div-add-mod', div-le-self, div-lt-iff-lt-mul, add-mul, add-comm, suc-mul, zero-mul, mod-lt, mul-div-mul-right, mul-add-div-right, mul-add-mod-self-right}
+use native.Mathlib.Nat.{le-of-lt, lt-of-lt-of-le, eq-or-lt-of-le, eq-zero-or-pos, mul-assoc, mul-comm, mul-left-comm, mul-pos, mul-le-mul-right, mul-lt-mul-of-pos-right, div-add-mod', div-le-self, div-lt-iff-lt-mul, add-mul, add-comm, suc-mul, zero-mul, mod-lt, mul-div-mul-right, mul-add-div-right, mul-add-mod-self-right}
 use native.Mathlib.Decide.{decLe}
 use native.Mathlib.Omega.{arith}
 use borrow.Author.Tests.{lt-ltb, le-ltb}

@@ -1,6 +1,6 @@
 -- `mul_add::fma_nonzero` meets its contract: the product times 2^12 and the addend times 2^64 have 117 or 118 digits. Assumes nothing.
-use mathlib.Core.Path.{_≡_, sym, ap, _∙_}
-use Prim.Native.Nat.{ℕ, _+_, _*_, _%_, _^_, _≤_, _<_}
+use mathlib.Core.Path.{_≡_}
+use Prim.Native.Nat.{ℕ, _*_}
 use native.Mathlib.Nat.{mul-le-mul, mul-assoc, mul-comm, mul-left-comm}
 use native.Mathlib.Omega.{arith}
 use Rattle.elementary.specs.Inside.Round.{Digits, wide}

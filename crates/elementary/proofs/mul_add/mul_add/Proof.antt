@@ -1,5 +1,5 @@
 -- `mul_add::mul_add` meets its contract: infinite and NaN operands by the cases of `fma` (Rounding). Assumes nothing.
-use mathlib.Core.Path.{_≡_, sym, _∙_}
+use mathlib.Core.Path.{_≡_, sym}
 use mathlib.Core.Bool.{_&&_}
 use lib.Dec.{T}
 use lib.Ieee.{binary64}

@@ -1,5 +1,5 @@
 -- `mul_add::product` meets its contract: the four products of half words, with two carries (Carry). Assumes nothing.
-use Prim.Native.Nat.{ℕ, _+_, _*_, _/_, _%_, _^_, _<_}
+use Prim.Native.Nat.{ℕ, _+_, _*_, _/_, _^_, _<_}
 use native.Mathlib.Omega.{arith}
 use Rattle.elementary.proofs.mul_add.Carry.{halves, product-law}
 use borrow.Author.Needs.{needs}

@@ -1,6 +1,6 @@
 -- `mul_add::shift_right_wide` meets its contract: what enters the low word is the high word shifted up (Carry). Assumes nothing.
-use mathlib.Core.Path.{_≡_, sym, _∙_}
-use Prim.Native.Nat.{ℕ, _+_, _-_, _^_, _<_}
+use mathlib.Core.Path.{_≡_, sym}
+use Prim.Native.Nat.{ℕ, _+_, _-_, _<_}
 use native.Mathlib.Nat.{div-one}
 use native.Mathlib.Omega.{arith}
 use borrow.Author.Needs.{needs}

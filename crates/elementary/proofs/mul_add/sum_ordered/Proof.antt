@@ -1,6 +1,5 @@
 -- `mul_add::sum_ordered` meets its contract: the smaller number is cut, and what was cut off goes into the flag (Sums). Assumes nothing.
 use mathlib.Core.Path.{_≡_, sym, _∙_}
-use mathlib.Core.Logic.{inl, inr}
 use Prim.Native.Nat.{ℕ, _+_, _-_, _^_, _≤_, _<_}
 use native.Mathlib.Nat.{le-of-lt}
 use native.Mathlib.Omega.{arith}

@@ -1,10 +1,10 @@
 -- `round::round_wide` meets its contract: the leading 64 digits of the two words; the rest joins the flag (Words). Assumes nothing.
-use mathlib.Core.Path.{_≡_, sym, ap, _∙_, subst}
-use Prim.Native.Nat.{ℕ, _+_, _-_, _*_, _/_, _%_, _^_, _≤_, _<_}
+use mathlib.Core.Path.{_≡_, sym}
+use Prim.Native.Nat.{ℕ, _+_, _-_, _*_, _%_, _^_}
 use native.Mathlib.Nat.{mul-assoc, mul-pos, pos-of-ne-zero}
 use native.Mathlib.Omega.{arith}
 use lib.Pow.{pow-add, pow-pos}
-use Rattle.elementary.specs.Inside.Round.{Cut, Any, wide}
+use Rattle.elementary.specs.Inside.Round.{Any, wide}
 use Rattle.elementary.proofs.Laws.Words as words
 use borrow.Author.Needs.{needs}
 use Rattle.elementary.proofs.round.round_wide.Statement.{statement}
