@@ -2,7 +2,7 @@
 use mathlib.Core.Path.{_≡_, refl}
 use mathlib.Core.Bool.{Bool, true, false, not, cond, _&&_}
 use Prim.Native.Nat.{ℕ, suc, _+_, _-_, _*_, _/_, _%_, _^_, _≤_, _<_, compare, Ordering, Ordering·lt, Ordering·eq, Ordering·gt}
-use native.Mathlib.Nat.{le-trans, le-of-lt, le-refl, mul-assoc, mul-comm, mul-le-mul-right, mul-lt-mul-of-pos-right, mul-pos, add-mul, add-comm, one-mul, lt-of-not-le, div-mul-le-self, div-lt-iff-lt-mul, div-add-mod', div-div-eq-div-mul}
+use native.Mathlib.Nat.{le-trans, le-refl, mul-assoc, mul-comm, mul-le-mul-right, mul-lt-mul-of-pos-right, mul-pos, add-mul, add-comm, one-mul, lt-of-not-le, div-mul-le-self, div-lt-iff-lt-mul, div-add-mod', div-div-eq-div-mul}
 use native.Mathlib.Decide.{decLe}
 use native.Mathlib.Omega.{arith}
 use lib.IntN.{ℤ}

@@ -72,7 +72,7 @@ in-range f (fin false (suc m) e) t p =
     let l : 2 ^ low f ≤ suc m * up e * 2 ^ low f = le-trans (le-of-eq (sym (one-mul (2 ^ low f)))) (mul-le-mul-right (2 ^ low f) (mul-pos {m = suc m} (omega arith) (up-pos e))) in
     (le-div-iff-mul-le (down-pos e) .1 (le-trans (le-of-eq (one-mul (down e))) (le-trans (holds f false m e t .1) l)), finite-under f false (suc m) e t)
 
-sqrt-is : (f : Format) (x : Float) → T (positive x) → sqrtOf f x ≡ roundRoot f (place f x * 2 ^ low f)
+pub sqrt-is : (f : Format) (x : Float) → T (positive x) → sqrtOf f x ≡ roundRoot f (place f x * 2 ^ low f)
 unfolding sqrtOf place
 sqrt-is f nan p = absurd p
 sqrt-is f (inf s) p = absurd p
@@ -104,7 +104,7 @@ module _ (f : Format) (n : ℕ) where
       let l : isqrt n < suc q * 2 ^ k = div-lt-iff-lt-mul (pow-pos k) .0 (le-refl (suc q)) in
       omega (arith, sq-twice (suc q * 2 ^ k), lt-of-lt-of-le (isqrt-root n .1) (mul-le-mul l l))
 
-  root-is : roundRoot f n ≡ units f false (nearest q order) k
+  pub root-is : roundRoot f n ≡ units f false (nearest q order) k
   unfolding roundRoot
   root-is = refl
 

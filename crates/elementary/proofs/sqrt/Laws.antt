@@ -1,10 +1,10 @@
 -- What `roundRoot` gives where the root's first 54 digits are known, and the bits of that. Assumes nothing.
 use mathlib.Core.Path.{_≡_, refl, sym, ap, _∙_, subst}
 use mathlib.Core.Logic.{_⊎_, inl, inr}
-use mathlib.Core.Bool.{true, false, not, true≢false}
-use Prim.Native.Nat.{ℕ, zero, suc, _+_, _-_, _*_, _/_, _%_, _^_, _≤_, _<_, compare, Ordering, Ordering·lt, Ordering·eq, Ordering·gt}
+use mathlib.Core.Bool.{false, not}
+use Prim.Native.Nat.{ℕ, suc, _+_, _-_, _*_, _/_, _%_, _^_, _≤_, _<_, compare, Ordering, Ordering·lt, Ordering·eq, Ordering·gt}
 use native.Mathlib.Nat.{le-trans, lt-of-not-le, not-le-of-lt, lt-of-lt-of-le, eq-or-lt-of-le, mul-assoc, mul-comm, mul-left-comm, suc-mul, pow-suc}
-use native.Mathlib.Nat.{mul-le-mul-right, mul-lt-mul-of-pos-right, mul-pos, zero-mul, div-eq-of-lt-le, div-div-eq-div-mul}
+use native.Mathlib.Nat.{mul-le-mul-right, mul-lt-mul-of-pos-right, mul-pos, div-eq-of-lt-le, div-div-eq-div-mul}
 use native.Mathlib.Decide.{decLe}
 use native.Mathlib.Numerals.{add-one}
 use native.Mathlib.Omega.{arith}
@@ -12,14 +12,15 @@ use lib.Dec.{T, leb}
 use lib.Arith.{lt→nleb}
 use lib.Pow.{pow-add, pow-pos, pow-mono, shl-lt, shl-exact}
 use lib.Count.{leadingZeros, leading-top}
-use lib.Ieee.{Float, nan, inf, fin, binary64, up, down, size, nearest, units, ofBits, nanBits}
-use lib.Ieee.Fits.{down-pos}
+use lib.Ieee.{Float, binary64, size, nearest, units, ofBits, nanBits}
 use lib.Ieee.Exact.{HasValue}
+use lib.Ieee.Positive.{positive-of-value}
 use lib.Ieee.Bits.{is-false}
 use Rattle.elementary.specs.Sqrt.{isqrt, roundRoot, sqrtOf}
 use Rattle.elementary.proofs.Laws.Ordering.{Cmp, cmp}
 use Rattle.elementary.proofs.Laws.Leaf.{size-of}
-use Rattle.elementary.proofs.Laws.Places.{whole-units}
+use Rattle.elementary.proofs.Laws.Places.{place-of}
+use Rattle.elementary.proofs.Laws.SqrtNearest.{sqrt-is, root-is}
 use Rattle.elementary.proofs.Laws.Nearest.{units-fits}
 use Rattle.elementary.proofs.Laws.Isqrt.{sq-lt, sq-suc, sq-twice, isqrt-root}
 use Rattle.elementary.specs.Inside.Sqrt.{Root}
@@ -73,14 +74,6 @@ choice w n p P s = go s
         let t = times (mid w * mid w) n p P l in
         by-order (w / 2) ((w + 1) / 2) (4 * (n * p * p)) (mid w * (p * 2) * (mid w * (p * 2))) (λ g. omega (arith, scale-sq (mid w) p)) (λ _. e) (λ g. omega (arith, scale-sq (mid w) p))
 
--- `roundRoot`, from the root's whole part v and the number k of dropped digits on
-abbrev root-value : ℕ → ℕ → ℕ → Float
-root-value n v k = units binary64 false (nearest (v / 2 ^ k) (compare (4 * n) ((2 * (v / 2 ^ k) + 1) * 2 ^ k * ((2 * (v / 2 ^ k) + 1) * 2 ^ k)))) k
-
-root-value-is : (n : ℕ) → roundRoot binary64 n ≡ root-value n (isqrt n) (size (isqrt n) - 53)
-unfolding roundRoot
-root-value-is n = refl
-
 regroup : (w p : ℕ) → w * p * (w * p) ≡ w * w * p * p
 regroup w p = simp (mul-assoc, mul-comm, mul-left-comm)
 
@@ -117,9 +110,8 @@ module _ (a w h : ℕ) (lo : 2 ^ 62 ≤ a) (hi : a + 2 ^ 11 ≤ 2 ^ 64) (root : 
   pub root-rounded : roundRoot binary64 n ≡ units binary64 false ((w + 1) / 2) (suc h)
   root-rounded =
       let k : size (isqrt n) - 53 ≡ suc h = omega (arith, v-size) in
-      root-value-is n
-      ∙ ap (λ (z : ℕ). root-value n (isqrt n) z) k
-      ∙ rw (first-digits, pow-suc 2 h) (ap (λ (z : ℕ). units binary64 false z (suc h)) (choice w (a * 2 ^ 44) (2 ^ h) (pow-pos h) (side w (a * 2 ^ 44) (root .0) (root .1) (omega arith))))
+      root-is binary64 n
+      ∙ rw (k, first-digits, pow-suc 2 h) (ap (λ (z : ℕ). units binary64 false z (suc h)) (choice w (a * 2 ^ 44) (2 ^ h) (pow-pos h) (side w (a * 2 ^ 44) (root .0) (root .1) (omega arith))))
 
 -- ---- the bits of a rounded root
 pub root-pattern : (r k : ℕ) → 2 ^ 52 ≤ r → r < 2 ^ 53 → k < 2000 → ofBits binary64 (k * 2 ^ 52 + r) ≡ units binary64 false r k
@@ -128,19 +120,11 @@ root-pattern r k lo hi small =
     (units-fits binary64 false r k (omega arith) (lt-of-lt-of-le (shl-lt 53 k hi) (pow-mono {i = 53 + k} {j = 2098} (omega arith))))
 
 -- ---- `sqrtOf` at a finite value that is not 0
-no-zero : (u c a d : ℕ) → 0 * u * c ≡ a * d → 0 < a → 0 < d → ⊥
-no-zero u c a d h p q = omega (arith, mul-pos p q, ap (λ (z : ℕ). z * c) (zero-mul u), zero-mul c)
-
-pub sqrt-positive : (x : Float) (a : ℕ) → HasValue x false a (2 ^ 1074) → 0 < a → sqrtOf binary64 x ≡ roundRoot binary64 (a * 2 ^ 1074)
-unfolding sqrtOf
-sqrt-positive nan a h p = absurd h
-sqrt-positive (inf t) a h p = absurd h
-sqrt-positive (fin t zero e) a h p = absurd (no-zero (up e) (2 ^ 1074) a (down e) (h .1) p (down-pos e))
-sqrt-positive (fin true (suc m) e) a h p = absurd (true≢false (h .0))
-sqrt-positive (fin false (suc m) e) a h p = ap (λ (z : ℕ). roundRoot binary64 (z * 2 ^ 1074)) (whole-units binary64 (fin false (suc m) e) false a h)
+sqrt-positive : (x : Float) (a : ℕ) → HasValue x false a (2 ^ 1074) → 0 < a → sqrtOf binary64 x ≡ roundRoot binary64 (a * 2 ^ 1074)
+sqrt-positive x a h p = sqrt-is binary64 x (positive-of-value x a (2 ^ 1074) h p) ∙ rw (place-of binary64 x false a h)
 
 -- ---- the shift that normalises m
-module _ (m e : ℕ) (m-pos : 0 < m) (m-lt : m < 2 ^ 53) (e-lo : 1 ≤ e) (e-hi : e < 2047) where
+module _ {m e : ℕ} (pre : (0 < m) × (m < 2 ^ 53) × (1 ≤ e) × (e < 2047)) where
   abbrev z : ℕ
   z = leadingZeros 64 m
 
@@ -148,10 +132,10 @@ module _ (m e : ℕ) (m-pos : 0 < m) (m-lt : m < 2 ^ 53) (e-lo : 1 ≤ e) (e-hi 
   s = z - (e + 1 + z) % 2
 
   digits-of-m : (j : ℕ) × (z + suc j ≡ 64) × (2 ^ j ≤ m) × (m < 2 ^ suc j)
-  digits-of-m = leading-top 64 m m-pos (omega arith)
+  digits-of-m = leading-top 64 m (pre .0) (omega arith)
 
   j-lt : digits-of-m .0 < 53
-  j-lt = lt-of-not-le (λ (g : 53 ≤ digits-of-m .0). not-le-of-lt m-lt (le-trans (pow-mono g) (digits-of-m .2)))
+  j-lt = lt-of-not-le (λ (g : 53 ≤ digits-of-m .0). not-le-of-lt (pre .1) (le-trans (pow-mono g) (digits-of-m .2)))
 
   pub z-in : (11 ≤ z) × (z ≤ 63)
   z-in = let t = digits-of-m in omega (arith, j-lt)

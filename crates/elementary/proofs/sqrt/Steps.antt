@@ -32,7 +32,7 @@ first-digits a g lo hi (inr (k, e)) = rw e (omega arith)
 pub root-range : (n g lo hi : ℕ) → Root n g → lo * lo ≤ n → n < hi * hi → (lo ≤ g) × (g < hi)
 root-range n g lo hi r a b = (omega (arith, sq-lt lo (suc g) (omega arith)), sq-lt g hi (omega arith))
 
-module _ (g u l B : ℕ) (pre : (g < 2 ^ 32) × (B ≤ 2 * g) × (B ≤ 2 ^ 22) × (l < B) × (u < (2 * g + 1) * B)) where
+module _ {g u l B : ℕ} (pre : (g < 2 ^ 32) × (B ≤ 2 * g) × (B ≤ 2 ^ 22) × (l < B) × (u < (2 * g + 1) * B)) where
   abbrev h : ℕ
   h = u / (2 * g)
 
@@ -81,7 +81,7 @@ module _ (g u l B : ℕ) (pre : (g < 2 ^ 32) × (B ≤ 2 * g) × (B ≤ 2 ^ 22) 
       (omega (arith, whole, square-le), omega (arith, whole, ap (λ (z : ℕ). z * z) e))
 
 -- ---- twice the digits
-module _ (n g B : ℕ) (pre : Root (n / B / B) g × (0 < B) × (B ≤ 2 * g) × (g < 2 ^ 16)) where
+module _ (n : ℕ) {g B : ℕ} (pre : Root (n / B / B) g × (0 < B) × (B ≤ 2 * g) × (g < 2 ^ 16)) where
   pub square-at-most : g * g * B ≤ n / B
   square-at-most = le-div-iff-mul-le (pre .1) .0 (pre .0 .0)
 
