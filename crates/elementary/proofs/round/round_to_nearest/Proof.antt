@@ -28,8 +28,8 @@ steps c = record {
   fits = start c .fits .m .fits;
   drop = c .before .before .before .before .before .drop-count .ensures;
   down = refl;
-  rest = subst (λ (z : ℕ). Any z (start c .args .x) (c .before .any .result)) (c .before .before .low-bits .ensures) (c .before .any .ensures);
-  half = subst (λ (z : ℕ). HalfToEven z (c .before .any .result) (c .halve-to-even .result)) (c .before .before .before .shift-right .ensures) (c .halve-to-even .ensures);
+  rest = rw (← c .before .before .low-bits .ensures) (c .before .any .ensures);
+  half = rw (← c .before .before .before .shift-right .ensures) (c .halve-to-even .ensures);
 }
 
 small : (c : tie.After-halve-to-even) → k-of c ≤ 2045
@@ -38,11 +38,8 @@ small c = omega arith
 shl-is : (k : ℕ) → k ≤ 2045 → k * 2 ^ 52 % 2 ^ 64 ≡ k * 2 ^ 52
 shl-is k h = omega arith
 
-under : (k q : ℕ) → k ≤ 2045 → q ≤ 2 ^ 53 → k * 2 ^ 52 % 2 ^ 64 + q ≤ 2047 * 2 ^ 52
-under k q h l = omega arith
-
-float-from-bits-result : tie.Need-float-from-bits-result
-float-from-bits-result c = no-nan-pattern 0x7ff0_0000_0000_0000 (lit≤ tt)
+under : {k q : ℕ} → k ≤ 2045 → q ≤ 2 ^ 53 → let b = k * 2 ^ 52 % 2 ^ 64 + q in (b < 2 ^ 64) × (b % 2 ^ 63 ≤ 2047 * 2 ^ 52)
+under h l = omega arith
 
 returns : tie.Need-returns
 returns c num den D C =
@@ -55,31 +52,29 @@ returns c num den D C =
 halve-to-even-requires : tie.Need-halve-to-even-requires
 halve-to-even-requires c κs =
     let a = c .before .before .before .before .before in
-    let k = c .before .before .before .before .drop-count .result in
-    let e : k ≡ a .args .e + 11 - 1330 = c .before .before .before .before .drop-count .ensures in
-    subst (λ (z : ℕ). z < 2 ^ 63) (sym (c .before .before .shift-right .ensures))
-    (lt-of-lt-of-le (leaf.half-below (a .args .m) (a .args .e) k (1329 + k - a .args .e) (a .fits .m .fits) e refl) (lit≤ tt))
-
-add-result : tie.Need-add-result
-add-result c = record { fits = lt-of-le-of-lt (under (k-of c) (c .halve-to-even .result) (small c) (leaf.kept-le (steps c))) (lit< tt) }
-
-float-from-bits-result-2 : tie.Need-float-from-bits-result-2
-float-from-bits-result-2 c = no-nan-pattern (k-of c * 2 ^ 52 % 2 ^ 64 + c .halve-to-even .result) (low (under (k-of c) (c .halve-to-even .result) (small c) (leaf.kept-le (steps c))))
-  where
-    low : {b : ℕ} → b ≤ 2047 * 2 ^ 52 → b % 2 ^ 63 ≤ 2047 * 2 ^ 52
-    low h = omega arith
+    let h = leaf.half-below (a .args .m) (a .args .e) _ _ (a .fits .m .fits) (c .before .before .before .before .drop-count .ensures) refl in
+    rw (c .before .before .shift-right .ensures) (lt-of-lt-of-le h (lit≤ tt))
 
 returns-2 : tie.Need-returns-2
 returns-2 c num den D C =
     let S = steps c in
-    let q = c .halve-to-even .result in
     let e = leaf.round-units S num den D C in
-    ap (λ (z : ℕ). ofBits binary64 (z + q)) (shl-is (k-of c) (small c))
-    ∙ pattern.units-pattern q (k-of c) (leaf.kept-le S) (leaf.kept-ge S) (small c) (subst (λ (z : Float). T (fits binary64 z)) e (round-fits binary64 false num den))
-    ∙ sym e
+    rw (shl-is (k-of c) (small c))
+    (pattern.units-pattern _ (k-of c) (leaf.kept-le S) (leaf.kept-ge S) (small c) (rw e at (round-fits binary64 false num den)) ∙ sym e)
 
 pub round-to-nearest-spec : {M : Type 1} → statement M
 round-to-nearest-spec =
     tie.close
-    (tie.spec (λ c κs. search needs) float-from-bits-result returns (λ c. search needs) (λ c. search needs) (λ c κs. search needs)
-    (λ c κs. search needs) (λ c κs. search needs) halve-to-even-requires add-result float-from-bits-result-2 returns-2)
+    (tie.spec
+    (λ c κs. search needs)
+    (λ c. no-nan-pattern 0x7ff0_0000_0000_0000 (lit≤ tt))
+    returns
+    (λ c. search needs)
+    (λ c. search needs)
+    (λ c κs. search needs)
+    (λ c κs. search needs)
+    (λ c κs. search needs)
+    halve-to-even-requires
+    (λ c. record { fits = under (small c) (leaf.kept-le (steps c)) .0 })
+    (λ c. no-nan-pattern _ (under (small c) (leaf.kept-le (steps c)) .1))
+    returns-2)

@@ -9,17 +9,11 @@ use borrow.Author.Needs.{needs}
 use Rattle.elementary.proofs.round.subnormal_parts.Statement.{statement}
 use Rattle.elementary.proofs.round.subnormal_parts.Tie as tie
 
-over : (z : ℕ) → 12 ≤ z → 11 ≤ z
-over z h = omega arith
-
-under : (z : ℕ) → z < 64 → z - 11 < 64
-under z h = omega arith
-
 sub-z : tie.Need-sub-z
-sub-z c = over (c .leading-zeros .result) (decode.far-up (c .before .before .args .t) (c .leading-zeros .result) (c .before .before .pre) (c .leading-zeros .ensures))
+sub-z c = omega (arith, decode.far-up (c .before .before .args .t) (c .leading-zeros .result) (c .before .before .pre) (c .leading-zeros .ensures))
 
 shift-left-requires : tie.Need-shift-left-requires
-shift-left-requires c κs = (under (c .leading-zeros .result) (c .leading-zeros .ensures .small), lt-of-lt-of-le (decode.up-top (c .before .before .args .t) (c .leading-zeros .result) (c .before .before .pre) (c .leading-zeros .ensures)) (lit≤ tt))
+shift-left-requires c κs = omega (arith, decode.up-top (c .before .before .args .t) (c .leading-zeros .result) (c .before .before .pre) (c .leading-zeros .ensures))
 
 returns : tie.Need-returns
 returns c = (refl, decode.subnormal-zero (c .before .args .t) (c .if1 .taken))
