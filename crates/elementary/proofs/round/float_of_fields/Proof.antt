@@ -7,10 +7,7 @@ use Rattle.elementary.proofs.round.float_of_fields.Statement.{statement
 use Rattle.elementary.proofs.round.float_of_fields.Tie as tie
 
 add-result : tie.Need-add-result
-add-result c = record { fits = room (c .sign-bit .result + c .before .args .f * 2 ^ 52 % 2 ^ 64) (c .before .args .t) (fields.pattern-fits (c .before .args .neg) (c .before .args .f) (c .before .args .t) (c .sign-bit .result) (c .before .pre .1 .0) (c .before .pre .1 .1) (c .sign-bit .ensures)) }
-  where
-    room : (a t : ℕ) → a + t < 2 ^ 64 → a < 2 ^ 64
-    room a t h = omega arith
+add-result c = let a = c .before in omega (arith, fields.pattern-fits (a .args .neg) (a .args .f) (a .args .t) (c .sign-bit .result) (a .pre .1 .0) (a .pre .1 .1) (c .sign-bit .ensures))
 
 add-result-2 : tie.Need-add-result-2
 add-result-2 c = record { fits = fields.pattern-fits (c .before .args .neg) (c .before .args .f) (c .before .args .t) (c .sign-bit .result) (c .before .pre .1 .0) (c .before .pre .1 .1) (c .sign-bit .ensures) }
