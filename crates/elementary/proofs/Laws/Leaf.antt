@@ -116,18 +116,11 @@ module _ {m x e k d y q : ℕ} (S : Steps m x e k d y q) where
       elim (eq-zero-or-pos y) [ inl z ↦ omega (arith, S .half .tie z) | inr p ↦ omega (arith, S .half .more p) ]
 
 -- some y and q there are
-pub half-of : (h y : ℕ) → (q : ℕ) × HalfToEven h y q
-half-of h y = elim (eq-zero-or-pos y) [
-  | inl z ↦ ((h + h / 2 % 2) / 2, record { tie = λ _. refl; more = λ p. absurd (omega arith) })
-  | inr p ↦ ((h + 1) / 2, record { tie = λ z. absurd (omega arith); more = λ _. refl })
-]
-
-any-of : (a b : ℕ) → Any a b (a + b)
-any-of a b = record { left = λ z. omega arith; right = λ z. omega arith; none = λ y z. omega arith }
+half-of : (h y : ℕ) → (q : ℕ) × HalfToEven h y q
+half-of h y = elim (eq-zero-or-pos y) [ inl z ↦ ((h + h / 2 % 2) / 2, omega arith) | inr p ↦ ((h + 1) / 2, omega arith) ]
 
 pub steps-of : (m x e : ℕ) → 2 ^ 63 ≤ m → m < 2 ^ 64 → (q : ℕ) × Steps m x e (e + 11 - 1330) (1329 + (e + 11 - 1330) - e) (m % 2 ^ (1329 + (e + 11 - 1330) - e) + x) q
 steps-of m x e big fits =
-    let k = e + 11 - 1330 in
-    let d = 1329 + k - e in
+    let d = 1329 + (e + 11 - 1330) - e in
     let h = half-of (m / 2 ^ d) (m % 2 ^ d + x) in
-    (h .0, record { big = big; fits = fits; drop = refl; down = refl; rest = any-of (m % 2 ^ d) x; half = h .1 })
+    (h .0, record { big = big; fits = fits; drop = refl; down = refl; rest = omega arith; half = h .1 })

@@ -26,9 +26,6 @@ cmp-add Ordering·lt c a b h = omega arith
 cmp-add Ordering·eq c a b h = omega arith
 cmp-add Ordering·gt c a b h = omega arith
 
-odd-times : (q x c : ℕ) → (2 * q + 1) * x * c ≡ 2 * (q * (c * x)) + c * x
-odd-times q x c = rw (mul-assoc (2 * q + 1) x c, mul-comm x c, add-mul (2 * q) 1 (c * x), one-mul (c * x), mul-assoc 2 q (c * x))
-
 module _ (p n c : ℕ) (C : 0 < c) where
   abbrev k : ℕ
   k = tail p (n / c)
@@ -57,7 +54,7 @@ module _ (p n c : ℕ) (C : 0 < c) where
   whole = let e : q * u + n % u ≡ n = rw q-is (div-add-mod' n u) in omega arith
 
   middle-is : middle p (n / c) * c ≡ 2 * (q * u) + u
-  middle-is = odd-times q (2 ^ k) c
+  middle-is = rw (mul-assoc (2 * q + 1) (2 ^ k) c, mul-comm (2 ^ k) c, add-mul (2 * q) 1 u, one-mul u, mul-assoc 2 q u)
 
   order : Cmp (compare (n % u * 2) u) (2 * n) (middle p (n / c) * c)
   order = rw (whole, middle-is) (cmp-add (compare (n % u * 2) u) (2 * (q * u)) (n % u * 2) u (cmp (n % u * 2) u))

@@ -49,23 +49,22 @@ mul-lt i j x y h k = lt-of-le-of-lt (mul-le-mul-left x (le-of-lt k)) (shl-lt i j
 columns : (P a₀ a₁ b₀ b₁ : ℕ) → (a₁ * P + a₀) * (b₁ * P + b₀) ≡ a₁ * b₁ * (P * P) + (a₁ * b₀ + a₀ * b₁) * P + a₀ * b₀
 columns P a₀ a₁ b₀ b₁ = simp (mul-add, add-mul, mul-assoc, mul-comm, mul-left-comm, add-assoc, add-comm, add-left-comm) refl
 
-module _ (a b : ℕ) where
-  abbrev P : ℕ
-  P = 2 ^ 32
+abbrev P : ℕ
+P = 2 ^ 32
 
-  pub halves : a < 2 ^ 59 → b < 2 ^ 59 → (a % P * (b % P) < 2 ^ 64) × (a / P * (b % P) < 2 ^ 59) × (a % P * (b / P) < 2 ^ 59) × (a / P * (b / P) < 2 ^ 54)
-  halves A B =
-      let m = mod-lt a (pow-pos 32) in
-      let n = mod-lt b (pow-pos 32) in
-      let i = shr-lt 27 32 A in
-      let j = shr-lt 27 32 B in
-      (mul-lt 32 32 (a % P) (b % P) m n, mul-lt 27 32 (a / P) (b % P) i n, mul-lt 32 27 (a % P) (b / P) m j, mul-lt 27 27 (a / P) (b / P) i j)
+pub halves : {a b : ℕ} → a < 2 ^ 59 → b < 2 ^ 59 → (a % P * (b % P) < 2 ^ 64) × (a / P * (b % P) < 2 ^ 59) × (a % P * (b / P) < 2 ^ 59) × (a / P * (b / P) < 2 ^ 54)
+halves {a} {b} A B =
+    let m = mod-lt a (pow-pos 32) in
+    let n = mod-lt b (pow-pos 32) in
+    let i = shr-lt 27 32 A in
+    let j = shr-lt 27 32 B in
+    (mul-lt 32 32 (a % P) (b % P) m n, mul-lt 27 32 (a / P) (b % P) i n, mul-lt 32 27 (a % P) (b / P) m j, mul-lt 27 27 (a / P) (b / P) i j)
 
-  flat : (x y z w : ℕ) → wide (x + (y + z + w / P) / P) ((y + z + w / P) * P % 2 ^ 64 + w % P) ≡ x * (P * P) + (y + z) * P + w
-  flat x y z w = omega arith
+flat : (x y z w : ℕ) → wide (x + (y + z + w / P) / P) ((y + z + w / P) * P % 2 ^ 64 + w % P) ≡ x * (P * P) + (y + z) * P + w
+flat x y z w = omega arith
 
-  pub product-law : let mid = a / P * (b % P) + a % P * (b / P) + a % P * (b % P) / P in wide (a / P * (b / P) + mid / P) (mid * P % 2 ^ 64 + a % P * (b % P) % P) ≡ a * b
-  product-law =
-      flat (a / P * (b / P)) (a / P * (b % P)) (a % P * (b / P)) (a % P * (b % P))
-      ∙ sym (columns P (a % P) (a / P) (b % P) (b / P))
-      ∙ rw (div-add-mod' a P, div-add-mod' b P)
+pub product-law : (a b : ℕ) → let mid = a / P * (b % P) + a % P * (b / P) + a % P * (b % P) / P in wide (a / P * (b / P) + mid / P) (mid * P % 2 ^ 64 + a % P * (b % P) % P) ≡ a * b
+product-law a b =
+    flat (a / P * (b / P)) (a / P * (b % P)) (a % P * (b / P)) (a % P * (b % P))
+    ∙ sym (columns P (a % P) (a / P) (b % P) (b / P))
+    ∙ rw (div-add-mod' a P, div-add-mod' b P)

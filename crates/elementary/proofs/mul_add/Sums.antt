@@ -1,7 +1,7 @@
 -- Signed sums of two fractions: `sum` by its cases, and the leading digits of the sum and the difference where the smaller number is cut. Assumes nothing.
-use mathlib.Core.Path.{_≡_, refl, sym, ap, _∙_}
+use mathlib.Core.Path.{_≡_, sym, ap, _∙_}
 use mathlib.Core.Logic.{_⊎_, inl, inr}
-use mathlib.Core.Bool.{Bool, true, false, _&&_, Bool·beq, cond}
+use mathlib.Core.Bool.{Bool, true, false, _&&_, Bool·beq, cond, and-true, and-false}
 use Prim.Native.Nat.{ℕ, zero, suc, _+_, _-_, _*_, _/_, _%_, _^_, _≤_, _<_, compare, Ordering, Ordering·lt, Ordering·eq, Ordering·gt}
 use native.Mathlib.Nat.{le-of-lt, lt-of-lt-of-le, eq-or-lt-of-le, eq-zero-or-pos, mul-assoc, mul-comm, mul-left-comm, mul-pos, mul-le-mul-right, mul-lt-mul-of-pos-right, div-add-mod', div-le-self, div-lt-iff-lt-mul, add-mul, add-comm, suc-mul, zero-mul, mod-lt, mul-div-mul-right, mul-add-div-right, mul-add-mod-self-right}
 use native.Mathlib.Decide.{decLe}
@@ -19,14 +19,6 @@ use Rattle.elementary.proofs.Laws.Adding.{sub-mul}
 use Rattle.elementary.proofs.Laws.Words.{exact-cut}
 
 -- ---- `sum` by its cases
-and-true : (x : Bool) → (x && true) ≡ x
-and-true true = refl
-and-true false = refl
-
-and-false : (x : Bool) → (x && false) ≡ false
-and-false true = refl
-and-false false = refl
-
 pub sum-same : (f : Format) (s t : Bool) (a b c : ℕ) → Bool·beq s t ≡ true → sum f s a t b c ≡ round f s (a + b) c
 unfolding sum
 sum-same f s t a b c e = rw e

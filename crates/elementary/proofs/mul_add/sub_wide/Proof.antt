@@ -13,32 +13,18 @@ module _ (ah al bh bl : ℕ) (h : wide bh bl ≤ wide ah al) where
   borrow : bl < 2 ^ 64 → al < bl → (bh ≤ ah) × (1 ≤ ah - bh) × (wide (ah - bh - 1) (al + (2 ^ 64 - 1 - bl) + 1) ≡ wide ah al - wide bh bl)
   borrow b l = omega arith
 
-low : (al bl : ℕ) → bl < 2 ^ 64 → al < bl → (bl ≤ 2 ^ 64 - 1) × (al + (2 ^ 64 - 1 - bl) < 2 ^ 64) × (al + (2 ^ 64 - 1 - bl) + 1 < 2 ^ 64)
-low al bl b l = omega arith
-
-sub-t7 : tie.Need-sub-t7
-sub-t7 c = let d = c .before in plain (d .args .ah) (d .args .al) (d .args .bh) (d .args .bl) (d .pre) (d .fits .al .fits) (c .if1 .taken) .0
-
-sub-t9 : tie.Need-sub-t9
-sub-t9 c = let d = c .before in borrow (d .args .ah) (d .args .al) (d .args .bh) (d .args .bl) (d .pre) (d .fits .bl .fits) (c .if1 .left) .0
-
-sub-t10 : tie.Need-sub-t10
-sub-t10 c = let d = c .before in borrow (d .args .ah) (d .args .al) (d .args .bh) (d .args .bl) (d .pre) (d .fits .bl .fits) (c .if1 .left) .1
-
-sub-t11 : tie.Need-sub-t11
-sub-t11 c = low (c .before .args .al) (c .before .args .bl) (c .before .fits .bl .fits) (c .if1 .left) .0
-
-add-t12 : tie.Need-add-t12
-add-t12 c = record { fits = low (c .before .args .al) (c .before .args .bl) (c .before .fits .bl .fits) (c .if1 .left) .1 }
-
-add-t13 : tie.Need-add-t13
-add-t13 c = record { fits = low (c .before .args .al) (c .before .args .bl) (c .before .fits .bl .fits) (c .if1 .left) .2 }
-
-returns : tie.Need-returns
-returns c = let d = c .before in plain (d .args .ah) (d .args .al) (d .args .bh) (d .args .bl) (d .pre) (d .fits .al .fits) (c .if1 .taken) .1
-
-returns-2 : tie.Need-returns-2
-returns-2 c = let d = c .before in borrow (d .args .ah) (d .args .al) (d .args .bh) (d .args .bl) (d .pre) (d .fits .bl .fits) (c .if1 .left) .2
+low : {al bl : ℕ} → bl < 2 ^ 64 → al < bl → (bl ≤ 2 ^ 64 - 1) × (al + (2 ^ 64 - 1 - bl) < 2 ^ 64) × (al + (2 ^ 64 - 1 - bl) + 1 < 2 ^ 64)
+low b l = omega arith
 
 pub sub-wide-spec : {M : Type 1} → statement M
-sub-wide-spec = tie.close (tie.spec sub-t7 sub-t9 sub-t10 sub-t11 add-t12 add-t13 returns returns-2)
+sub-wide-spec =
+    tie.close
+    (tie.spec
+    (λ c. let d = c .before in plain (d .args .ah) (d .args .al) (d .args .bh) (d .args .bl) (d .pre) (d .fits .al .fits) (c .if1 .taken) .0)
+    (λ c. let d = c .before in borrow (d .args .ah) (d .args .al) (d .args .bh) (d .args .bl) (d .pre) (d .fits .bl .fits) (c .if1 .left) .0)
+    (λ c. let d = c .before in borrow (d .args .ah) (d .args .al) (d .args .bh) (d .args .bl) (d .pre) (d .fits .bl .fits) (c .if1 .left) .1)
+    (λ c. low (c .before .fits .bl .fits) (c .if1 .left) .0)
+    (λ c. record { fits = low (c .before .fits .bl .fits) (c .if1 .left) .1 })
+    (λ c. record { fits = low (c .before .fits .bl .fits) (c .if1 .left) .2 })
+    (λ c. let d = c .before in plain (d .args .ah) (d .args .al) (d .args .bh) (d .args .bl) (d .pre) (d .fits .al .fits) (c .if1 .taken) .1)
+    (λ c. let d = c .before in borrow (d .args .ah) (d .args .al) (d .args .bh) (d .args .bl) (d .pre) (d .fits .bl .fits) (c .if1 .left) .2))

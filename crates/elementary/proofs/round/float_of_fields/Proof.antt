@@ -1,5 +1,4 @@
 -- `round::float_of_fields` meets its contract: the fields read back from the pattern (Fields). Assumes nothing.
-use Prim.Native.Nat.{ℕ, _+_, _*_, _%_, _^_, _<_}
 use native.Mathlib.Omega.{arith}
 use Rattle.elementary.proofs.Laws.Fields as fields
 use borrow.Author.Needs.{needs}

@@ -1,11 +1,11 @@
 -- `round::low_bits` meets its contract: from 64 on nothing is dropped. Assumes nothing.
 use borrow.Author.Needs.{needs}
-use mathlib.Core.Path.{_≡_, sym, ap, _∙_, subst}
+use mathlib.Core.Path.{_≡_, sym, _∙_}
 use native.Mathlib.Nat.{mod-eq-of-lt, lt-of-lt-of-le, one-mul}
 use native.Mathlib.Omega.{arith}
 use lib.Pow.{pow-mono, pow-pos, shl-exact}
 use lib.Dec.{lit<}
-use Prim.Native.Nat.{ℕ, _*_, _%_, _^_, _≤_, _<_}
+use Prim.Native.Nat.{ℕ, _*_, _%_, _^_, _<_}
 use Rattle.elementary.proofs.round.low_bits.Statement.{statement}
 use Rattle.elementary.proofs.round.low_bits.Tie as tie
 

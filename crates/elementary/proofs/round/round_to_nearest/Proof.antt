@@ -1,14 +1,13 @@
 -- `round::round_to_nearest` meets its contract: the kept digits are half of one digit more, rounded with the flag (Leaf), and their pattern is the float (Pattern). Assumes nothing.
 use borrow.Author.Needs.{needs}
-use mathlib.Core.Path.{_≡_, refl, sym, ap, _∙_, subst}
+use mathlib.Core.Path.{_≡_, refl, sym, _∙_}
 use Prim.Native.Nat.{ℕ, _+_, _-_, _*_, _%_, _^_, _≤_, _<_}
-use native.Mathlib.Nat.{lt-of-lt-of-le, lt-of-le-of-lt}
+use native.Mathlib.Nat.{lt-of-lt-of-le}
 use native.Mathlib.Omega.{arith}
 use mathlib.Core.Bool.{false}
-use lib.Dec.{T, lit≤, lit<}
-use lib.Ieee.{Float, binary64, ofBits, fits}
+use lib.Dec.{lit≤}
+use lib.Ieee.{binary64, fits}
 use lib.Ieee.Fits.{round-fits}
-use Rattle.elementary.specs.Inside.Round.{Any, HalfToEven}
 use Rattle.elementary.proofs.Laws.Leaf as leaf
 use Rattle.elementary.proofs.Laws.Bits.{no-nan-pattern}
 use Rattle.elementary.proofs.Laws.Pattern as pattern

@@ -4,7 +4,6 @@ use mathlib.Core.Path.{sym}
 use native.Mathlib.Nat.{div-eq-of-lt, lt-of-lt-of-le}
 use native.Mathlib.Omega.{arith}
 use lib.Pow.{pow-mono}
-use Prim.Native.Nat.{_≤_}
 use Rattle.elementary.proofs.round.shift_right.Statement.{statement}
 use Rattle.elementary.proofs.round.shift_right.Tie as tie
 

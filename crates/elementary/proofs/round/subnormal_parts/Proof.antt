@@ -1,9 +1,6 @@
 -- `round::subnormal_parts` meets its contract: the digits shifted up by the leading zeros fill 53 places (Decode). Assumes nothing.
 use mathlib.Core.Path.{refl}
-use Prim.Native.Nat.{ℕ, _-_, _≤_, _<_}
-use native.Mathlib.Nat.{lt-of-lt-of-le}
 use native.Mathlib.Omega.{arith}
-use lib.Dec.{lit≤}
 use Rattle.elementary.proofs.Laws.Decode as decode
 use borrow.Author.Needs.{needs}
 use Rattle.elementary.proofs.round.subnormal_parts.Statement.{statement}
