@@ -28,32 +28,10 @@ use Rattle.elementary.proofs.Laws.Bits.{nan-pattern, no-nan-pattern}
 use Rattle.elementary.proofs.Laws.Values.{recast, value-low, value-mid, value-inf}
 use Rattle.elementary.proofs.Laws.Pattern.{units-pattern}
 
--- ---- which way `nearest` goes
-by-order : (q r a b : ℕ) → (a < b → q ≡ r) → (b < a → suc q ≡ r) → (a ≡ b → ⊥) → nearest q (compare a b) ≡ r
-by-order q r a b x y z = go (compare a b) (cmp a b)
-  where
-    go : (o : Ordering) → Cmp o a b → nearest q o ≡ r
-    go Ordering·lt c = x c
-    go Ordering·eq c = absurd (z c)
-    go Ordering·gt c = y c
-
 -- ---- a root of 54 digits: the last digit says which way to round, since n is even and so no odd square
 -- twice the middle between w / 2 and the next number up
 abbrev mid : ℕ → ℕ
 mid w = 2 * (w / 2) + 1
-
-abbrev Side : ℕ → ℕ → Type 0
-Side w n = ((n < mid w * mid w) × (w / 2 ≡ (w + 1) / 2)) ⊎ ((mid w * mid w < n) × (suc (w / 2) ≡ (w + 1) / 2))
-
-side : (w n : ℕ) → w * w ≤ n → n < suc w * suc w → n % 2 ≡ 0 → Side w n
-side w n a b even = go (decLe (w % 2) 0)
-  where
-    go : Dec (w % 2 ≤ 0) → Side w n
-    go (yes h) = let e : suc w ≡ mid w = omega arith in inl (subst (λ (z : ℕ). n < z * z) e b, omega arith)
-    go (no h) =
-        let e : w ≡ mid w = omega arith in
-        let l : mid w * mid w ≤ n = subst (λ (z : ℕ). z * z ≤ n) e a in
-        inr (omega (arith, ap (λ (z : ℕ). z * z) (add-one (2 * (w / 2))), sq-suc (2 * (w / 2)), sq-twice (w / 2)), omega arith)
 
 -- both sides times (2 ^ suc h) squared
 scale-sq : (v p : ℕ) → v * (p * 2) * (v * (p * 2)) ≡ 4 * (v * v * p * p)
@@ -62,17 +40,30 @@ scale-sq v p = simp (mul-assoc, mul-comm, mul-left-comm) (omega arith)
 times : (a b p : ℕ) → 0 < p → a < b → 4 * (a * p * p) < 4 * (b * p * p)
 times a b p P h = omega (arith, mul-lt-mul-of-pos-right (mul-lt-mul-of-pos-right h P) P)
 
--- `nearest`'s choice does not change with the scale
-choice : (w n p : ℕ) → 0 < p → Side w n → nearest (w / 2) (compare (4 * (n * p * p)) (mid w * (p * 2) * (mid w * (p * 2)))) ≡ (w + 1) / 2
-choice w n p P s = go s
-  where
-    go : Side w n → nearest (w / 2) (compare (4 * (n * p * p)) (mid w * (p * 2) * (mid w * (p * 2)))) ≡ (w + 1) / 2
-    go (inl (l, e)) =
-        let t = times n (mid w * mid w) p P l in
-        by-order (w / 2) ((w + 1) / 2) (4 * (n * p * p)) (mid w * (p * 2) * (mid w * (p * 2))) (λ _. e) (λ g. omega (arith, scale-sq (mid w) p)) (λ g. omega (arith, scale-sq (mid w) p))
-    go (inr (l, e)) =
-        let t = times (mid w * mid w) n p P l in
-        by-order (w / 2) ((w + 1) / 2) (4 * (n * p * p)) (mid w * (p * 2) * (mid w * (p * 2))) (λ g. omega (arith, scale-sq (mid w) p)) (λ _. e) (λ g. omega (arith, scale-sq (mid w) p))
+module _ (w n p : ℕ) (P : 0 < p) (root : Root n w) (even : n % 2 ≡ 0) where
+  abbrev M : ℕ
+  M = mid w * (p * 2) * (mid w * (p * 2))
+
+  below : w % 2 ≤ 0 → 4 * (n * p * p) < M
+  below h = let e : suc w ≡ mid w = omega arith in rw (scale-sq (mid w) p) (times n (mid w * mid w) p P (rw e at (root .1)))
+
+  above : (w % 2 ≤ 0 → ⊥) → M < 4 * (n * p * p)
+  above h =
+      let e : w ≡ mid w = omega arith in
+      let l : mid w * mid w ≤ n = subst (λ (z : ℕ). z * z ≤ n) e (root .0) in
+      rw (scale-sq (mid w) p) (times (mid w * mid w) n p P (omega (arith, ap (λ (z : ℕ). z * z) (add-one (2 * (w / 2))), sq-suc (2 * (w / 2)), sq-twice (w / 2))))
+
+  -- `nearest`'s choice does not change with the scale
+  choice : nearest (w / 2) (compare (4 * (n * p * p)) M) ≡ (w + 1) / 2
+  choice = go (decLe (w % 2) 0) (compare (4 * (n * p * p)) M) (cmp (4 * (n * p * p)) M)
+    where
+      go : Dec (w % 2 ≤ 0) → (o : Ordering) → Cmp o (4 * (n * p * p)) M → nearest (w / 2) o ≡ (w + 1) / 2
+      go (yes h) Ordering·lt c = omega arith
+      go (yes h) Ordering·eq c = absurd (omega (arith, below h))
+      go (yes h) Ordering·gt c = absurd (omega (arith, below h))
+      go (no h) Ordering·lt c = absurd (omega (arith, above h))
+      go (no h) Ordering·eq c = absurd (omega (arith, above h))
+      go (no h) Ordering·gt c = omega arith
 
 regroup : (w p : ℕ) → w * p * (w * p) ≡ w * w * p * p
 regroup w p = simp (mul-assoc, mul-comm, mul-left-comm)
@@ -111,7 +102,7 @@ module _ (a w h : ℕ) (lo : 2 ^ 62 ≤ a) (hi : a + 2 ^ 11 ≤ 2 ^ 64) (root : 
   root-rounded =
       let k : size (isqrt n) - 53 ≡ suc h = omega (arith, v-size) in
       root-is binary64 n
-      ∙ rw (k, first-digits, pow-suc 2 h) (ap (λ (z : ℕ). units binary64 false z (suc h)) (choice w (a * 2 ^ 44) (2 ^ h) (pow-pos h) (side w (a * 2 ^ 44) (root .0) (root .1) (omega arith))))
+      ∙ rw (k, first-digits, pow-suc 2 h) (ap (λ (z : ℕ). units binary64 false z (suc h)) (choice w (a * 2 ^ 44) (2 ^ h) (pow-pos h) root (omega arith)))
 
 -- ---- the bits of a rounded root
 pub root-pattern : (r k : ℕ) → 2 ^ 52 ≤ r → r < 2 ^ 53 → k < 2000 → ofBits binary64 (k * 2 ^ 52 + r) ≡ units binary64 false r k
