@@ -4,7 +4,7 @@ use mathlib.Core.Logic.{_⊎_, inl, inr}
 use mathlib.Core.Bool.{false, not}
 use Prim.Native.Nat.{ℕ, suc, _+_, _-_, _*_, _/_, _%_, _^_, _≤_, _<_, compare, Ordering, Ordering·lt, Ordering·eq, Ordering·gt}
 use native.Mathlib.Nat.{le-trans, lt-of-not-le, not-le-of-lt, lt-of-lt-of-le, eq-or-lt-of-le, mul-assoc, mul-comm, mul-left-comm, suc-mul, pow-suc}
-use native.Mathlib.Nat.{mul-le-mul-right, mul-lt-mul-of-pos-right, mul-pos, div-eq-of-lt-le, div-div-eq-div-mul}
+use native.Mathlib.Nat.{mul-le-mul-right, mul-lt-mul-of-pos-right, mul-pos, mod-lt, div-eq-of-lt-le, div-div-eq-div-mul}
 use native.Mathlib.Decide.{decLe}
 use native.Mathlib.Numerals.{add-one}
 use native.Mathlib.Omega.{arith}
@@ -68,12 +68,12 @@ module _ (w n p : ℕ) (P : 0 < p) (root : Root n w) (even : n % 2 ≡ 0) where
 regroup : (w p : ℕ) → w * p * (w * p) ≡ w * w * p * p
 regroup w p = simp (mul-assoc, mul-comm, mul-left-comm)
 
-module _ (a w h : ℕ) (lo : 2 ^ 62 ≤ a) (hi : a + 2 ^ 11 ≤ 2 ^ 64) (root : Root (a * 2 ^ 44) w) where
+module _ (a w h : ℕ) (lo : 2 ^ 62 ≤ a) (hi : a < 2 ^ 64) (root : Root (a * 2 ^ 44) w) where
   w-lo : 2 ^ 53 ≤ w
   w-lo = omega (arith, sq-lt (2 ^ 53) (suc w) (omega arith))
 
-  w-hi : w < 2 ^ 54 - 1
-  w-hi = sq-lt w (2 ^ 54 - 1) (omega arith)
+  w-hi : w < 2 ^ 54
+  w-hi = sq-lt w (2 ^ 54) (omega arith)
 
   abbrev n : ℕ
   n = a * 2 ^ 44 * 2 ^ h * 2 ^ h
@@ -105,10 +105,10 @@ module _ (a w h : ℕ) (lo : 2 ^ 62 ≤ a) (hi : a + 2 ^ 11 ≤ 2 ^ 64) (root : 
       ∙ rw (k, first-digits, pow-suc 2 h) (ap (λ (z : ℕ). units binary64 false z (suc h)) (choice w (a * 2 ^ 44) (2 ^ h) (pow-pos h) root (omega arith)))
 
 -- ---- the bits of a rounded root
-pub root-pattern : (r k : ℕ) → 2 ^ 52 ≤ r → r < 2 ^ 53 → k < 2000 → ofBits binary64 (k * 2 ^ 52 + r) ≡ units binary64 false r k
+root-pattern : (r k : ℕ) → 2 ^ 52 ≤ r → r ≤ 2 ^ 53 → k < 2000 → ofBits binary64 (k * 2 ^ 52 + r) ≡ units binary64 false r k
 root-pattern r k lo hi small =
-    units-pattern r k (omega arith) (λ _. lo) (omega arith)
-    (units-fits binary64 false r k (omega arith) (lt-of-lt-of-le (shl-lt 53 k hi) (pow-mono {i = 53 + k} {j = 2098} (omega arith))))
+    units-pattern r k hi (λ _. lo) (omega arith)
+    (units-fits binary64 false r k hi (lt-of-lt-of-le (shl-lt 54 k (omega arith)) (pow-mono {i = 54 + k} {j = 2098} (omega arith))))
 
 -- ---- `sqrtOf` at a finite value that is not 0
 sqrt-positive : (x : Float) (a : ℕ) → HasValue x false a (2 ^ 1074) → 0 < a → sqrtOf binary64 x ≡ roundRoot binary64 (a * 2 ^ 1074)
@@ -140,20 +140,8 @@ module _ {m e : ℕ} (pre : (0 < m) × (m < 2 ^ 53) × (1 ≤ e) × (e < 2047)) 
       let l : 62 ≤ t .0 + s = omega arith in
       le-trans (pow-mono l) (rw pow-add (mul-le-mul-right (2 ^ s) (t .2)))
 
-  a-hi : m * 2 ^ s + 2 ^ 11 ≤ 2 ^ 64
-  a-hi =
-      let t = digits-of-m in
-      let l : suc m * 2 ^ s ≤ 2 ^ (suc (t .0) + s) = rw (pow-add 2 (suc (t .0)) s) (mul-le-mul-right (2 ^ s) (t .3)) in
-      go (decLe ((e + 1 + z) % 2) 0) l
-    where
-      go : Dec ((e + 1 + z) % 2 ≤ 0) → suc m * 2 ^ s ≤ 2 ^ (suc (digits-of-m .0) + s) → m * 2 ^ s + 2 ^ 11 ≤ 2 ^ 64
-      go (yes y) l =
-          let i : 11 ≤ s = omega (arith, z-in) in
-          let k : suc (digits-of-m .0) + s ≡ 64 = omega (arith, digits-of-m .1) in
-          omega (arith, suc-mul m (2 ^ s), pow-mono i, ap (λ (x : ℕ). 2 ^ x) k)
-      go (no y) l =
-          let k : suc (digits-of-m .0) + s ≡ 63 = omega (arith, digits-of-m .1, z-in) in
-          omega (arith, suc-mul m (2 ^ s), ap (λ (x : ℕ). 2 ^ x) k)
+  a-hi : m * 2 ^ s < 2 ^ 64
+  a-hi = rw shl-is at (mod-lt (m * 2 ^ s) (pow-pos 64))
 
   abbrev h : ℕ
   h = (e + 1031 - s) / 2 - 1
@@ -170,7 +158,7 @@ module _ {m e : ℕ} (pre : (0 < m) × (m < 2 ^ 53) × (1 ≤ e) × (e < 2047)) 
     root' : Root (m * 2 ^ s * 2 ^ 44) w
     root' = rw shl-is at root
 
-    pub root-in : (2 ^ 53 ≤ w) × (w < 2 ^ 54 - 1)
+    pub root-in : (2 ^ 53 ≤ w) × (w < 2 ^ 54)
     root-in = (w-lo (m * 2 ^ s) w h a-lo a-hi root', w-hi (m * 2 ^ s) w h a-lo a-hi root')
 
     pub made-no-nan : T (not (nanBits binary64 ((e + 1031 - s) / 2 * 2 ^ 52 + (w + 1) / 2)))
