@@ -3,7 +3,7 @@
 use mathlib.Core.Path.{_≡_, refl, sym, ap, _∙_}
 use mathlib.Core.Bool.{true, false, _||_}
 use Prim.Native.Nat.{ℕ, zero, suc, _+_, _-_, _*_, _^_, _≤_, _<_, compare, Ordering}
-use native.Mathlib.Nat.{le-trans, le-of-eq, le-refl, lt-of-not-le, lt-of-lt-of-le, lt-of-le-of-lt, mul-assoc, mul-comm, mul-left-comm, one-mul, pow-suc, mul-le-mul, mul-le-mul-right}
+use native.Mathlib.Nat.{le-trans, le-of-eq, le-refl, le-of-suc-le-suc, lt-of-not-le, lt-of-lt-of-le, lt-of-le-of-lt, mul-assoc, mul-comm, mul-left-comm, one-mul, pow-suc, mul-le-mul, mul-le-mul-right}
 use native.Mathlib.Nat.{mul-lt-mul-of-pos-right, le-mul-of-pos-right, mul-pos, div-mul-le-self, le-div-iff-mul-le, div-lt-iff-lt-mul, eq-of-mul-eq-mul-right}
 use native.Mathlib.Decide.{decLe}
 use native.Mathlib.Numerals.{add-one}
@@ -53,10 +53,6 @@ module _ (m a b : ℕ) where
       (e ∙ ap (λ (z : ℕ). m * 2 ^ z) c ∙ rw (pow-add 2 (suc (b - suc a)) a) (sym (mul-assoc m (2 ^ suc (b - suc a)) (2 ^ a)))) in
       let j : m * 2 ^ suc (b - suc a) ≡ m * 2 ^ (b - suc a) * 2 = rw (pow-suc 2 (b - suc a)) (sym (mul-assoc m (2 ^ (b - suc a)) 2)) in
       omega (arith, ap (λ (z : ℕ). z * z) (add-one (2 * q)), sq-suc (2 * q), sq-twice q)
-
-root-pos : (w n : ℕ) → 0 < n → n < suc w * suc w → 0 < w
-root-pos zero n p h = omega arith
-root-pos (suc w) n p h = omega arith
 
 size-pos : (w : ℕ) → 0 < w → 0 < size w
 size-pos w p = lt-of-not-le (λ (g : size w ≤ 0). let l = pow-mono g in omega (arith, size-lt w))
@@ -147,8 +143,7 @@ module _ (f : Format) (n : ℕ) where
 
     q-pos : 0 < q
     q-pos =
-        let r = isqrt-root n in
-        let s = size-pos (isqrt n) (root-pos (isqrt n) n some (r .1)) in
+        let s = size-pos (isqrt n) (le-of-suc-le-suc (sq-lt 1 (suc (isqrt n)) (omega (arith, isqrt-root n .1)))) in
         le-div-iff-mul-le (pow-pos k) .1 (le-trans (le-of-eq (one-mul (2 ^ k))) (size-reaches (isqrt n) k (omega (arith, two f))))
 
     root-positive : T (positive (roundRoot f n))
