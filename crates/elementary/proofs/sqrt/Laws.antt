@@ -3,7 +3,7 @@ use mathlib.Core.Path.{_≡_, refl, sym, ap, _∙_, subst}
 use mathlib.Core.Logic.{_⊎_, inl, inr}
 use mathlib.Core.Bool.{false, not}
 use Prim.Native.Nat.{ℕ, suc, _+_, _-_, _*_, _/_, _%_, _^_, _≤_, _<_, compare, Ordering, Ordering·lt, Ordering·eq, Ordering·gt}
-use native.Mathlib.Nat.{le-trans, lt-of-not-le, not-le-of-lt, lt-of-lt-of-le, eq-or-lt-of-le, mul-assoc, mul-comm, mul-left-comm, suc-mul, pow-suc}
+use native.Mathlib.Nat.{le-trans, lt-of-not-le, not-le-of-lt, lt-of-lt-of-le, eq-or-lt-of-le, mul-assoc, mul-comm, mul-left-comm, pow-suc}
 use native.Mathlib.Nat.{mul-le-mul-right, mul-lt-mul-of-pos-right, mul-pos, mod-lt, div-eq-of-lt-le, div-div-eq-div-mul}
 use native.Mathlib.Decide.{decLe}
 use native.Mathlib.Numerals.{add-one}

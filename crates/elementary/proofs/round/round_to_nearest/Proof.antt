@@ -64,15 +64,9 @@ returns-2 c num den D C =
 pub round-to-nearest-spec : {M : Type 1} → statement M
 round-to-nearest-spec =
     tie.close
-    (tie.spec
-    (λ c κs. search needs)
+    (tie.spec (λ c κs. search needs)
     (λ c. no-nan-pattern 0x7ff0_0000_0000_0000 (lit≤ tt))
-    returns
-    (λ c. search needs)
-    (λ c. search needs)
-    (λ c κs. search needs)
-    (λ c κs. search needs)
-    (λ c κs. search needs)
+    returns (λ c. search needs) (λ c. search needs) (λ c κs. search needs) (λ c κs. search needs) (λ c κs. search needs)
     halve-to-even-requires
     (λ c. record { fits = under (small c) (leaf.kept-le (steps c)) .0 })
     (λ c. no-nan-pattern _ (under (small c) (leaf.kept-le (steps c)) .1))

@@ -8,8 +8,7 @@ use Rattle.elementary.proofs.sqrt.double_digits.Tie as tie
 pub double-digits-spec : {M : Type 1} → statement M
 double-digits-spec =
     tie.close
-    (tie.spec
-    (λ c. search needs)
+    (tie.spec (λ c. search needs)
     (λ c. omega (arith, products (c .args .n) (c .pre)))
     (λ c. omega (arith, products (c .args .n) (c .pre)))
     (λ c. square-at-most (c .args .n) (c .pre))

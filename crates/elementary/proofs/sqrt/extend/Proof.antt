@@ -8,13 +8,10 @@ use Rattle.elementary.proofs.sqrt.extend.Tie as tie
 pub extend-spec : {M : Type 1} → statement M
 extend-spec =
     tie.close
-    (tie.spec
-    (λ c. search needs)
-    (λ c. search needs)
+    (tie.spec (λ c. search needs) (λ c. search needs)
     (λ c. omega (arith, bounds (c .pre)))
     (λ c. omega (arith, bounds (c .pre)))
-    (λ c. search needs)
-    (λ c. search needs)
+    (λ c. search needs) (λ c. search needs)
     (λ c. omega (arith, bounds (c .pre)))
     (λ c. omega (arith, bounds (c .pre)))
     (λ c. omega (arith, bounds (c .pre)))

@@ -1,7 +1,7 @@
 -- `sqrt` meets its contract. Whether x is above 0, a zero or neither is read off the float; above 0, its bits say the rest. Assumes nothing.
 use mathlib.Core.Path.{_≡_, refl, sym, ap, _∙_, subst}
-use mathlib.Core.Bool.{Bool, true, false, Bool·beq, _&&_, _||_, true≢false}
-use Prim.Native.Nat.{ℕ, zero, suc, _*_, _^_, _≤_, _<_}
+use mathlib.Core.Bool.{true, false, Bool·beq, _||_, true≢false}
+use Prim.Native.Nat.{zero, suc, _*_, _^_, _≤_, _<_}
 use native.Mathlib.Nat.{lt-of-not-le, mul-pos, zero-mul}
 use native.Mathlib.Omega.{arith}
 use lib.Dec.{T, eqb, eqb→eq, lt→ltb}
@@ -82,7 +82,4 @@ sqrt-spec =
     (tie.spec
     (λ c. no-nan (c .before .args .x) (lt-ordered (ofBits binary64 0) (c .before .args .x) (c .if1 .taken) .1))
     (λ c κs. (bits-pos (c .before .before .args .x) (x-fits (c .before .before)) (c .before .if1 .taken), c .if2 .taken))
-    returns
-    returns-2
-    returns-3
-    returns-4)
+    returns returns-2 returns-3 returns-4)
