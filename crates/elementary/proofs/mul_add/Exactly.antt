@@ -3,7 +3,7 @@ use mathlib.Core.Path.{_≡_, refl, sym, ap, _∙_}
 use mathlib.Core.Logic.{_⊎_, ⊎-elim}
 use mathlib.Core.Bool.{Bool, true, false, Bool·beq}
 use Prim.Native.Nat.{ℕ, _+_, _*_, _^_, _<_}
-use native.Mathlib.Nat.{mul-assoc, mul-comm, mul-left-comm, mul-pos, mul-zero, mul-one, add-zero, zero-mul, zero-lt-suc}
+use native.Mathlib.Nat.{mul-assoc, mul-comm, mul-left-comm, mul-mul-mul-comm, mul-pos, mul-zero, mul-one, add-zero, zero-mul, zero-lt-suc}
 use native.Mathlib.Omega.{arith}
 use lib.IntN.{pos}
 use lib.Ieee.{Float, nan, inf, fin, Format, binary64, unlike, up, down, round, sum, add, mul}
@@ -91,8 +91,5 @@ module _ {x y z : Float} {s t v : Bool} {a i b j c k : ℕ} (p : PartsOf x s a i
   pub scaled-sum : fma binary64 x y z ≡ sum binary64 (unlike s t) (a * 64 * (b * 64) * 2 ^ (i + j + 116)) v (wide c 0 * 2 ^ (k + 1202)) (2 ^ 2404)
   scaled-sum =
       let m : A * B * 2 ^ 128 ≡ a * 64 * (b * 64) * 2 ^ (i + j + 116) = rw (pow-add 2 (i + j) 116, pow-add 2 i j) (regroup a b (2 ^ i) (2 ^ j) 64 (2 ^ 116)) in
-      let n : C * (2 ^ 128 * D) ≡ wide c 0 * 2 ^ (k + 1202) = rw (pow-add 2 k 1202, add-zero (c * 2 ^ 64)) (regroup-two c (2 ^ k) (2 ^ 64) (2 ^ 1202)) in
+      let n : C * (2 ^ 128 * D) ≡ wide c 0 * 2 ^ (k + 1202) = rw (pow-add 2 k 1202, add-zero (c * 2 ^ 64)) (mul-mul-mul-comm c (2 ^ k) (2 ^ 64) (2 ^ 1202)) in
       fma-is (2 ^ 128) (pow-pos 128) ∙ rw (m, n)
-    where
-      regroup-two : (c x u w : ℕ) → c * x * (u * w) ≡ c * u * (x * w)
-      regroup-two c x u w = simp (mul-assoc, mul-comm, mul-left-comm)

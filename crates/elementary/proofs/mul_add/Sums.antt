@@ -3,13 +3,13 @@ use mathlib.Core.Path.{_≡_, sym, ap, _∙_}
 use mathlib.Core.Logic.{_⊎_, inl, inr}
 use mathlib.Core.Bool.{Bool, true, false, _&&_, Bool·beq, cond, and-true, and-false}
 use Prim.Native.Nat.{ℕ, zero, suc, _+_, _-_, _*_, _/_, _%_, _^_, _≤_, _<_, compare, Ordering, Ordering·lt, Ordering·eq, Ordering·gt}
-use native.Mathlib.Nat.{le-of-lt, lt-of-lt-of-le, eq-or-lt-of-le, eq-zero-or-pos, mul-assoc, mul-comm, mul-left-comm, mul-pos, mul-le-mul-right, mul-lt-mul-of-pos-right, div-add-mod', div-le-self, div-lt-iff-lt-mul, add-mul, add-comm, suc-mul, zero-mul, mod-lt, mul-div-mul-right, mul-add-div-right, mul-add-mod-self-right}
+use native.Mathlib.Nat.{le-of-lt, lt-of-lt-of-le, eq-or-lt-of-le, eq-zero-or-pos, mul-assoc, mul-comm, mul-left-comm, mul-pos, mul-le-mul-right, mul-lt-mul-of-pos-right, div-add-mod', div-le-self, div-lt-iff-lt-mul, add-mul, add-comm, suc-mul, zero-mul, zero-mod, mod-lt, mul-div-mul-right, mul-add-div-right, mul-add-mod-self-right}
 use native.Mathlib.Decide.{decLe}
 use native.Mathlib.Omega.{arith}
 use borrow.Author.Tests.{lt-ltb, le-ltb}
 use lib.Dec.{ltb}
 use lib.Arith.{digits-div, digits-mod}
-use lib.Pow.{pow-pos, pow-mono, shr-lt}
+use lib.Pow.{pow-pos, pow-mono, shr-lt, mod-mod-pow}
 use lib.Ieee.{Float, Format, binary64, round, sum}
 use Rattle.elementary.specs.Inside.Round.{Cut, Flag, Rounds, wide}
 use Rattle.elementary.proofs.Laws.Leaf.{mul-mod-mul, zero-of-mul}
@@ -69,12 +69,6 @@ cut-scale {A} {B} g P G C = record {
   some = λ z. C .some (zero-of-mul (A % B) g G (sym (mul-mod-mul A B g P G) ∙ z));
 }
 
-none-left : (s d : ℕ) → s % 4 ≡ 0 → d ≤ 2 → s % 2 ^ d ≡ 0
-none-left s zero e h = omega arith
-none-left s (suc zero) e h = omega arith
-none-left s (suc (suc zero)) e h = e
-none-left s (suc (suc (suc d))) e h = absurd (omega arith)
-
 module _ {l le s se y x : ℕ} (A : Aligned l le s se y x) where
   abbrev Q : ℕ
   Q = 2 ^ (le - se)
@@ -99,7 +93,9 @@ module _ {l le s se y x : ℕ} (A : Aligned l le s se y x) where
   exact-or-far = go (decLe (le - se) 2)
     where
       go : Dec (le - se ≤ 2) → (x ≡ 0) ⊎ (y < 2 ^ 115)
-      go (yes h) = inl (A .rest .none (none-left s (le - se) (A .even) h))
+      go (yes h) =
+          let e : 2 - (le - se) + (le - se) ≡ 2 = omega arith in
+          inl (A .rest .none (sym (rw (e, A .even) at (mod-mod-pow s (2 - (le - se)) (le - se))) ∙ zero-mod Q))
       go (no h) = inr (rw (A .part) (shr-lt 115 (le - se) (lt-of-lt-of-le (A .top) (pow-mono {i = 118} {j = 115 + (le - se)} (omega arith)))))
 
   pub flag-fits : {v : ℕ} → y < l → v ≡ l - y → wide 0 x ≤ v

@@ -18,7 +18,7 @@ of-product {a} {i} {b} {j} hi lo A B e =
     omega arith
 
 of-addend : {c k : ℕ} → Digits c k → Scaled c 0
-of-addend C = record { low = omega arith; high = omega arith; even = omega arith }
+of-addend C = omega arith
 
 sum-wide-requires : tie.Need-sum-wide-requires
 sum-wide-requires c κs =
