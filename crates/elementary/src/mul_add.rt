@@ -1,13 +1,11 @@
 // IEEE 754's fusedMultiplyAdd, a × b + c rounded once, in whole numbers of two words.
 use crate::round::Wide;
-use crate::round::any;
 use crate::round::is_finite;
 use crate::round::is_nonzero;
 use crate::round::low_bits;
 use crate::round::parts_of;
 use crate::round::round_exact;
 use crate::round::round_signed;
-use crate::round::shift_left;
 use crate::round::shift_right;
 ghost use mathlib.Core.Path.{_≡_};
 ghost use mathlib.Core.Bool.{_&&_};
@@ -15,13 +13,13 @@ ghost use Prim.Native.Nat.{_+_, _-_, _*_, _/_, _%_, _^_, _<_, _≤_};
 ghost use lib.Dec.{T, leb};
 ghost use lib.Ieee.{binary64, sum};
 ghost use lib.Ieee.Scale as Scale;
-ghost use Rattle.elementary.specs.Inside.Round.{wide, SameZero, Digits};
+ghost use Rattle.elementary.specs.Inside.Round.{wide, Flag, Digits};
 ghost use Rattle.elementary.specs.MulAdd.{fma};
-ghost use Rattle.elementary.specs.Inside.MulAdd.{SumNear, SumFar, SumOrdered, SumWide};
+ghost use Rattle.elementary.specs.Inside.MulAdd.{SumOrdered, SumWide};
 
-// The product of two numbers of at most 53 digits.
+// The product of two numbers of at most 59 digits.
 fn product(a: u64, b: u64) -> Wide
-    requires { ⌜ a < 2 ^ 53 ⌝ ∗ ⌜ b < 2 ^ 53 ⌝ }
+    requires { ⌜ a < 2 ^ 59 ⌝ ∗ ⌜ b < 2 ^ 59 ⌝ }
     ensures { λ r. ⌜ wide (r .hi) (r .lo) ≡ a * b ⌝ }
 {
     let a1 = a >> 32;
@@ -38,7 +36,7 @@ fn product(a: u64, b: u64) -> Wide
 
 // a + b, for numbers of two words.
 fn add_wide(ah: u64, al: u64, bh: u64, bl: u64) -> Wide
-    requires { ⌜ wide ah al + wide bh bl < 2 ^ 128 ⌝ }
+    requires { ⌜ ah + bh < 2 ^ 63 ⌝ }
     ensures { λ r. ⌜ wide (r .hi) (r .lo) ≡ wide ah al + wide bh bl ⌝ }
 {
     if al <= u64::MAX - bl {
@@ -72,21 +70,6 @@ fn sub_wide(ah: u64, al: u64, bh: u64, bl: u64) -> Wide
     }
 }
 
-// a − 1.
-fn sub_one(ah: u64, al: u64) -> Wide
-    requires { ⌜ 0 < wide ah al ⌝ }
-    ensures { λ r. ⌜ wide (r .hi) (r .lo) ≡ wide ah al - 1 ⌝ }
-{
-    if al == 0 {
-        Wide {
-            hi: ah - 1,
-            lo: u64::MAX,
-        }
-    } else {
-        Wide { hi: ah, lo: al - 1 }
-    }
-}
-
 // Whether a is at least b.
 fn at_least(ah: u64, al: u64, bh: u64, bl: u64) -> bool
     ensures { λ r. ⌜ r ≡ leb (wide bh bl) (wide ah al) ⌝ }
@@ -94,23 +77,13 @@ fn at_least(ah: u64, al: u64, bh: u64, bl: u64) -> bool
     if ah == bh { bl <= al } else { bh < ah }
 }
 
-// v * 2^d.
-fn shift_left_wide(vh: u64, vl: u64, d: u64) -> Wide
-    requires { ⌜ d < 64 ⌝ ∗ ⌜ wide vh vl * 2 ^ d < 2 ^ 128 ⌝ }
-    ensures { λ r. ⌜ wide (r .hi) (r .lo) ≡ wide vh vl * 2 ^ d ⌝ }
-{
-    let up = shift_right(vl, 64 - d);
-    Wide {
-        hi: shift_left(vh, d) + up,
-        lo: vl << d,
-    }
-}
-
 // v / 2^d.
 fn shift_right_wide(vh: u64, vl: u64, d: u64) -> Wide
-    requires { ⌜ 0 < d ⌝ }
     ensures { λ r. ⌜ wide (r .hi) (r .lo) ≡ wide vh vl / 2 ^ d ⌝ }
 {
+    if d == 0 {
+        return Wide { hi: vh, lo: vl };
+    }
     if d < 64 {
         Wide {
             hi: vh >> d,
@@ -122,14 +95,18 @@ fn shift_right_wide(vh: u64, vl: u64, d: u64) -> Wide
     }
 }
 
-// 0 just where `shift_right_wide` drops nothing.
+// 0 where `shift_right_wide` drops nothing, and 1 elsewhere.
 fn dropped_bits(vh: u64, vl: u64, d: u64) -> u64
-    ensures { λ r. ⌜ SameZero r (wide vh vl % 2 ^ d) ⌝ }
+    ensures { λ r. ⌜ Flag r (wide vh vl % 2 ^ d) ⌝ }
 {
-    if d < 64 {
-        low_bits(vl, d)
+    let mut hi: u64 = 0;
+    if d >= 64 {
+        hi = low_bits(vh, d - 64);
+    }
+    if is_nonzero(hi, low_bits(vl, d)) {
+        1
     } else {
-        any(vl, low_bits(vh, d - 64))
+        0
     }
 }
 
@@ -139,55 +116,26 @@ fn both(a: bool, b: bool) -> bool
     if a { b } else { false }
 }
 
-// ±l * 2^(e + d) + ±s * 2^e, for a small d.
-fn sum_near(ln: bool, lh: u64, ll: u64, sn: bool, sh: u64, sl: u64, d: u64, e: u64) -> f64
-    requires { ⌜ SumNear lh ll sh sl d e ⌝ }
-    ensures { λ r. ⌜ r ≡ sum binary64 ln (wide lh ll * 2 ^ (e + d)) sn (wide sh sl * 2 ^ e) (2 ^ 2404) ⌝ }
-{
-    let x = shift_left_wide(lh, ll, d);
-    if ln == sn {
-        let v = add_wide(x.hi, x.lo, sh, sl);
-        return round_exact(ln, v.hi, v.lo, e);
-    }
-    if at_least(sh, sl, x.hi, x.lo) {
-        let v = sub_wide(sh, sl, x.hi, x.lo);
-        round_exact(both(sn, is_nonzero(v.hi, v.lo)), v.hi, v.lo, e)
-    } else {
-        let v = sub_wide(x.hi, x.lo, sh, sl);
-        round_exact(ln, v.hi, v.lo, e)
-    }
-}
-
-// ±l * 2^e + ±s * 2^(e - d), for a d that is not small.
-fn sum_far(ln: bool, lh: u64, ll: u64, sn: bool, sh: u64, sl: u64, d: u64, e: u64) -> f64
-    requires { ⌜ SumFar lh ll sh sl d e ⌝ }
-    ensures { λ r. ⌜ r ≡ sum binary64 ln (wide lh ll * 2 ^ e) sn (wide sh sl * 2 ^ (e - d)) (2 ^ 2404) ⌝ }
-{
-    let y = shift_right_wide(sh, sl, d);
-    let x = dropped_bits(sh, sl, d);
-    if ln == sn {
-        let v = add_wide(lh, ll, y.hi, y.lo);
-        return round_signed(ln, v.hi, v.lo, x, e);
-    }
-    let v = sub_wide(lh, ll, y.hi, y.lo);
-    if x == 0 {
-        round_signed(ln, v.hi, v.lo, 0, e)
-    } else {
-        let w = sub_one(v.hi, v.lo);
-        round_signed(ln, w.hi, w.lo, x, e)
-    }
-}
-
-// ±l * 2^le + ±s * 2^se, for an se that is not above le.
+// ±l * 2^le + ±s * 2^se, for an se that is not above le. s is cut to y at l's exponent, and x is 1
+// where digits are lost, which are only those of an s far below l.
 fn sum_ordered(ln: bool, lh: u64, ll: u64, le: u64, sn: bool, sh: u64, sl: u64, se: u64) -> f64
     requires { ⌜ SumOrdered lh ll le sh sl se ⌝ }
     ensures { λ r. ⌜ r ≡ sum binary64 ln (wide lh ll * 2 ^ le) sn (wide sh sl * 2 ^ se) (2 ^ 2404) ⌝ }
 {
     let d = le - se;
-    if d <= 20 {
-        sum_near(ln, lh, ll, sn, sh, sl, d, se)
+    let y = shift_right_wide(sh, sl, d);
+    let x = dropped_bits(sh, sl, d);
+    if ln == sn {
+        let v = add_wide(lh, ll, y.hi, y.lo);
+        return round_signed(ln, v.hi, v.lo, x, le);
+    }
+    if at_least(y.hi, y.lo, lh, ll) {
+        let v = sub_wide(y.hi, y.lo, lh, ll);
+        round_exact(both(sn, is_nonzero(v.hi, v.lo)), v.hi, v.lo, le)
     } else {
-        sum_far(ln, lh, ll, sn, sh, sl, d, le)
+        let v = sub_wide(lh, ll, y.hi, y.lo);
+        let w = sub_wide(v.hi, v.lo, 0, x);
+        round_signed(ln, w.hi, w.lo, x, le)
     }
 }
 
@@ -203,22 +151,14 @@ fn sum_wide(an: bool, ah: u64, al: u64, ae: u64, bn: bool, bh: u64, bl: u64, be:
     }
 }
 
-// The sum of a product and an addend, none of them 0, rounded once.
+// The sum of a product and an addend, none of them 0, rounded once. The addend in a word of its own
+// and the product times 2^12 have the same number of digits, or one apart.
 fn fma_nonzero(n: bool, am: u64, ae: u64, bm: u64, be: u64, cn: bool, cm: u64, ce: u64) -> f64
     requires { ⌜ Digits am ae ⌝ ∗ ⌜ Digits bm be ⌝ ∗ ⌜ Digits cm ce ⌝ }
-    ensures { λ r. ⌜ r ≡ sum binary64 n (am * bm * 2 ^ (ae + be + 128)) cn (cm * 2 ^ 52 * 2 ^ (ce + 1214)) (2 ^ 2404) ⌝ }
+    ensures { λ r. ⌜ r ≡ sum binary64 n (am * 64 * (bm * 64) * 2 ^ (ae + be + 116)) cn (wide cm 0 * 2 ^ (ce + 1202)) (2 ^ 2404) ⌝ }
 {
-    let p = product(am, bm);
-    sum_wide(
-        n,
-        p.hi,
-        p.lo,
-        ae + be + 128,
-        cn,
-        cm >> 12,
-        cm << 52,
-        ce + 1214,
-    )
+    let p = product(am * 64, bm * 64);
+    sum_wide(n, p.hi, p.lo, ae + be + 116, cn, cm, 0, ce + 1202)
 }
 
 // `mul_add` for finite operands. With a zero among them the plain operations round at most once.

@@ -3,7 +3,7 @@
 use mathlib.Core.Path.{_≡_, refl, sym, ap, _∙_}
 use mathlib.Core.Bool.{true, false, _||_}
 use Prim.Native.Nat.{ℕ, zero, suc, _+_, _-_, _*_, _^_, _≤_, _<_, compare, Ordering}
-use native.Mathlib.Nat.{le-trans, le-of-eq, le-refl, lt-of-not-le, lt-of-lt-of-le, lt-of-le-of-lt, mul-assoc, mul-comm, mul-left-comm, one-mul, pow-suc, mul-le-mul, mul-le-mul-right}
+use native.Mathlib.Nat.{le-trans, le-of-eq, le-refl, le-of-suc-le-suc, lt-of-not-le, lt-of-lt-of-le, lt-of-le-of-lt, mul-assoc, mul-comm, mul-left-comm, mul-mul-mul-comm, one-mul, pow-suc, mul-le-mul, mul-le-mul-right}
 use native.Mathlib.Nat.{mul-lt-mul-of-pos-right, le-mul-of-pos-right, mul-pos, div-mul-le-self, le-div-iff-mul-le, div-lt-iff-lt-mul, eq-of-mul-eq-mul-right}
 use native.Mathlib.Decide.{decLe}
 use native.Mathlib.Numerals.{add-one}
@@ -31,9 +31,6 @@ use Rattle.elementary.proofs.Laws.Nearest.{middle, no-tie, units-neares
 sq-grows : (a b : ℕ) → a < b → a * a < b * b
 sq-grows a b h = lt-of-lt-of-le (omega (arith, sq-suc a)) (mul-le-mul h h)
 
-square-out : (d p : ℕ) → d * d * (p * p) ≡ d * p * (d * p)
-square-out d p = simp (mul-assoc, mul-comm, mul-left-comm)
-
 four-in : (m a b : ℕ) → 4 * (m * a * b) ≡ m * (a * b * 4)
 four-in m a b = simp (mul-assoc, mul-comm, mul-left-comm)
 
@@ -48,15 +45,10 @@ module _ (m a b : ℕ) where
   uneven q e h =
       let d = 2 * q + 1 in
       let c : b ≡ suc (b - suc a) + a = omega arith in
-      let i : d * d ≡ m * 2 ^ suc (b - suc a) =
-      eq-of-mul-eq-mul-right (2 ^ a) (pow-pos a) (d * d) (m * 2 ^ suc (b - suc a))
-      (e ∙ ap (λ (z : ℕ). m * 2 ^ z) c ∙ rw (pow-add 2 (suc (b - suc a)) a) (sym (mul-assoc m (2 ^ suc (b - suc a)) (2 ^ a)))) in
-      let j : m * 2 ^ suc (b - suc a) ≡ m * 2 ^ (b - suc a) * 2 = rw (pow-suc 2 (b - suc a)) (sym (mul-assoc m (2 ^ (b - suc a)) 2)) in
+      let i : d * d ≡ m * 2 ^ (b - suc a) * 2 =
+      eq-of-mul-eq-mul-right (2 ^ a) (pow-pos a) (d * d) (m * 2 ^ (b - suc a) * 2)
+      (e ∙ ap (λ (z : ℕ). m * 2 ^ z) c ∙ rw (pow-add 2 (suc (b - suc a)) a, pow-suc 2 (b - suc a)) (simp mul-assoc)) in
       omega (arith, ap (λ (z : ℕ). z * z) (add-one (2 * q)), sq-suc (2 * q), sq-twice q)
-
-root-pos : (w n : ℕ) → 0 < n → n < suc w * suc w → 0 < w
-root-pos zero n p h = omega arith
-root-pos (suc w) n p h = omega arith
 
 size-pos : (w : ℕ) → 0 < w → 0 < size w
 size-pos w p = lt-of-not-le (λ (g : size w ≤ 0). let l = pow-mono g in omega (arith, size-lt w))
@@ -72,7 +64,7 @@ in-range f (fin false (suc m) e) t p =
     let l : 2 ^ low f ≤ suc m * up e * 2 ^ low f = le-trans (le-of-eq (sym (one-mul (2 ^ low f)))) (mul-le-mul-right (2 ^ low f) (mul-pos {m = suc m} (omega arith) (up-pos e))) in
     (le-div-iff-mul-le (down-pos e) .1 (le-trans (le-of-eq (one-mul (down e))) (le-trans (holds f false m e t .1) l)), finite-under f false (suc m) e t)
 
-sqrt-is : (f : Format) (x : Float) → T (positive x) → sqrtOf f x ≡ roundRoot f (place f x * 2 ^ low f)
+pub sqrt-is : (f : Format) (x : Float) → T (positive x) → sqrtOf f x ≡ roundRoot f (place f x * 2 ^ low f)
 unfolding sqrtOf place
 sqrt-is f nan p = absurd p
 sqrt-is f (inf s) p = absurd p
@@ -104,7 +96,7 @@ module _ (f : Format) (n : ℕ) where
       let l : isqrt n < suc q * 2 ^ k = div-lt-iff-lt-mul (pow-pos k) .0 (le-refl (suc q)) in
       omega (arith, sq-twice (suc q * 2 ^ k), lt-of-lt-of-le (isqrt-root n .1) (mul-le-mul l l))
 
-  root-is : roundRoot f n ≡ units f false (nearest q order) k
+  pub root-is : roundRoot f n ≡ units f false (nearest q order) k
   unfolding roundRoot
   root-is = refl
 
@@ -118,7 +110,7 @@ module _ (f : Format) (n : ℕ) where
       same : (2 * q + 1) * (2 * q + 1) * 2 ^ (k + k) ≡ d .0 * 2 ^ (d .1 + low f + 2)
       same =
           rw (pow-add 2 k k, pow-add 2 (d .1 + low f) 2, pow-add 2 (d .1) (low f))
-          (square-out (2 * q + 1) (2 ^ k)
+          (mul-mul-mul-comm (2 * q + 1) (2 * q + 1) (2 ^ k) (2 ^ k)
           ∙ sym t
           ∙ ap (λ (z : ℕ). 4 * z) (e ∙ ap (λ (z : ℕ). z * 2 ^ low f) (d .3))
           ∙ four-in (d .0) (2 ^ d .1) (2 ^ low f))
@@ -147,8 +139,7 @@ module _ (f : Format) (n : ℕ) where
 
     q-pos : 0 < q
     q-pos =
-        let r = isqrt-root n in
-        let s = size-pos (isqrt n) (root-pos (isqrt n) n some (r .1)) in
+        let s = size-pos (isqrt n) (le-of-suc-le-suc (sq-lt 1 (suc (isqrt n)) (omega (arith, isqrt-root n .1)))) in
         le-div-iff-mul-le (pow-pos k) .1 (le-trans (le-of-eq (one-mul (2 ^ k))) (size-reaches (isqrt n) k (omega (arith, two f))))
 
     root-positive : T (positive (roundRoot f n))

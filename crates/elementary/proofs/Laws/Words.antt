@@ -1,12 +1,11 @@
 -- Numbers of two words, and fractions cut to them. Assumes nothing.
 use mathlib.Core.Path.{_≡_, refl, sym, ap, _∙_, subst}
 use Prim.Native.Nat.{ℕ, _+_, _-_, _*_, _/_, _%_, _^_, _≤_, _<_}
-use native.Mathlib.Nat.{le-trans, le-of-eq, mul-assoc, mul-comm, mul-left-comm, mul-pos, mul-le-mul-right, lt-of-mul-lt-mul-right, div-add-mod', add-zero, mul-add-div-right, mul-add-mod-self-right, div-div-eq-div-mul, suc-mul, zero-mul}
+use native.Mathlib.Nat.{le-trans, le-of-eq, mul-assoc, mul-comm, mul-left-comm, mul-pos, mul-le-mul-right, lt-of-mul-lt-mul-right, div-add-mod', add-zero, mul-add-div-right, mul-add-mod-self-right, div-div-eq-div-mul, suc-mul, zero-mul, eq-of-mul-eq-mul-right}
 use native.Mathlib.Omega.{arith}
 use lib.Arith.{digits-div, digits-mod, mod-mul}
 use lib.Pow.{pow-add, pow-pos, shr-lt}
 use Rattle.elementary.specs.Inside.Round.{Cut, Any, wide}
-use Rattle.elementary.proofs.Laws.Leaf.{zero-of-mul, sum-zero-l, sum-zero-r}
 
 -- ---- two words shifted right by d, with z = 64 - d
 module _ (hi lo z d : ℕ) (s : z + d ≡ 64) where
@@ -47,7 +46,7 @@ cut-down {N} {E} {v} {x} {y} d P A C =
           ∙ ap (λ (t : ℕ). 0 + t) (C .none (A .right z));
       some = λ z.
           let s : v % 2 ^ d * E + N % E ≡ 0 = sym r ∙ z in
-          A .none (zero-of-mul (v % 2 ^ d) E P (sum-zero-l (v % 2 ^ d * E) (N % E) s)) (C .some (sum-zero-r (v % 2 ^ d * E) (N % E) s));
+          A .none (eq-of-mul-eq-mul-right E P (v % 2 ^ d) 0 (omega (arith, zero-mul E))) (C .some (omega arith));
     }
 
 -- ---- an exact fraction, by a finer unit

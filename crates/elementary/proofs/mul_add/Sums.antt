@@ -1,193 +1,153 @@
--- Signed sums of two fractions: `sum` by its cases, and the leading digits of a sum or a difference of numbers that are far apart. Assumes nothing.
-use mathlib.Core.Path.{_≡_, refl, sym, ap, _∙_, subst}
-use mathlib.Core.Logic.{inl, inr}
-use mathlib.Core.Bool.{Bool, true, false, _&&_, Bool·beq, cond}
-use Prim.Native.Nat.{ℕ, zero, suc, _+_, _-_, _*_, _/_, _%_, _^_, _≤_, _<_}
-use native.Mathlib.Nat.{add-comm, le-trans, le-of-eq, le-of-lt, lt-of-lt-of-le, not-le-of-lt, eq-or-lt-of-le, eq-zero-or-pos, lt-irrefl, mul-assoc, mul-comm, mul-left-comm, mul-pos, mul-le-mul-right, mul-lt-mul-of-pos-right, div-add-mod', add-mul, suc-mul, zero-mul, mod-lt, mul-div-mul-right, add-zero, mul-add-div-right, mul-add-mod-self-right}
+-- Signed sums of two fractions: `sum` by its cases, and the leading digits of the sum and the difference where the smaller number is cut. Assumes nothing.
+use mathlib.Core.Path.{_≡_, sym, ap, _∙_}
+use mathlib.Core.Logic.{_⊎_, inl, inr}
+use mathlib.Core.Bool.{Bool, true, false, _&&_, Bool·beq, cond, and-true, and-false}
+use Prim.Native.Nat.{ℕ, zero, suc, _+_, _-_, _*_, _/_, _%_, _^_, _≤_, _<_, compare, Ordering, Ordering·lt, Ordering·eq, Ordering·gt}
+use native.Mathlib.Nat.{le-of-lt, lt-of-lt-of-le, eq-or-lt-of-le, eq-zero-or-pos, mul-assoc, mul-comm, mul-left-comm, mul-pos, mul-le-mul-right, mul-lt-mul-of-pos-right, div-add-mod', div-le-self, div-lt-iff-lt-mul, add-mul, add-comm, suc-mul, zero-mul, zero-mod, mod-lt, mul-div-mul-right, mul-add-div-right, mul-add-mod-self-right}
+use native.Mathlib.Decide.{decLe}
 use native.Mathlib.Omega.{arith}
-use lib.Dec.{T, ltb, lt→ltb, ltb→lt, not-T, lit≤}
+use borrow.Author.Tests.{lt-ltb, le-ltb}
+use lib.Dec.{ltb}
 use lib.Arith.{digits-div, digits-mod}
-use lib.Pow.{pow-add, pow-pos, pow-mono, shl-lt, shr-lt, add-lt-pow}
-use lib.Ieee.{Format, round, sum}
-use lib.Ieee.Bits.{is-true, is-false}
-use Rattle.elementary.specs.Inside.Round.{Cut, SameZero}
+use lib.Pow.{pow-pos, pow-mono, shr-lt, mod-mod-pow}
+use lib.Ieee.{Float, Format, binary64, round, sum}
+use Rattle.elementary.specs.Inside.Round.{Cut, Flag, Rounds, wide}
 use Rattle.elementary.proofs.Laws.Leaf.{mul-mod-mul, zero-of-mul}
+use Rattle.elementary.proofs.Laws.Powers.{pow-split}
+use Rattle.elementary.proofs.Laws.Ordering.{Cmp, cmp}
 use Rattle.elementary.proofs.Laws.Adding.{sub-mul}
-use Rattle.elementary.proofs.Laws.Decode.{split-power}
+use Rattle.elementary.proofs.Laws.Words.{exact-cut}
 
 -- ---- `sum` by its cases
 pub sum-same : (f : Format) (s t : Bool) (a b c : ℕ) → Bool·beq s t ≡ true → sum f s a t b c ≡ round f s (a + b) c
 unfolding sum
-sum-same f s t a b c e = ap (λ (z : Bool). cond z (round f s (a + b) c) (cond (ltb a b) (round f t (b - a) c) (round f (s && ltb b a) (a - b) c))) e
+sum-same f s t a b c e = rw e
 
-module _ (f : Format) (s t : Bool) (a b c : ℕ) (e : Bool·beq s t ≡ false) where
-  apart : sum f s a t b c ≡ cond (ltb a b) (round f t (b - a) c) (round f (s && ltb b a) (a - b) c)
-  unfolding sum
-  apart = ap (λ (z : Bool). cond z (round f s (a + b) c) (cond (ltb a b) (round f t (b - a) c) (round f (s && ltb b a) (a - b) c))) e
+pub sum-more : (f : Format) (s t : Bool) (a b c : ℕ) → Bool·beq s t ≡ false → b < a → sum f s a t b c ≡ round f s (a - b) c
+unfolding sum
+sum-more f s t a b c e h = rw (e, le-ltb a b (le-of-lt h), lt-ltb b a h, and-true s)
 
-  and-true : (x : Bool) → (x && true) ≡ x
-  and-true true = refl
-  and-true false = refl
+pub sum-less : (f : Format) (s t : Bool) (a b c : ℕ) → Bool·beq s t ≡ false → a ≤ b → sum f s a t b c ≡ round f (t && ltb 0 (b - a)) (b - a) c
+unfolding sum
+sum-less f s t a b c e h = elim (eq-or-lt-of-le h) [
+  | inl p ↦ let z : a - b ≡ b - a = omega arith in rw (e, le-ltb a b (omega arith), le-ltb b a (omega arith), le-ltb 0 (b - a) (omega arith), and-false s, and-false t, z)
+  | inr l ↦ rw (e, lt-ltb a b l, lt-ltb 0 (b - a) (omega arith), and-true t)
+]
 
-  and-false : (x : Bool) → (x && false) ≡ false
-  and-false true = refl
-  and-false false = refl
-
-  no : (x y : ℕ) → y ≤ x → ltb x y ≡ false
-  no x y h = is-false (ltb x y) (not-T (ltb x y) (λ k. not-le-of-lt (ltb→lt x y k) h))
-
-  yes : (x y : ℕ) → x < y → ltb x y ≡ true
-  yes x y h = is-true (ltb x y) (lt→ltb x y h)
-
-  pub sum-more : b < a → sum f s a t b c ≡ round f s (a - b) c
-  sum-more h =
-      apart
-      ∙ ap (λ (z : Bool). cond z (round f t (b - a) c) (round f (s && ltb b a) (a - b) c)) (no a b (le-of-lt h))
-      ∙ ap (λ (z : Bool). round f (s && z) (a - b) c) (yes b a h)
-      ∙ ap (λ (z : Bool). round f z (a - b) c) (and-true s)
-
-  pub sum-less : a ≤ b → sum f s a t b c ≡ round f (t && ltb 0 (b - a)) (b - a) c
-  sum-less h = elim (eq-or-lt-of-le h) [
-    | inl p ↦
-        apart
-        ∙ ap (λ (z : Bool). cond z (round f t (b - a) c) (round f (s && ltb b a) (a - b) c)) (no a b (le-of-eq (sym p)))
-        ∙ ap (λ (z : Bool). round f (s && z) (a - b) c) (no b a (le-of-eq p))
-        ∙ ap (λ (z : Bool). round f z (a - b) c) (and-false s)
-        ∙ ap (λ (z : ℕ). round f false z c) (omega arith)
-        ∙ ap (λ (z : Bool). round f z (b - a) c) (sym (ap (λ (z : Bool). t && z) (no 0 (b - a) (none a b p)) ∙ and-false t))
-    | inr l ↦
-        apart
-        ∙ ap (λ (z : Bool). cond z (round f t (b - a) c) (round f (s && ltb b a) (a - b) c)) (yes a b l)
-        ∙ ap (λ (z : Bool). round f z (b - a) c) (sym (ap (λ (z : Bool). t && z) (yes 0 (b - a) (some a b l)) ∙ and-true t))
-  ]
-    where
-      none : (a b : ℕ) → a ≡ b → b - a ≤ 0
-      none a b e = omega arith
-
-      some : (a b : ℕ) → a < b → 0 < b - a
-      some a b h = omega arith
-
--- ---- both by one unit Q
-scale-pos : (v q : ℕ) → 0 < q → ltb 0 (v * q) ≡ ltb 0 v
-scale-pos zero q h = ap (λ (z : ℕ). ltb 0 z) (zero-mul q)
-scale-pos (suc v) q h = is-true (ltb 0 (suc v * q)) (lt→ltb 0 (suc v * q) (mul-pos (omega arith) h)) ∙ sym (is-true (ltb 0 (suc v)) (lt→ltb 0 (suc v) (omega arith)))
-
--- l * 2 ^ (e + d), where x is l * 2 ^ d
-raise : (l x d e : ℕ) → x ≡ l * 2 ^ d → l * 2 ^ (e + d) ≡ x * 2 ^ e
-raise l x d e h = split-power l (e + d) d e (add-comm e d) ∙ ap (λ (z : ℕ). z * 2 ^ e) (sym h)
-
-module _ (f : Format) (s t : Bool) (l x y v d e c : ℕ) (X : x ≡ l * 2 ^ d) where
-  at-unit : sum f s (x * 2 ^ e) t (y * 2 ^ e) c ≡ sum f s (l * 2 ^ (e + d)) t (y * 2 ^ e) c
-  at-unit = ap (λ (z : ℕ). sum f s z t (y * 2 ^ e) c) (sym (raise l x d e X))
-
-  pub near-same : Bool·beq s t ≡ true → v ≡ x + y → round f s (v * 2 ^ e) c ≡ sum f s (l * 2 ^ (e + d)) t (y * 2 ^ e) c
-  near-same b H = ap (λ (z : ℕ). round f s z c) (ap (λ (z : ℕ). z * 2 ^ e) H ∙ add-mul x y (2 ^ e)) ∙ sym (sum-same f s t (x * 2 ^ e) (y * 2 ^ e) c b) ∙ at-unit
-
-  pub near-less : Bool·beq s t ≡ false → x ≤ y → v ≡ y - x → round f (t && ltb 0 v) (v * 2 ^ e) c ≡ sum f s (l * 2 ^ (e + d)) t (y * 2 ^ e) c
-  near-less b h H =
-      let w : v * 2 ^ e ≡ y * 2 ^ e - x * 2 ^ e = ap (λ (z : ℕ). z * 2 ^ e) H ∙ sub-mul y x (2 ^ e) in
-      ap (λ (z : Bool). round f (t && z) (v * 2 ^ e) c) (sym (scale-pos v (2 ^ e) (pow-pos e)))
-      ∙ ap (λ (z : ℕ). round f (t && ltb 0 z) z c) w
-      ∙ sym (sum-less f s t (x * 2 ^ e) (y * 2 ^ e) c b (mul-le-mul-right (2 ^ e) h))
-      ∙ at-unit
-
-  pub near-more : Bool·beq s t ≡ false → y < x → v ≡ x - y → round f s (v * 2 ^ e) c ≡ sum f s (l * 2 ^ (e + d)) t (y * 2 ^ e) c
-  near-more b h H =
-      ap (λ (z : ℕ). round f s z c) (ap (λ (z : ℕ). z * 2 ^ e) H ∙ sub-mul x y (2 ^ e))
-      ∙ sym (sum-more f s t (x * 2 ^ e) (y * 2 ^ e) c b (mul-lt-mul-of-pos-right h (pow-pos e)))
-      ∙ at-unit
-
-pub near-fits : (l d : ℕ) → l < 2 ^ 106 → d ≤ 20 → l * 2 ^ d < 2 ^ 126
-near-fits l d h k = lt-of-lt-of-le (shl-lt 106 d h) (pow-mono (room k))
+-- ---- in either order
+unlike-comm : (f : Format) (a b c : ℕ) → sum f true a false b c ≡ sum f false b true a c
+unfolding sum
+unlike-comm f a b c = go (compare a b) (cmp a b)
   where
-    room : d ≤ 20 → 106 + d ≤ 126
-    room k = omega arith
+    go : (o : Ordering) → Cmp o a b → cond (ltb a b) (round f false (b - a) c) (round f (ltb b a) (a - b) c) ≡ cond (ltb b a) (round f true (a - b) c) (round f false (b - a) c)
+    go Ordering·lt h = rw (lt-ltb a b h, le-ltb b a (le-of-lt h))
+    go Ordering·eq h = let z : a - b ≡ b - a = omega arith in rw (le-ltb a b (omega arith), le-ltb b a (omega arith), z)
+    go Ordering·gt h = rw (le-ltb a b (le-of-lt h), lt-ltb b a h)
 
-pub wide-room : (x y : ℕ) → x < 2 ^ 126 → y < 2 ^ 106 → x + y < 2 ^ 128
-wide-room x y h k = lt-of-lt-of-le (add-lt-pow 126 h (lt-of-lt-of-le k (lit≤ tt))) (lit≤ tt)
+pub sum-comm : (f : Format) (s t : Bool) (a b c : ℕ) → sum f s a t b c ≡ sum f t b s a c
+unfolding sum
+sum-comm f true true a b c = rw (add-comm a b)
+sum-comm f true false a b c = unlike-comm f a b c
+sum-comm f false true a b c = sym (unlike-comm f b a c)
+sum-comm f false false a b c = rw (add-comm a b)
 
--- ---- a cut fraction, both parts times g
-pub cut-scale : {A B v x : ℕ} (g : ℕ) → 0 < B → 0 < g → Cut A B v x → Cut (A * g) (B * g) v x
+-- ---- l * 2 ^ le and s * 2 ^ se, where s is cut to y at the exponent le and x says whether anything is cut off
+pub record Aligned (l le s se y x : ℕ) : Type 0 where
+  pub low : 2 ^ 116 ≤ l
+  pub high : l < 2 ^ 118
+  pub top : s < 2 ^ 118
+  pub even : s % 4 ≡ 0
+  pub order : se ≤ le
+  pub part : y ≡ s / 2 ^ (le - se)
+  pub rest : Flag x (s % 2 ^ (le - se))
+
+-- a cut fraction, both parts times g
+cut-scale : {A B v x : ℕ} (g : ℕ) → 0 < B → 0 < g → Cut A B v x → Cut (A * g) (B * g) v x
 cut-scale {A} {B} g P G C = record {
   whole = mul-div-mul-right A B G ∙ C .whole;
   none = λ z. mul-mod-mul A B g P G ∙ ap (λ (t : ℕ). t * g) (C .none z) ∙ zero-mul g;
   some = λ z. C .some (zero-of-mul (A % B) g G (sym (mul-mod-mul A B g P G) ∙ z));
 }
 
-far-cut : {A Q v x : ℕ} (G T num E : ℕ) → 0 < Q → 0 < G → 0 < T → num ≡ A * G → E ≡ Q * G → Cut A Q v x → Cut (num * T) (T * E) v x
-far-cut {A} {Q} {v} {x} G T num E P g t n e C =
-    subst (λ (z : ℕ). Cut z (T * E) v x) (sym (ap (λ (z : ℕ). z * T) n ∙ mul-assoc A G T))
-    (subst (λ (z : ℕ). Cut (A * (G * T)) z v x) (sym (ap (λ (z : ℕ). T * z) e ∙ mul-left-comm T Q G ∙ ap (λ (z : ℕ). Q * z) (mul-comm T G)))
-    (cut-scale (G * T) P (mul-pos g t) C))
+module _ {l le s se y x : ℕ} (A : Aligned l le s se y x) where
+  abbrev Q : ℕ
+  Q = 2 ^ (le - se)
 
--- ---- l * Q + s and l * Q - s, cut by Q
-module _ (l s Q y x : ℕ) (P : 0 < Q) (Y : y ≡ s / Q) (X : SameZero x (s % Q)) where
-  pub cut-plus : (v : ℕ) → v ≡ l + y → Cut (l * Q + s) Q v x
-  cut-plus v H = record {
-    whole = mul-add-div-right P l s ∙ ap (λ (z : ℕ). l + z) (sym Y) ∙ sym H;
-    none = λ z. mul-add-mod-self-right l Q s ∙ X .to z;
-    some = λ z. X .from (sym (mul-add-mod-self-right l Q s) ∙ z);
-  }
+  abbrev P : 0 < Q
+  P = pow-pos (le - se)
 
   split : s ≡ y * Q + s % Q
-  split = sym (div-add-mod' s Q) ∙ ap (λ (z : ℕ). z * Q + s % Q) (sym Y)
+  split = rw (A .part) (sym (div-add-mod' s Q))
 
-  pub cut-exact-minus : (v : ℕ) → x ≡ 0 → v ≡ l - y → Cut (l * Q - s) Q v 0
-  cut-exact-minus v z H =
-      let e : l * Q - s ≡ v * Q + 0 =
-      ap (λ (t : ℕ). l * Q - t) (split ∙ ap (λ (t : ℕ). y * Q + t) (X .to z) ∙ add-zero (y * Q)) ∙ sym (sub-mul l y Q) ∙ ap (λ (t : ℕ). t * Q) (sym H) ∙ sym (add-zero (v * Q)) in
-      record { whole = ap (λ (t : ℕ). t / Q) e ∙ digits-div v P; none = λ _. ap (λ (t : ℕ). t % Q) e ∙ digits-mod v P; some = λ _. refl }
+  flag-none : x ≡ 0 → s % Q ≡ 0
+  flag-none z = elim (eq-zero-or-pos (s % Q)) [ inl e ↦ e | inr p ↦ absurd (omega (arith, A .rest .some p)) ]
 
-  pub cut-minus : (w : ℕ) → 0 < x → y < l → w ≡ l - y - 1 → Cut (l * Q - s) Q w x
-  cut-minus w p h W =
-      let r = s % Q in
-      let R : 0 < r = not-none (X .from) p in
-      let e : l * Q ≡ w * Q + y * Q + Q = ap (λ (z : ℕ). z * Q) (omega arith) ∙ suc-mul (w + y) Q ∙ ap (λ (z : ℕ). z + Q) (add-mul w y Q) in
-      let f : l * Q - s ≡ w * Q + (Q - r) = ap (λ (z : ℕ). l * Q - z) split ∙ go (l * Q) (w * Q) (y * Q) r e (mod-lt s P) in
-      record {
-        whole = ap (λ (t : ℕ). t / Q) f ∙ digits-div w (omega arith);
-        none = λ z. absurd (omega arith);
-        some = λ z. absurd (left r (mod-lt s P) (sym (ap (λ (t : ℕ). t % Q) f ∙ digits-mod w (omega arith)) ∙ z));
-      }
+  pub flag-le : x ≤ 1
+  flag-le = elim (eq-zero-or-pos (s % Q)) [ inl e ↦ omega (arith, A .rest .none e) | inr p ↦ omega (arith, A .rest .some p) ]
+
+  pub part-top : y < 2 ^ 118
+  part-top = omega (arith, A .part, A .top, div-le-self s Q)
+
+  -- digits are lost only of an s far below l
+  pub exact-or-far : (x ≡ 0) ⊎ (y < 2 ^ 115)
+  exact-or-far = go (decLe (le - se) 2)
     where
-      not-none : {r : ℕ} → (r ≡ 0 → x ≡ 0) → 0 < x → 0 < r
-      not-none {r} g p = elim (eq-zero-or-pos r) [ inl z ↦ absurd (lt-irrefl 0 (subst (λ (t : ℕ). 0 < t) (g z) p)) | inr q ↦ q ]
+      go : Dec (le - se ≤ 2) → (x ≡ 0) ⊎ (y < 2 ^ 115)
+      go (yes h) =
+          let e : 2 - (le - se) + (le - se) ≡ 2 = omega arith in
+          inl (A .rest .none (sym (rw (e, A .even) at (mod-mod-pow s (2 - (le - se)) (le - se))) ∙ zero-mod Q))
+      go (no h) = inr (rw (A .part) (shr-lt 115 (le - se) (lt-of-lt-of-le (A .top) (pow-mono {i = 118} {j = 115 + (le - se)} (omega arith)))))
 
-      go : (L W Y r : ℕ) → L ≡ W + Y + Q → r < Q → L - (Y + r) ≡ W + (Q - r)
-      go L W Y r a b = omega arith
+  pub flag-fits : {v : ℕ} → y < l → v ≡ l - y → wide 0 x ≤ v
+  flag-fits h e = omega (arith, flag-le)
 
-      left : (r : ℕ) → r < Q → Q - r ≡ 0 → ⊥
-      left r a b = omega arith
+  pub difference-ready : {w : ℕ} → y < l → w ≡ l - y - x → (0 < w) × (w < 2 ^ 64 → x ≡ 0)
+  difference-ready h e = elim exact-or-far [ inl z ↦ omega arith | inr k ↦ omega (arith, flag-le, A .low) ]
 
--- ---- l * 2 ^ e and s * 2 ^ (e - d)
-module _ (l s d e : ℕ) (D : d ≤ e) where
-  unit : 2 ^ e ≡ 2 ^ d * 2 ^ (e - d)
-  unit = ap (λ (z : ℕ). 2 ^ z) (omega arith) ∙ pow-add 2 d (e - d)
+  -- the sum and the difference by the unit 2 ^ se, cut to the unit 2 ^ le
+  plus : Cut (l * Q + s) Q (l + y) x
+  plus = record {
+    whole = rw (A .part) (mul-add-div-right P l s);
+    none = λ z. mul-add-mod-self-right l Q s ∙ flag-none z;
+    some = λ z. A .rest .none (sym (mul-add-mod-self-right l Q s) ∙ z);
+  }
 
-  higher : l * 2 ^ e ≡ l * 2 ^ d * 2 ^ (e - d)
-  higher = split-power l e d (e - d) (omega arith)
+  minus : y < l → Cut (l * Q - s) Q (l - y - x) x
+  minus h = elim (eq-zero-or-pos (s % Q)) [
+    | inl e ↦ let z : l - y - 0 ≡ l - y = omega arith in rw (A .rest .none e, z) (exact-cut (l * Q - s) Q (l - y) P (omega (arith, split, sub-mul l y Q)))
+    | inr p ↦
+        let w = l - y - 1 in
+        let L : l * Q ≡ w * Q + y * Q + Q = ap (λ (z : ℕ). z * Q) (omega arith) ∙ suc-mul (w + y) Q ∙ ap (λ (z : ℕ). z + Q) (add-mul w y Q) in
+        let m = mod-lt s P in
+        let k : Q - s % Q < Q = omega (arith, P) in
+        let f : l * Q - s ≡ w * Q + (Q - s % Q) = omega (arith, split) in
+        rw (A .rest .some p, f) record { whole = digits-div w k; none = λ z. absurd (omega arith); some = λ z. absurd (omega (arith, digits-mod w k)) }
+  ]
 
-  pub far-plus : {v x : ℕ} (T : ℕ) → 0 < T → Cut (l * 2 ^ d + s) (2 ^ d) v x → Cut ((l * 2 ^ e + s * 2 ^ (e - d)) * T) (T * 2 ^ e) v x
-  far-plus T t C =
-      far-cut (2 ^ (e - d)) T (l * 2 ^ e + s * 2 ^ (e - d)) (2 ^ e) (pow-pos d) (pow-pos (e - d)) t
-      (ap (λ (z : ℕ). z + s * 2 ^ (e - d)) higher ∙ sym (add-mul (l * 2 ^ d) s (2 ^ (e - d)))) unit C
+  rounded : {r : Float} (m : Bool) (N v : ℕ) → Cut N Q v x → Rounds r m v x le → r ≡ round binary64 m (N * 2 ^ se) (2 ^ 2404)
+  rounded m N v C R =
+      let e : 2 ^ 2404 * 2 ^ le ≡ Q * (2 ^ se * 2 ^ 2404) = rw (pow-split se le (A .order)) (simp (mul-assoc, mul-comm, mul-left-comm)) in
+      R (N * 2 ^ se) (2 ^ 2404) (pow-pos 2404) (rw (mul-assoc N (2 ^ se) (2 ^ 2404), e) (cut-scale (2 ^ se * 2 ^ 2404) P (mul-pos (pow-pos se) (pow-pos 2404)) C))
 
-  pub far-minus : {v x : ℕ} (T : ℕ) → 0 < T → Cut (l * 2 ^ d - s) (2 ^ d) v x → Cut ((l * 2 ^ e - s * 2 ^ (e - d)) * T) (T * 2 ^ e) v x
-  far-minus T t C =
-      far-cut (2 ^ (e - d)) T (l * 2 ^ e - s * 2 ^ (e - d)) (2 ^ e) (pow-pos d) (pow-pos (e - d)) t
-      (ap (λ (z : ℕ). z - s * 2 ^ (e - d)) higher ∙ sym (sub-mul (l * 2 ^ d) s (2 ^ (e - d)))) unit C
+  higher : l * 2 ^ le ≡ l * Q * 2 ^ se
+  higher = rw (pow-split se le (A .order)) (sym (mul-assoc l Q (2 ^ se)))
 
-  pub far-order : s < l * 2 ^ d → s * 2 ^ (e - d) < l * 2 ^ e
-  far-order h = lt-of-lt-of-le (mul-lt-mul-of-pos-right h (pow-pos (e - d))) (le-of-eq (sym higher))
+  module _ {r : Float} {v : ℕ} (m n : Bool) where
+    pub sum-cut : Bool·beq m n ≡ true → v ≡ l + y → Rounds r m v x le → r ≡ sum binary64 m (l * 2 ^ le) n (s * 2 ^ se) (2 ^ 2404)
+    sum-cut b e R = rw (sum-same binary64 m n (l * 2 ^ le) (s * 2 ^ se) (2 ^ 2404) b, higher, ← add-mul (l * Q) s (2 ^ se)) (rounded m (l * Q + s) v (rw e plus) R)
 
-pub far-below : (l s d : ℕ) → 20 < d → 2 ^ 104 ≤ l → s < 2 ^ 106 → s < l * 2 ^ d
-far-below l s d D L S = lt-of-lt-of-le S (le-trans (pow-mono (room D)) (le-trans (le-of-eq (pow-add 2 104 d)) (mul-le-mul-right (2 ^ d) L)))
-  where
-    room : 20 < d → 106 ≤ 104 + d
-    room h = omega arith
+    pub difference-cut : Bool·beq m n ≡ false → y < l → v ≡ l - y - x → Rounds r m v x le → r ≡ sum binary64 m (l * 2 ^ le) n (s * 2 ^ se) (2 ^ 2404)
+    difference-cut b h e R =
+        let k : s * 2 ^ se < l * Q * 2 ^ se = mul-lt-mul-of-pos-right (div-lt-iff-lt-mul P .0 (rw (A .part) at h)) (pow-pos se) in
+        rw (higher, sum-more binary64 m n (l * Q * 2 ^ se) (s * 2 ^ se) (2 ^ 2404) b k, ← sub-mul (l * Q) s (2 ^ se)) (rounded m (l * Q - s) v (rw e (minus h)) R)
 
-pub far-small : (s d : ℕ) → 20 < d → s < 2 ^ 106 → s / 2 ^ d < 2 ^ 85
-far-small s d D S = shr-lt 85 d (lt-of-lt-of-le S (pow-mono (room D)))
-  where
-    room : 20 < d → 106 ≤ 85 + d
-    room h = omega arith
+  -- the second number is not the smaller one
+  scale-pos : (v q : ℕ) → 0 < q → ltb 0 (v * q) ≡ ltb 0 v
+  scale-pos zero q h = rw (zero-mul q)
+  scale-pos (suc v) q h = rw (lt-ltb 0 (suc v * q) (mul-pos (omega arith) h), lt-ltb 0 (suc v) (omega arith))
+
+  pub difference-exact : (m n : Bool) (v : ℕ) → Bool·beq m n ≡ false → l ≤ y → v ≡ y - l → round binary64 (n && ltb 0 v) (v * 2 ^ le) (2 ^ 2404) ≡ sum binary64 m (l * 2 ^ le) n (s * 2 ^ se) (2 ^ 2404)
+  difference-exact m n v b h e =
+      let z : x ≡ 0 = elim exact-or-far [ inl z ↦ z | inr k ↦ absurd (omega (arith, A .low)) ] in
+      let S : s * 2 ^ se ≡ y * 2 ^ le = ap (λ (t : ℕ). t * 2 ^ se) (omega (arith, split, flag-none z)) ∙ mul-assoc y Q (2 ^ se) ∙ rw (pow-split se le (A .order)) in
+      rw (S, sum-less binary64 m n (l * 2 ^ le) (y * 2 ^ le) (2 ^ 2404) b (mul-le-mul-right (2 ^ le) h), ← sub-mul y l (2 ^ le), ← e, scale-pos v (2 ^ le) (pow-pos le))

@@ -1,10 +1,10 @@
 -- What `roundRoot` gives where the root's first 54 digits are known, and the bits of that. Assumes nothing.
 use mathlib.Core.Path.{_≡_, refl, sym, ap, _∙_, subst}
 use mathlib.Core.Logic.{_⊎_, inl, inr}
-use mathlib.Core.Bool.{true, false, not, true≢false}
-use Prim.Native.Nat.{ℕ, zero, suc, _+_, _-_, _*_, _/_, _%_, _^_, _≤_, _<_, compare, Ordering, Ordering·lt, Ordering·eq, Ordering·gt}
-use native.Mathlib.Nat.{le-trans, lt-of-not-le, not-le-of-lt, lt-of-lt-of-le, eq-or-lt-of-le, mul-assoc, mul-comm, mul-left-comm, suc-mul, pow-suc}
-use native.Mathlib.Nat.{mul-le-mul-right, mul-lt-mul-of-pos-right, mul-pos, zero-mul, div-eq-of-lt-le, div-div-eq-div-mul}
+use mathlib.Core.Bool.{false, not}
+use Prim.Native.Nat.{ℕ, suc, _+_, _-_, _*_, _/_, _%_, _^_, _≤_, _<_, compare, Ordering, Ordering·lt, Ordering·eq, Ordering·gt}
+use native.Mathlib.Nat.{le-trans, lt-of-not-le, not-le-of-lt, lt-of-lt-of-le, eq-or-lt-of-le, mul-assoc, mul-comm, mul-left-comm, pow-suc}
+use native.Mathlib.Nat.{mul-le-mul-right, mul-lt-mul-of-pos-right, mul-pos, mod-lt, div-eq-of-lt-le, div-div-eq-div-mul}
 use native.Mathlib.Decide.{decLe}
 use native.Mathlib.Numerals.{add-one}
 use native.Mathlib.Omega.{arith}
@@ -12,14 +12,15 @@ use lib.Dec.{T, leb}
 use lib.Arith.{lt→nleb}
 use lib.Pow.{pow-add, pow-pos, pow-mono, shl-lt, shl-exact}
 use lib.Count.{leadingZeros, leading-top}
-use lib.Ieee.{Float, nan, inf, fin, binary64, up, down, size, nearest, units, ofBits, nanBits}
-use lib.Ieee.Fits.{down-pos}
+use lib.Ieee.{Float, binary64, size, nearest, units, ofBits, nanBits}
 use lib.Ieee.Exact.{HasValue}
+use lib.Ieee.Positive.{positive-of-value}
 use lib.Ieee.Bits.{is-false}
 use Rattle.elementary.specs.Sqrt.{isqrt, roundRoot, sqrtOf}
 use Rattle.elementary.proofs.Laws.Ordering.{Cmp, cmp}
 use Rattle.elementary.proofs.Laws.Leaf.{size-of}
-use Rattle.elementary.proofs.Laws.Places.{whole-units}
+use Rattle.elementary.proofs.Laws.Places.{place-of}
+use Rattle.elementary.proofs.Laws.SqrtNearest.{sqrt-is, root-is}
 use Rattle.elementary.proofs.Laws.Nearest.{units-fits}
 use Rattle.elementary.proofs.Laws.Isqrt.{sq-lt, sq-suc, sq-twice, isqrt-root}
 use Rattle.elementary.specs.Inside.Sqrt.{Root}
@@ -27,32 +28,10 @@ use Rattle.elementary.proofs.Laws.Bits.{nan-pattern, no-nan-pattern}
 use Rattle.elementary.proofs.Laws.Values.{recast, value-low, value-mid, value-inf}
 use Rattle.elementary.proofs.Laws.Pattern.{units-pattern}
 
--- ---- which way `nearest` goes
-by-order : (q r a b : ℕ) → (a < b → q ≡ r) → (b < a → suc q ≡ r) → (a ≡ b → ⊥) → nearest q (compare a b) ≡ r
-by-order q r a b x y z = go (compare a b) (cmp a b)
-  where
-    go : (o : Ordering) → Cmp o a b → nearest q o ≡ r
-    go Ordering·lt c = x c
-    go Ordering·eq c = absurd (z c)
-    go Ordering·gt c = y c
-
 -- ---- a root of 54 digits: the last digit says which way to round, since n is even and so no odd square
 -- twice the middle between w / 2 and the next number up
 abbrev mid : ℕ → ℕ
 mid w = 2 * (w / 2) + 1
-
-abbrev Side : ℕ → ℕ → Type 0
-Side w n = ((n < mid w * mid w) × (w / 2 ≡ (w + 1) / 2)) ⊎ ((mid w * mid w < n) × (suc (w / 2) ≡ (w + 1) / 2))
-
-side : (w n : ℕ) → w * w ≤ n → n < suc w * suc w → n % 2 ≡ 0 → Side w n
-side w n a b even = go (decLe (w % 2) 0)
-  where
-    go : Dec (w % 2 ≤ 0) → Side w n
-    go (yes h) = let e : suc w ≡ mid w = omega arith in inl (subst (λ (z : ℕ). n < z * z) e b, omega arith)
-    go (no h) =
-        let e : w ≡ mid w = omega arith in
-        let l : mid w * mid w ≤ n = subst (λ (z : ℕ). z * z ≤ n) e a in
-        inr (omega (arith, ap (λ (z : ℕ). z * z) (add-one (2 * (w / 2))), sq-suc (2 * (w / 2)), sq-twice (w / 2)), omega arith)
 
 -- both sides times (2 ^ suc h) squared
 scale-sq : (v p : ℕ) → v * (p * 2) * (v * (p * 2)) ≡ 4 * (v * v * p * p)
@@ -61,35 +40,40 @@ scale-sq v p = simp (mul-assoc, mul-comm, mul-left-comm) (omega arith)
 times : (a b p : ℕ) → 0 < p → a < b → 4 * (a * p * p) < 4 * (b * p * p)
 times a b p P h = omega (arith, mul-lt-mul-of-pos-right (mul-lt-mul-of-pos-right h P) P)
 
--- `nearest`'s choice does not change with the scale
-choice : (w n p : ℕ) → 0 < p → Side w n → nearest (w / 2) (compare (4 * (n * p * p)) (mid w * (p * 2) * (mid w * (p * 2)))) ≡ (w + 1) / 2
-choice w n p P s = go s
-  where
-    go : Side w n → nearest (w / 2) (compare (4 * (n * p * p)) (mid w * (p * 2) * (mid w * (p * 2)))) ≡ (w + 1) / 2
-    go (inl (l, e)) =
-        let t = times n (mid w * mid w) p P l in
-        by-order (w / 2) ((w + 1) / 2) (4 * (n * p * p)) (mid w * (p * 2) * (mid w * (p * 2))) (λ _. e) (λ g. omega (arith, scale-sq (mid w) p)) (λ g. omega (arith, scale-sq (mid w) p))
-    go (inr (l, e)) =
-        let t = times (mid w * mid w) n p P l in
-        by-order (w / 2) ((w + 1) / 2) (4 * (n * p * p)) (mid w * (p * 2) * (mid w * (p * 2))) (λ g. omega (arith, scale-sq (mid w) p)) (λ _. e) (λ g. omega (arith, scale-sq (mid w) p))
+module _ (w n p : ℕ) (P : 0 < p) (root : Root n w) (even : n % 2 ≡ 0) where
+  abbrev M : ℕ
+  M = mid w * (p * 2) * (mid w * (p * 2))
 
--- `roundRoot`, from the root's whole part v and the number k of dropped digits on
-abbrev root-value : ℕ → ℕ → ℕ → Float
-root-value n v k = units binary64 false (nearest (v / 2 ^ k) (compare (4 * n) ((2 * (v / 2 ^ k) + 1) * 2 ^ k * ((2 * (v / 2 ^ k) + 1) * 2 ^ k)))) k
+  below : w % 2 ≤ 0 → 4 * (n * p * p) < M
+  below h = let e : suc w ≡ mid w = omega arith in rw (scale-sq (mid w) p) (times n (mid w * mid w) p P (rw e at (root .1)))
 
-root-value-is : (n : ℕ) → roundRoot binary64 n ≡ root-value n (isqrt n) (size (isqrt n) - 53)
-unfolding roundRoot
-root-value-is n = refl
+  above : (w % 2 ≤ 0 → ⊥) → M < 4 * (n * p * p)
+  above h =
+      let e : w ≡ mid w = omega arith in
+      let l : mid w * mid w ≤ n = subst (λ (z : ℕ). z * z ≤ n) e (root .0) in
+      rw (scale-sq (mid w) p) (times (mid w * mid w) n p P (omega (arith, ap (λ (z : ℕ). z * z) (add-one (2 * (w / 2))), sq-suc (2 * (w / 2)), sq-twice (w / 2))))
+
+  -- `nearest`'s choice does not change with the scale
+  choice : nearest (w / 2) (compare (4 * (n * p * p)) M) ≡ (w + 1) / 2
+  choice = go (decLe (w % 2) 0) (compare (4 * (n * p * p)) M) (cmp (4 * (n * p * p)) M)
+    where
+      go : Dec (w % 2 ≤ 0) → (o : Ordering) → Cmp o (4 * (n * p * p)) M → nearest (w / 2) o ≡ (w + 1) / 2
+      go (yes h) Ordering·lt c = omega arith
+      go (yes h) Ordering·eq c = absurd (omega (arith, below h))
+      go (yes h) Ordering·gt c = absurd (omega (arith, below h))
+      go (no h) Ordering·lt c = absurd (omega (arith, above h))
+      go (no h) Ordering·eq c = absurd (omega (arith, above h))
+      go (no h) Ordering·gt c = omega arith
 
 regroup : (w p : ℕ) → w * p * (w * p) ≡ w * w * p * p
 regroup w p = simp (mul-assoc, mul-comm, mul-left-comm)
 
-module _ (a w h : ℕ) (lo : 2 ^ 62 ≤ a) (hi : a + 2 ^ 11 ≤ 2 ^ 64) (root : Root (a * 2 ^ 44) w) where
+module _ (a w h : ℕ) (lo : 2 ^ 62 ≤ a) (hi : a < 2 ^ 64) (root : Root (a * 2 ^ 44) w) where
   w-lo : 2 ^ 53 ≤ w
   w-lo = omega (arith, sq-lt (2 ^ 53) (suc w) (omega arith))
 
-  w-hi : w < 2 ^ 54 - 1
-  w-hi = sq-lt w (2 ^ 54 - 1) (omega arith)
+  w-hi : w < 2 ^ 54
+  w-hi = sq-lt w (2 ^ 54) (omega arith)
 
   abbrev n : ℕ
   n = a * 2 ^ 44 * 2 ^ h * 2 ^ h
@@ -117,30 +101,21 @@ module _ (a w h : ℕ) (lo : 2 ^ 62 ≤ a) (hi : a + 2 ^ 11 ≤ 2 ^ 64) (root : 
   pub root-rounded : roundRoot binary64 n ≡ units binary64 false ((w + 1) / 2) (suc h)
   root-rounded =
       let k : size (isqrt n) - 53 ≡ suc h = omega (arith, v-size) in
-      root-value-is n
-      ∙ ap (λ (z : ℕ). root-value n (isqrt n) z) k
-      ∙ rw (first-digits, pow-suc 2 h) (ap (λ (z : ℕ). units binary64 false z (suc h)) (choice w (a * 2 ^ 44) (2 ^ h) (pow-pos h) (side w (a * 2 ^ 44) (root .0) (root .1) (omega arith))))
+      root-is binary64 n
+      ∙ rw (k, first-digits, pow-suc 2 h) (ap (λ (z : ℕ). units binary64 false z (suc h)) (choice w (a * 2 ^ 44) (2 ^ h) (pow-pos h) root (omega arith)))
 
 -- ---- the bits of a rounded root
-pub root-pattern : (r k : ℕ) → 2 ^ 52 ≤ r → r < 2 ^ 53 → k < 2000 → ofBits binary64 (k * 2 ^ 52 + r) ≡ units binary64 false r k
+root-pattern : (r k : ℕ) → 2 ^ 52 ≤ r → r ≤ 2 ^ 53 → k < 2000 → ofBits binary64 (k * 2 ^ 52 + r) ≡ units binary64 false r k
 root-pattern r k lo hi small =
-    units-pattern r k (omega arith) (λ _. lo) (omega arith)
-    (units-fits binary64 false r k (omega arith) (lt-of-lt-of-le (shl-lt 53 k hi) (pow-mono {i = 53 + k} {j = 2098} (omega arith))))
+    units-pattern r k hi (λ _. lo) (omega arith)
+    (units-fits binary64 false r k hi (lt-of-lt-of-le (shl-lt 54 k (omega arith)) (pow-mono {i = 54 + k} {j = 2098} (omega arith))))
 
 -- ---- `sqrtOf` at a finite value that is not 0
-no-zero : (u c a d : ℕ) → 0 * u * c ≡ a * d → 0 < a → 0 < d → ⊥
-no-zero u c a d h p q = omega (arith, mul-pos p q, ap (λ (z : ℕ). z * c) (zero-mul u), zero-mul c)
-
-pub sqrt-positive : (x : Float) (a : ℕ) → HasValue x false a (2 ^ 1074) → 0 < a → sqrtOf binary64 x ≡ roundRoot binary64 (a * 2 ^ 1074)
-unfolding sqrtOf
-sqrt-positive nan a h p = absurd h
-sqrt-positive (inf t) a h p = absurd h
-sqrt-positive (fin t zero e) a h p = absurd (no-zero (up e) (2 ^ 1074) a (down e) (h .1) p (down-pos e))
-sqrt-positive (fin true (suc m) e) a h p = absurd (true≢false (h .0))
-sqrt-positive (fin false (suc m) e) a h p = ap (λ (z : ℕ). roundRoot binary64 (z * 2 ^ 1074)) (whole-units binary64 (fin false (suc m) e) false a h)
+sqrt-positive : (x : Float) (a : ℕ) → HasValue x false a (2 ^ 1074) → 0 < a → sqrtOf binary64 x ≡ roundRoot binary64 (a * 2 ^ 1074)
+sqrt-positive x a h p = sqrt-is binary64 x (positive-of-value x a (2 ^ 1074) h p) ∙ rw (place-of binary64 x false a h)
 
 -- ---- the shift that normalises m
-module _ (m e : ℕ) (m-pos : 0 < m) (m-lt : m < 2 ^ 53) (e-lo : 1 ≤ e) (e-hi : e < 2047) where
+module _ {m e : ℕ} (pre : (0 < m) × (m < 2 ^ 53) × (1 ≤ e) × (e < 2047)) where
   abbrev z : ℕ
   z = leadingZeros 64 m
 
@@ -148,10 +123,10 @@ module _ (m e : ℕ) (m-pos : 0 < m) (m-lt : m < 2 ^ 53) (e-lo : 1 ≤ e) (e-hi 
   s = z - (e + 1 + z) % 2
 
   digits-of-m : (j : ℕ) × (z + suc j ≡ 64) × (2 ^ j ≤ m) × (m < 2 ^ suc j)
-  digits-of-m = leading-top 64 m m-pos (omega arith)
+  digits-of-m = leading-top 64 m (pre .0) (omega arith)
 
   j-lt : digits-of-m .0 < 53
-  j-lt = lt-of-not-le (λ (g : 53 ≤ digits-of-m .0). not-le-of-lt m-lt (le-trans (pow-mono g) (digits-of-m .2)))
+  j-lt = lt-of-not-le (λ (g : 53 ≤ digits-of-m .0). not-le-of-lt (pre .1) (le-trans (pow-mono g) (digits-of-m .2)))
 
   pub z-in : (11 ≤ z) × (z ≤ 63)
   z-in = let t = digits-of-m in omega (arith, j-lt)
@@ -165,20 +140,8 @@ module _ (m e : ℕ) (m-pos : 0 < m) (m-lt : m < 2 ^ 53) (e-lo : 1 ≤ e) (e-hi 
       let l : 62 ≤ t .0 + s = omega arith in
       le-trans (pow-mono l) (rw pow-add (mul-le-mul-right (2 ^ s) (t .2)))
 
-  a-hi : m * 2 ^ s + 2 ^ 11 ≤ 2 ^ 64
-  a-hi =
-      let t = digits-of-m in
-      let l : suc m * 2 ^ s ≤ 2 ^ (suc (t .0) + s) = rw (pow-add 2 (suc (t .0)) s) (mul-le-mul-right (2 ^ s) (t .3)) in
-      go (decLe ((e + 1 + z) % 2) 0) l
-    where
-      go : Dec ((e + 1 + z) % 2 ≤ 0) → suc m * 2 ^ s ≤ 2 ^ (suc (digits-of-m .0) + s) → m * 2 ^ s + 2 ^ 11 ≤ 2 ^ 64
-      go (yes y) l =
-          let i : 11 ≤ s = omega (arith, z-in) in
-          let k : suc (digits-of-m .0) + s ≡ 64 = omega (arith, digits-of-m .1) in
-          omega (arith, suc-mul m (2 ^ s), pow-mono i, ap (λ (x : ℕ). 2 ^ x) k)
-      go (no y) l =
-          let k : suc (digits-of-m .0) + s ≡ 63 = omega (arith, digits-of-m .1, z-in) in
-          omega (arith, suc-mul m (2 ^ s), ap (λ (x : ℕ). 2 ^ x) k)
+  a-hi : m * 2 ^ s < 2 ^ 64
+  a-hi = rw shl-is at (mod-lt (m * 2 ^ s) (pow-pos 64))
 
   abbrev h : ℕ
   h = (e + 1031 - s) / 2 - 1
@@ -195,7 +158,7 @@ module _ (m e : ℕ) (m-pos : 0 < m) (m-lt : m < 2 ^ 53) (e-lo : 1 ≤ e) (e-hi 
     root' : Root (m * 2 ^ s * 2 ^ 44) w
     root' = rw shl-is at root
 
-    pub root-in : (2 ^ 53 ≤ w) × (w < 2 ^ 54 - 1)
+    pub root-in : (2 ^ 53 ≤ w) × (w < 2 ^ 54)
     root-in = (w-lo (m * 2 ^ s) w h a-lo a-hi root', w-hi (m * 2 ^ s) w h a-lo a-hi root')
 
     pub made-no-nan : T (not (nanBits binary64 ((e + 1031 - s) / 2 * 2 ^ 52 + (w + 1) / 2)))

@@ -2,9 +2,10 @@
 -- radicand, l the digit after. Of u = 2 g h + ρ, h is the root's digit, or one more: then g B + h is above the root by less than 1. Assumes nothing.
 use mathlib.Core.Path.{_≡_, ap, sym, _∙_, subst}
 use mathlib.Core.Logic.{_⊎_, inl, inr}
-use Prim.Native.Nat.{ℕ, zero, suc, _+_, _-_, _*_, _/_, _%_, _^_, _≤_, _<_}
+use Prim.Native.Nat.{ℕ, suc, _+_, _-_, _*_, _/_, _%_, _^_, _≤_, _<_}
 use native.Mathlib.Nat.{mul-assoc, mul-comm, mul-left-comm, add-mul, mul-add, suc-mul, mul-le-mul, mul-le-mul-right, mod-lt, div-add-mod', div-lt-iff-lt-mul, le-div-iff-mul-le}
 use native.Mathlib.Omega.{arith}
+use lib.Ieee.Positive.{first-pos}
 use Rattle.elementary.proofs.Laws.Isqrt.{sq-lt, sq-suc}
 use Rattle.elementary.specs.Inside.Sqrt.{Root}
 
@@ -18,10 +19,6 @@ left-of g B = simp (add-mul, mul-assoc) (omega arith)
 next-square : (g B : ℕ) → suc g * suc g * B ≡ g * g * B + (2 * g + 1) * B
 next-square g B = ap (λ (z : ℕ). z * B) (sq-suc g) ∙ simp add-mul (omega arith)
 
-above-zero : (h : ℕ) → 0 < h * h → 0 < h
-above-zero zero p = omega arith
-above-zero (suc h) p = omega arith
-
 -- the first two digits of a root of 32
 pub first-digits : (a g : ℕ) → 2 ^ 62 ≤ a → a < 2 ^ 64 → ((9 * 2 ^ 60 ≤ a) × (g ≡ 3)) ⊎ ((a < 9 * 2 ^ 60) × (g ≡ 2))
     → Root (a / 2 ^ 56 / 4 / 4) g × (0 < 4) × (4 ≤ 2 * g) × (g < 2 ^ 16)
@@ -32,7 +29,7 @@ first-digits a g lo hi (inr (k, e)) = rw e (omega arith)
 pub root-range : (n g lo hi : ℕ) → Root n g → lo * lo ≤ n → n < hi * hi → (lo ≤ g) × (g < hi)
 root-range n g lo hi r a b = (omega (arith, sq-lt lo (suc g) (omega arith)), sq-lt g hi (omega arith))
 
-module _ (g u l B : ℕ) (pre : (g < 2 ^ 32) × (B ≤ 2 * g) × (B ≤ 2 ^ 22) × (l < B) × (u < (2 * g + 1) * B)) where
+module _ {g u l B : ℕ} (pre : (g < 2 ^ 32) × (B ≤ 2 * g) × (B ≤ 2 ^ 22) × (l < B) × (u < (2 * g + 1) * B)) where
   abbrev h : ℕ
   h = u / (2 * g)
 
@@ -71,17 +68,17 @@ module _ (g u l B : ℕ) (pre : (g < 2 ^ 32) × (B ≤ 2 * g) × (B ≤ 2 ^ 22) 
   root-here k = (omega (arith, whole), omega (arith, whole, rest-lt, sq-suc w))
 
   pub above-nothing : ρ * B + l < h * h → 1 ≤ w
-  above-nothing k = omega (arith, above-zero h (omega arith))
+  above-nothing k = omega (arith, first-pos h h (omega arith))
 
   pub root-below : ρ * B + l < h * h → Root n (w - 1)
   root-below k =
-      let p = above-zero h (omega arith) in
+      let p = first-pos h h (omega arith) in
       let e : suc (w - 1) ≡ w = omega arith in
       let s : w * w ≡ (w - 1) * (w - 1) + 2 * (w - 1) + 1 = sym (ap (λ (z : ℕ). z * z) e) ∙ sq-suc (w - 1) in
       (omega (arith, whole, square-le), omega (arith, whole, ap (λ (z : ℕ). z * z) e))
 
 -- ---- twice the digits
-module _ (n g B : ℕ) (pre : Root (n / B / B) g × (0 < B) × (B ≤ 2 * g) × (g < 2 ^ 16)) where
+module _ (n : ℕ) {g B : ℕ} (pre : Root (n / B / B) g × (0 < B) × (B ≤ 2 * g) × (g < 2 ^ 16)) where
   pub square-at-most : g * g * B ≤ n / B
   square-at-most = le-div-iff-mul-le (pre .1) .0 (pre .0 .0)
 

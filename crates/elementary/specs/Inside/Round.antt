@@ -26,10 +26,10 @@ pub record Any (a b x : ℕ) : Type 0 where
   pub right : x ≡ 0 → b ≡ 0
   pub none : a ≡ 0 → b ≡ 0 → x ≡ 0
 
--- x is 0 just where r is
-pub record SameZero (x r : ℕ) : Type 0 where
-  pub to : x ≡ 0 → r ≡ 0
-  pub from : r ≡ 0 → x ≡ 0
+-- x is 0 where r is, and 1 elsewhere
+pub record Flag (x r : ℕ) : Type 0 where
+  pub none : r ≡ 0 → x ≡ 0
+  pub some : 0 < r → x ≡ 1
 
 -- a number of two words
 abbrev pub wide : ℕ → ℕ → ℕ

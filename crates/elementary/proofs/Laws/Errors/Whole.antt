@@ -22,9 +22,9 @@ use Rattle.elementary.proofs.Laws.Bits.{no-nan-pattern}
 use Rattle.elementary.proofs.Laws.Values.{recast, revalue, value-mid, whole-value}
 use Rattle.elementary.proofs.Laws.Decode.{same-power}
 use Rattle.elementary.proofs.Laws.Adding.{sum-value, add-at, sub-at, neg-value}
-use Rattle.elementary.proofs.mul_add.Sums.{sum-same, sum-more}
+use Rattle.elementary.proofs.mul_add.Sums.{sum-same, sum-more, sum-comm}
 use Rattle.elementary.proofs.mul_add.Carry.{mul-lt}
-use Rattle.elementary.proofs.mul_add.Exactly.{sum-comm, fma-at}
+use Rattle.elementary.proofs.mul_add.Exactly.{fma-at}
 
 -- ---- differences of two fractions
 minus-more : (a b c : ℕ) → b ≤ a → sum binary64 false a true b c ≡ round binary64 false (a - b) c

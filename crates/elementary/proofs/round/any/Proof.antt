@@ -5,14 +5,7 @@ use Rattle.elementary.proofs.round.any.Statement.{statement}
 use Rattle.elementary.proofs.round.any.Tie as tie
 
 returns : tie.Need-returns
-returns c =
-    let a = c .args .a in
-    let b = c .args .b in
-    record {
-      left = λ z. omega (arith, or-add-and a b, and-le-l a b, and-le-r a b);
-      right = λ z. omega (arith, or-add-and a b, and-le-l a b, and-le-r a b);
-      none = λ y z. omega (arith, or-add-and a b);
-    }
+returns c = let a = c .args in omega (arith, or-add-and (a .a) (a .b), and-le-l (a .a) (a .b), and-le-r (a .a) (a .b))
 
 pub any-spec : {M : Type 1} → statement M
 any-spec = tie.close (tie.spec returns)

@@ -1,19 +1,12 @@
 -- `round::float_of_fields` meets its contract: the fields read back from the pattern (Fields). Assumes nothing.
-use Prim.Native.Nat.{ℕ, _+_, _*_, _%_, _^_, _<_}
 use native.Mathlib.Omega.{arith}
 use Rattle.elementary.proofs.Laws.Fields as fields
 use borrow.Author.Needs.{needs}
 use Rattle.elementary.proofs.round.float_of_fields.Statement.{statement}
 use Rattle.elementary.proofs.round.float_of_fields.Tie as tie
 
-sign-bit-requires : tie.Need-sign-bit-requires
-sign-bit-requires c κs = search needs
-
 add-result : tie.Need-add-result
-add-result c = record { fits = room (c .sign-bit .result + c .before .args .f * 2 ^ 52 % 2 ^ 64) (c .before .args .t) (fields.pattern-fits (c .before .args .neg) (c .before .args .f) (c .before .args .t) (c .sign-bit .result) (c .before .pre .1 .0) (c .before .pre .1 .1) (c .sign-bit .ensures)) }
-  where
-    room : (a t : ℕ) → a + t < 2 ^ 64 → a < 2 ^ 64
-    room a t h = omega arith
+add-result c = let a = c .before in omega (arith, fields.pattern-fits (a .args .neg) (a .args .f) (a .args .t) (c .sign-bit .result) (a .pre .1 .0) (a .pre .1 .1) (c .sign-bit .ensures))
 
 add-result-2 : tie.Need-add-result-2
 add-result-2 c = record { fits = fields.pattern-fits (c .before .args .neg) (c .before .args .f) (c .before .args .t) (c .sign-bit .result) (c .before .pre .1 .0) (c .before .pre .1 .1) (c .sign-bit .ensures) }
@@ -25,5 +18,4 @@ returns : tie.Need-returns
 returns c = fields.pattern-value (c .before .args .neg) (c .before .args .f) (c .before .args .t) (c .sign-bit .result) (c .before .pre .1 .0) (c .before .pre .1 .1) (c .sign-bit .ensures) (c .before .pre .0)
 
 pub float-of-fields-spec : {M : Type 1} → statement M
-float-of-fields-spec =
-    tie.close (tie.spec sign-bit-requires add-result add-result-2 float-from-bits-result returns)
+float-of-fields-spec = tie.close (tie.spec (λ c κs. search needs) add-result add-result-2 float-from-bits-result returns)

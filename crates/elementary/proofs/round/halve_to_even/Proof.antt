@@ -3,11 +3,5 @@ use borrow.Author.Needs.{needs}
 use Rattle.elementary.proofs.round.halve_to_even.Statement.{statement}
 use Rattle.elementary.proofs.round.halve_to_even.Tie as tie
 
-returns : tie.Need-returns
-returns c = search needs
-
-returns-2 : tie.Need-returns-2
-returns-2 c = search needs
-
 pub halve-to-even-spec : {M : Type 1} → statement M
-halve-to-even-spec = tie.close (tie.spec (λ c. search needs) (λ c. search needs) returns returns-2)
+halve-to-even-spec = tie.close (tie.spec (λ c. search needs) (λ c. search needs) (λ c. search needs) (λ c. search needs))

@@ -15,10 +15,10 @@ some : (hi lo : ℕ) → (hi ≡ 0 → ⊥) → 0 < wide hi lo
 some hi lo h = omega arith
 
 returns : tie.Need-returns
-returns c = ap (λ (z : ℕ). ltb 0 z) (low-word (c .before .args .hi) (c .before .args .lo) (c .if1 .taken))
+returns c = ap (ltb 0) (low-word _ _ (c .if1 .taken))
 
 returns-2 : tie.Need-returns-2
-returns-2 c = sym (lt-ltb 0 (wide (c .before .args .hi) (c .before .args .lo)) (some (c .before .args .hi) (c .before .args .lo) (c .if1 .left)))
+returns-2 c = sym (lt-ltb 0 _ (some _ _ (c .if1 .left)))
 
 pub is-nonzero-spec : {M : Type 1} → statement M
 is-nonzero-spec = tie.close (tie.spec returns returns-2)

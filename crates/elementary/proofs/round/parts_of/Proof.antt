@@ -17,15 +17,6 @@ x-fits c = subst T (sym (c .good .0 .1)) tt
 float-to-bits-b : tie.Need-float-to-bits-b
 float-to-bits-b c = decode.finite-no-nan (c .args .x) (c .pre)
 
-subnormal-parts-requires : tie.Need-subnormal-parts-requires
-subnormal-parts-requires c κs = search needs
-
-add-t9 : tie.Need-add-t9
-add-t9 c = search needs
-
-add-t10 : tie.Need-add-t10
-add-t10 c = search needs
-
 returns : tie.Need-returns
 returns c =
     let a = c .before .before in
@@ -36,5 +27,4 @@ returns-2 : tie.Need-returns-2
 returns-2 c = decode.normal-value (c .before .args .x) (x-fits (c .before)) (omega arith) (decode.finite-field (c .before .args .x) (x-fits (c .before)) (c .before .pre))
 
 pub parts-of-spec : {M : Type 1} → statement M
-parts-of-spec =
-    tie.close (tie.spec float-to-bits-b subnormal-parts-requires add-t9 add-t10 returns returns-2)
+parts-of-spec = tie.close (tie.spec float-to-bits-b (λ c κs. search needs) (λ c. search needs) (λ c. search needs) returns returns-2)

@@ -1,24 +1,12 @@
 -- `round::round_signed` meets its contract: a sign goes through the rounding (Sign). Assumes nothing.
-use mathlib.Core.Path.{ap, _∙_}
-use mathlib.Core.Bool.{cond}
-use lib.Ieee.{Float, binary64, neg}
+use lib.Ieee.{binary64}
 use Rattle.elementary.proofs.Laws.Sign as sign
 use borrow.Author.Needs.{needs}
 use Rattle.elementary.proofs.round.round_signed.Statement.{statement}
 use Rattle.elementary.proofs.round.round_signed.Tie as tie
 
-round-wide-requires : tie.Need-round-wide-requires
-round-wide-requires c κs = search needs
-
-apply-sign-requires : tie.Need-apply-sign-requires
-apply-sign-requires c κs = search needs
-
 returns : tie.Need-returns
-returns c num den D C =
-    let s = c .before .before .args .neg in
-    c .apply-sign .ensures
-    ∙ ap (λ (z : Float). cond s (neg z) z) (c .before .round-wide .ensures num den D C)
-    ∙ sign.with-sign binary64 s num den
+returns c num den D C = rw (c .apply-sign .ensures, c .before .round-wide .ensures num den D C) (sign.with-sign binary64 (c .before .before .args .neg) num den)
 
 pub round-signed-spec : {M : Type 1} → statement M
-round-signed-spec = tie.close (tie.spec round-wide-requires apply-sign-requires returns)
+round-signed-spec = tie.close (tie.spec (λ c κs. search needs) (λ c κs. search needs) returns)

@@ -1,14 +1,13 @@
 -- `round::round_to_nearest` meets its contract: the kept digits are half of one digit more, rounded with the flag (Leaf), and their pattern is the float (Pattern). Assumes nothing.
 use borrow.Author.Needs.{needs}
-use mathlib.Core.Path.{_≡_, refl, sym, ap, _∙_, subst}
+use mathlib.Core.Path.{_≡_, refl, sym, _∙_}
 use Prim.Native.Nat.{ℕ, _+_, _-_, _*_, _%_, _^_, _≤_, _<_}
-use native.Mathlib.Nat.{lt-of-lt-of-le, lt-of-le-of-lt}
+use native.Mathlib.Nat.{lt-of-lt-of-le}
 use native.Mathlib.Omega.{arith}
 use mathlib.Core.Bool.{false}
-use lib.Dec.{T, lit≤, lit<}
-use lib.Ieee.{Float, binary64, ofBits, fits}
+use lib.Dec.{lit≤}
+use lib.Ieee.{binary64, fits}
 use lib.Ieee.Fits.{round-fits}
-use Rattle.elementary.specs.Inside.Round.{Any, HalfToEven}
 use Rattle.elementary.proofs.Laws.Leaf as leaf
 use Rattle.elementary.proofs.Laws.Bits.{no-nan-pattern}
 use Rattle.elementary.proofs.Laws.Pattern as pattern
@@ -28,8 +27,8 @@ steps c = record {
   fits = start c .fits .m .fits;
   drop = c .before .before .before .before .before .drop-count .ensures;
   down = refl;
-  rest = subst (λ (z : ℕ). Any z (start c .args .x) (c .before .any .result)) (c .before .before .low-bits .ensures) (c .before .any .ensures);
-  half = subst (λ (z : ℕ). HalfToEven z (c .before .any .result) (c .halve-to-even .result)) (c .before .before .before .shift-right .ensures) (c .halve-to-even .ensures);
+  rest = rw (← c .before .before .low-bits .ensures) (c .before .any .ensures);
+  half = rw (← c .before .before .before .shift-right .ensures) (c .halve-to-even .ensures);
 }
 
 small : (c : tie.After-halve-to-even) → k-of c ≤ 2045
@@ -38,14 +37,8 @@ small c = omega arith
 shl-is : (k : ℕ) → k ≤ 2045 → k * 2 ^ 52 % 2 ^ 64 ≡ k * 2 ^ 52
 shl-is k h = omega arith
 
-under : (k q : ℕ) → k ≤ 2045 → q ≤ 2 ^ 53 → k * 2 ^ 52 % 2 ^ 64 + q ≤ 2047 * 2 ^ 52
-under k q h l = omega arith
-
-drop-count-requires : tie.Need-drop-count-requires
-drop-count-requires c κs = search needs
-
-float-from-bits-result : tie.Need-float-from-bits-result
-float-from-bits-result c = no-nan-pattern 0x7ff0_0000_0000_0000 (lit≤ tt)
+under : {k q : ℕ} → k ≤ 2045 → q ≤ 2 ^ 53 → let b = k * 2 ^ 52 % 2 ^ 64 + q in (b < 2 ^ 64) × (b % 2 ^ 63 ≤ 2047 * 2 ^ 52)
+under h l = omega arith
 
 returns : tie.Need-returns
 returns c num den D C =
@@ -55,60 +48,26 @@ returns c num den D C =
     let P : 0 < a .args .e + 11 - 1330 = omega arith in
     pattern.too-large (z .0) (a .args .e + 11 - 1330) K (leaf.kept-ge (z .1) P) ∙ sym (leaf.round-units (z .1) num den D C)
 
-add-d : tie.Need-add-d
-add-d c = search needs
-
-sub-d : tie.Need-sub-d
-sub-d c = search needs
-
-shift-right-requires : tie.Need-shift-right-requires
-shift-right-requires c κs = search needs
-
-low-bits-requires : tie.Need-low-bits-requires
-low-bits-requires c κs = search needs
-
-any-requires : tie.Need-any-requires
-any-requires c κs = search needs
-
 halve-to-even-requires : tie.Need-halve-to-even-requires
 halve-to-even-requires c κs =
     let a = c .before .before .before .before .before in
-    let k = c .before .before .before .before .drop-count .result in
-    let e : k ≡ a .args .e + 11 - 1330 = c .before .before .before .before .drop-count .ensures in
-    subst (λ (z : ℕ). z < 2 ^ 63) (sym (c .before .before .shift-right .ensures))
-    (lt-of-lt-of-le (leaf.half-below (a .args .m) (a .args .e) k (1329 + k - a .args .e) (a .fits .m .fits) e refl) (lit≤ tt))
-
-add-result : tie.Need-add-result
-add-result c = record { fits = lt-of-le-of-lt (under (k-of c) (c .halve-to-even .result) (small c) (leaf.kept-le (steps c))) (lit< tt) }
-
-float-from-bits-result-2 : tie.Need-float-from-bits-result-2
-float-from-bits-result-2 c = no-nan-pattern (k-of c * 2 ^ 52 % 2 ^ 64 + c .halve-to-even .result) (low (under (k-of c) (c .halve-to-even .result) (small c) (leaf.kept-le (steps c))))
-  where
-    low : {b : ℕ} → b ≤ 2047 * 2 ^ 52 → b % 2 ^ 63 ≤ 2047 * 2 ^ 52
-    low h = omega arith
+    let h = leaf.half-below (a .args .m) (a .args .e) _ _ (a .fits .m .fits) (c .before .before .before .before .drop-count .ensures) refl in
+    rw (c .before .before .shift-right .ensures) (lt-of-lt-of-le h (lit≤ tt))
 
 returns-2 : tie.Need-returns-2
 returns-2 c num den D C =
     let S = steps c in
-    let q = c .halve-to-even .result in
     let e = leaf.round-units S num den D C in
-    ap (λ (z : ℕ). ofBits binary64 (z + q)) (shl-is (k-of c) (small c))
-    ∙ pattern.units-pattern q (k-of c) (leaf.kept-le S) (leaf.kept-ge S) (small c) (subst (λ (z : Float). T (fits binary64 z)) e (round-fits binary64 false num den))
-    ∙ sym e
+    rw (shl-is (k-of c) (small c))
+    (pattern.units-pattern _ (k-of c) (leaf.kept-le S) (leaf.kept-ge S) (small c) (rw e at (round-fits binary64 false num den)) ∙ sym e)
 
 pub round-to-nearest-spec : {M : Type 1} → statement M
 round-to-nearest-spec =
     tie.close
-    (tie.spec
-    drop-count-requires
-    float-from-bits-result
-    returns
-    add-d
-    sub-d
-    shift-right-requires
-    low-bits-requires
-    any-requires
+    (tie.spec (λ c κs. search needs)
+    (λ c. no-nan-pattern 0x7ff0_0000_0000_0000 (lit≤ tt))
+    returns (λ c. search needs) (λ c. search needs) (λ c κs. search needs) (λ c κs. search needs) (λ c κs. search needs)
     halve-to-even-requires
-    add-result
-    float-from-bits-result-2
+    (λ c. record { fits = under (small c) (leaf.kept-le (steps c)) .0 })
+    (λ c. no-nan-pattern _ (under (small c) (leaf.kept-le (steps c)) .1))
     returns-2)

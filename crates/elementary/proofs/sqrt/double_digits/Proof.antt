@@ -5,26 +5,13 @@ use Rattle.elementary.proofs.sqrt.Steps.{square-at-most, products, exte
 use Rattle.elementary.proofs.sqrt.double_digits.Statement.{statement}
 use Rattle.elementary.proofs.sqrt.double_digits.Tie as tie
 
-div-extend : tie.Need-div-extend
-div-extend c = search needs
-
-mul-extend : tie.Need-mul-extend
-mul-extend c = omega (arith, products (c .args .n) (c .args .g) (c .args .base) (c .pre))
-
-mul-extend-2 : tie.Need-mul-extend-2
-mul-extend-2 c = omega (arith, products (c .args .n) (c .args .g) (c .args .base) (c .pre))
-
-sub-extend : tie.Need-sub-extend
-sub-extend c = square-at-most (c .args .n) (c .args .g) (c .args .base) (c .pre)
-
-rem-extend : tie.Need-rem-extend
-rem-extend c = search needs
-
-extend-requires : tie.Need-extend-requires
-extend-requires c κs = extend-ready (c .args .n) (c .args .g) (c .args .base) (c .pre)
-
-returns : tie.Need-returns
-returns c = root-of (c .before .args .n) (c .before .args .g) (c .before .args .base) (c .before .pre) (c .extend .result) (c .extend .ensures)
-
 pub double-digits-spec : {M : Type 1} → statement M
-double-digits-spec = tie.close (tie.spec div-extend mul-extend mul-extend-2 sub-extend rem-extend extend-requires returns)
+double-digits-spec =
+    tie.close
+    (tie.spec (λ c. search needs)
+    (λ c. omega (arith, products (c .args .n) (c .pre)))
+    (λ c. omega (arith, products (c .args .n) (c .pre)))
+    (λ c. square-at-most (c .args .n) (c .pre))
+    (λ c. search needs)
+    (λ c κs. extend-ready (c .args .n) (c .pre))
+    (λ c. root-of (c .before .args .n) (c .before .pre) (c .extend .result) (c .extend .ensures)))

@@ -22,12 +22,6 @@ double-digits-requires-3 c κs = let z = root-range _ (c .double-digits2 .result
 double-digits-requires-4 : tie.Need-double-digits-requires-4
 double-digits-requires-4 c κs = let z = root-range _ (c .double-digits3 .result) (2 ^ 15) (2 ^ 16) (c .double-digits3 .ensures) (omega arith) (omega arith) in omega arith
 
-mul-extend : tie.Need-mul-extend
-mul-extend c = search needs
-
-sub-extend : tie.Need-sub-extend
-sub-extend c = search needs
-
 mul-extend-2 : tie.Need-mul-extend-2
 mul-extend-2 c =
     let z = root-range _ (c .double-digits4 .result) (2 ^ 31) (2 ^ 32) (c .double-digits4 .ensures) (omega arith) (omega arith) in
@@ -38,19 +32,8 @@ extend-requires c κs =
     let z = root-range _ (c .double-digits4 .result) (2 ^ 31) (2 ^ 32) (c .double-digits4 .ensures) (omega arith) (omega arith) in
     omega (arith, sq-suc (c .double-digits4 .result))
 
-returns : tie.Need-returns
-returns c = search needs
-
 pub root-digits-spec : {M : Type 1} → statement M
 root-digits-spec =
     tie.close
-    (tie.spec
-    double-digits-requires
-    double-digits-requires-2
-    double-digits-requires-3
-    double-digits-requires-4
-    mul-extend
-    sub-extend
-    mul-extend-2
-    extend-requires
-    returns)
+    (tie.spec double-digits-requires double-digits-requires-2 double-digits-requires-3 double-digits-requires-4 (λ c. search needs)
+    (λ c. search needs) mul-extend-2 extend-requires (λ c. search needs))

@@ -1,7 +1,7 @@
 -- `sqrt` meets its contract. Whether x is above 0, a zero or neither is read off the float; above 0, its bits say the rest. Assumes nothing.
 use mathlib.Core.Path.{_≡_, refl, sym, ap, _∙_, subst}
-use mathlib.Core.Bool.{Bool, true, false, Bool·beq, _&&_, _||_, true≢false}
-use Prim.Native.Nat.{ℕ, zero, suc, _*_, _^_, _≤_, _<_}
+use mathlib.Core.Bool.{true, false, Bool·beq, _||_, true≢false}
+use Prim.Native.Nat.{zero, suc, _*_, _^_, _≤_, _<_}
 use native.Mathlib.Nat.{lt-of-not-le, mul-pos, zero-mul}
 use native.Mathlib.Omega.{arith}
 use lib.Dec.{T, eqb, eqb→eq, lt→ltb}
@@ -24,16 +24,14 @@ above (inf false) h = refl
 above (fin true m e) h = cc
 above (fin false m e) h = refl
 
-equal : (a b : ℕ) (r : Bool) → (eqb a b && r) ≡ true → a ≡ b
-equal a b r h = eqb→eq a b (and-l (eqb a b) r (rw h tt))
-
 root-zero : (x : Float) → eq x (ofBits binary64 0) ≡ true → x ≡ sqrtOf binary64 x
 unfolding eq ofBits sqrtOf
 root-zero nan h = refl
 root-zero (inf s) h = cc
 root-zero (fin s zero e) h = refl
 root-zero (fin s (suc m) e) h =
-    let z = equal (suc m * up e * 1) (0 * down e) (Bool·beq s false || eqb (suc m * up e * 1) 0) h in
+    let a = suc m * up e * 1 in
+    let z = eqb→eq a (0 * down e) (and-l (eqb a (0 * down e)) (Bool·beq s false || eqb a 0) (rw h tt)) in
     absurd (omega (arith, mul-pos {m = suc m} (omega arith) (up-pos e)))
 
 root-none : (x : Float) → lt (ofBits binary64 0) x ≡ false → eq x (ofBits binary64 0) ≡ false → sqrtOf binary64 x ≡ nan
@@ -45,9 +43,6 @@ root-none (fin true zero e) h g = let z = rw (zero-mul (up e), zero-mul (down e)
 root-none (fin false zero e) h g = let z = rw (zero-mul (up e), zero-mul (down e)) at g in cc
 root-none (fin true (suc m) e) h g = refl
 root-none (fin false (suc m) e) h g = absurd (subst T h (lt→ltb (0 * down e) (suc m * up e * 1) (omega (arith, mul-pos {m = suc m} (omega arith) (up-pos e)))))
-
-float-to-bits-b : tie.Need-float-to-bits-b
-float-to-bits-b c = no-nan (c .before .args .x) (lt-ordered (ofBits binary64 0) (c .before .args .x) (c .if1 .taken) .1)
 
 module _ (x : Float) (f : T (fits binary64 x)) (h : lt (ofBits binary64 0) x ≡ true) where
   back : ofBits binary64 (toBits binary64 x) ≡ x
@@ -66,9 +61,6 @@ module _ (x : Float) (f : T (fits binary64 x)) (h : lt (ofBits binary64 0) x ≡
 x-fits : (c : tie.Start) → T (fits binary64 (c .args .x))
 x-fits c = rw (c .good .0 .1) tt
 
-sqrt-of-positive-requires : tie.Need-sqrt-of-positive-requires
-sqrt-of-positive-requires c κs = (bits-pos (c .before .before .args .x) (x-fits (c .before .before)) (c .before .if1 .taken), c .if2 .taken)
-
 returns : tie.Need-returns
 returns c = c .sqrt-of-positive .ensures ∙ ap (sqrtOf binary64) (ofBits-toBits binary64 (c .before .before .before .args .x) (x-fits (c .before .before .before)))
 
@@ -86,4 +78,8 @@ returns-4 c = nan-quotient ∙ sym (root-none (c .before .before .args .x) (c .b
 
 pub sqrt-spec : {M : Type 1} → statement M
 sqrt-spec =
-    tie.close (tie.spec float-to-bits-b sqrt-of-positive-requires returns returns-2 returns-3 returns-4)
+    tie.close
+    (tie.spec
+    (λ c. no-nan (c .before .args .x) (lt-ordered (ofBits binary64 0) (c .before .args .x) (c .if1 .taken) .1))
+    (λ c κs. (bits-pos (c .before .before .args .x) (x-fits (c .before .before)) (c .before .if1 .taken), c .if2 .taken))
+    returns returns-2 returns-3 returns-4)

@@ -6,20 +6,11 @@ use borrow.Author.Needs.{needs}
 use Rattle.elementary.proofs.sqrt.sqrt_of_positive.Statement.{statement}
 use Rattle.elementary.proofs.sqrt.sqrt_of_positive.Tie as tie
 
-root-of-significand-requires : tie.Need-root-of-significand-requires
-root-of-significand-requires c κs = search needs
-
 returns : tie.Need-returns
 returns c = c .root-of-significand .ensures ∙ sym (root-low (c .before .before .args .b) (omega arith) (c .before .before .pre .0) (omega arith))
-
-add-root-of-significand : tie.Need-add-root-of-significand
-add-root-of-significand c = search needs
-
-root-of-significand-requires-2 : tie.Need-root-of-significand-requires-2
-root-of-significand-requires-2 c κs = search needs
 
 returns-2 : tie.Need-returns-2
 returns-2 c = c .root-of-significand2 .ensures ∙ sym (root-mid (c .before .before .args .b) (omega arith) (omega (arith, c .before .if1 .left)) (omega arith))
 
 pub sqrt-of-positive-spec : {M : Type 1} → statement M
-sqrt-of-positive-spec = tie.close (tie.spec root-of-significand-requires returns add-root-of-significand root-of-significand-requires-2 returns-2)
+sqrt-of-positive-spec = tie.close (tie.spec (λ c κs. search needs) returns (λ c. search needs) (λ c κs. search needs) returns-2)
