@@ -21,7 +21,7 @@ from-below a b n m S h = elim (decLe (a + m) (n + b)) [
 
 none : (n m : ℕ) → near (n - m) ≡ near (m - n) → n ≡ m
 none n m e = elim (decLe 1 (dist n m)) [
-  | yes h ↦ absurd (omega (arith, near-mono 1 (dist n m) h, near-exact 1 (record { unit = 0; mult = (1, refl); top = pow-pos 53 }), near-dist n m))
+  | yes h ↦ absurd (omega (arith, near-mono 1 (dist n m) h, near-exact 1 (record { unit = 0; mult = (1, refl); top = pow-pos 53 }), near-dist n m .0))
   | no h ↦ omega arith
 ]
 

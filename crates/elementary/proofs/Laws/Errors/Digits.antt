@@ -6,7 +6,7 @@ use native.Mathlib.Decide.{decLe}
 use native.Mathlib.Omega.{arith}
 use lib.Pow.{pow-add, pow-pos, pow-mono, shr-lt}
 use lib.Ieee.{size, nearest}
-use lib.Ieee.Digits.{size-lt, size-le, size-reaches}
+use lib.Ieee.Digits.{size-lt, size-reaches}
 use lib.Ieee.Fits.{nearest-le}
 use lib.Ieee.Nearest.{closest}
 use Rattle.elementary.proofs.Laws.Ordering.{Cmp, cmp}
@@ -136,11 +136,14 @@ near-mono a b h = elim (decLe (near a) (near b)) [
     mid : (p q x : ℕ) → q < p → (dist p x ≤ dist q x → p + q ≤ x * 2) × (dist q x ≤ dist p x → x * 2 ≤ p + q)
     mid p q x l = omega arith
 
--- a multiple of a power stays one
+-- a multiple of a power stays one, and stays itself where it has no digits below 53
+pub near-whole : (n j : ℕ) → Mult n j → ex n ≤ j → near n ≡ n
+near-whole n j m h = near-exact n (record { unit = j; mult = m; top = le-trans (le-of-lt (ex-lt n)) (pow-mono {i = 53 + ex n} {j = 53 + j} (omega arith)) })
+
 pub near-keeps : (n j : ℕ) → Mult n j → Mult (near n) j
 near-keeps n j m = elim (decLe j (ex n)) [
   | yes h ↦ mult-down (near n) j (ex n) h (near-mult n)
-  | no h ↦ subst (λ (z : ℕ). Mult z j) (sym (near-exact n (record { unit = j; mult = m; top = le-trans (le-of-lt (ex-lt n)) (pow-mono {i = 53 + ex n} {j = 53 + j} (omega arith)) }))) m
+  | no h ↦ subst (λ (z : ℕ). Mult z j) (sym (near-whole n j m (omega arith))) m
 ]
 
 -- ---- differences: n - m rounded, and m - n, of which one is 0
@@ -150,21 +153,15 @@ short-zero = record { unit = 0; mult = (0, refl); top = le-of-lt (pow-pos 53) }
 pub near-sides : (n m d : ℕ) → n + d ≡ m → (near (n - m) ≡ 0) × (near (m - n) ≡ near d)
 near-sides n m d e = (ap near (omega arith) ∙ near-exact 0 short-zero, ap near (omega arith))
 
-pub near-dist : (n m : ℕ) → dist (near (n - m)) (near (m - n)) ≡ near (dist n m)
+-- the size of what is rounded, and of what rounding takes off
+pub near-dist : (n m : ℕ) → (dist (near (n - m)) (near (m - n)) ≡ near (dist n m)) × (dist (near (n - m) + m) (near (m - n) + n) ≡ dist (near (dist n m)) (dist n m))
 near-dist n m = elim (decLe n m) [
   | yes h ↦ let z = near-sides n m (dist n m) (omega arith) in omega arith
   | no h ↦ let z = near-sides m n (dist n m) (omega arith) in omega arith
 ]
 
 pub near-dist-short : (n m : ℕ) → Short (dist (near (n - m)) (near (m - n)))
-near-dist-short n m = subst Short (sym (near-dist n m)) (near-short (dist n m))
-
--- what rounding takes off
-pub off-dist : (n m : ℕ) → dist (near (n - m) + m) (near (m - n) + n) ≡ dist (near (dist n m)) (dist n m)
-off-dist n m = elim (decLe n m) [
-  | yes h ↦ let z = near-sides n m (dist n m) (omega arith) in omega arith
-  | no h ↦ let z = near-sides m n (dist n m) (omega arith) in omega arith
-]
+near-dist-short n m = subst Short (sym (near-dist n m .0)) (near-short (dist n m))
 
 pub near-part : (n m : ℕ) → Short (dist n m) → near (n - m) ≡ n - m
 near-part n m S = elim (decLe n m) [

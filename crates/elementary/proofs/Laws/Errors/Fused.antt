@@ -3,11 +3,11 @@ use mathlib.Core.Path.{_≡_, refl, sym, ap, _∙_, subst}
 use mathlib.Core.Logic.{inl, inr}
 use mathlib.Core.Bool.{Bool, true, false, cond}
 use Prim.Native.Nat.{ℕ, _+_, _-_, _*_, _/_, _%_, _^_, _≤_, _<_}
-use native.Mathlib.Nat.{le-trans, le-of-eq, le-of-lt, lt-of-le-of-lt, eq-zero-or-pos, add-comm, add-mul, one-mul, mul-le-mul-right, le-of-mul-le-mul-right}
+use native.Mathlib.Nat.{le-trans, le-of-eq, le-of-lt, lt-of-le-of-lt, eq-zero-or-pos, add-comm, mul-le-mul-right, le-of-mul-le-mul-right}
 use native.Mathlib.Decide.{decLe}
 use native.Mathlib.Omega.{arith}
 use lib.Dec.{T}
-use lib.Pow.{pow-add, pow-pos, pow-mono}
+use lib.Pow.{pow-add, pow-pos}
 use lib.Ieee.{Float, nan, inf, fin, binary64, add, fits, ofBits, toBits, lt}
 use lib.Ieee.Fits.{add-fits, mul-fits, round-fits}
 use lib.Ieee.Exact.{HasValue}
@@ -23,7 +23,7 @@ use Rattle.elementary.proofs.Laws.Compare.{le-of-not-lt}
 use Rattle.elementary.proofs.Laws.Values.{add-sign, value-of-pattern}
 use Rattle.elementary.proofs.Laws.Decode.{finite-field}
 use Rattle.elementary.proofs.Laws.Errors.Digits.{dist, same-dist, Short, turned, short-times, short-twice, near, near-dist-short}
-use Rattle.elementary.proofs.Laws.Errors.Pairs.{bound, in-bound, Signed, signed-size, Is, widen, NearPair, dist-add, add-exact, sub-exact, add-near, near-is, signed-by}
+use Rattle.elementary.proofs.Laws.Errors.Pairs.{bound, in-bound, Signed, signed-size, Is, NearPair, dist-add, add-exact, sub-exact, add-near, near-is, signed-by}
 use Rattle.elementary.proofs.Laws.Errors.TwoSum as two-sum
 use Rattle.elementary.proofs.Laws.Errors.TwoProduct as two-product
 use Rattle.elementary.proofs.Laws.Errors.TwoProduct.{Factor}
@@ -98,12 +98,19 @@ alone s v = add-comm (cond s 0 v) (cond s v 0)
 alone-short : (s : Bool) (v i : ℕ) → v ≤ 2 ^ 53 → Short (dist (cond s 0 v * 2 ^ i) (cond s v 0 * 2 ^ i))
 alone-short s v i h = short-times (cond s 0 v) (cond s v 0) i (le-trans (le-of-eq (sym (signed-size s (cond s 0 v) (cond s v 0) v (alone s v)))) h)
 
+in-range : {x : Float} (S : Spelled x) → InRange x → (2 ^ 52 ≤ S .q) × (767 ≤ S .k) × (S .k ≤ 1278) × (S .q < 2 ^ 53)
+in-range S R =
+    let l : 767 ≤ S .k = omega (arith, S .pattern, S .room, S .top, R .low) in
+    let h = S .full (omega arith) in
+    (h, l, omega (arith, S .pattern, S .room, R .high), S .top)
+
 -- a factor of which `high` is h * 2 ^ 27 and the rest l - l'
 abbrev Cut : Float → Float → ℕ → ℕ → Type 0
 Cut x high i t = (h : ℕ) × (h' : ℕ) × (l : ℕ) × (l' : ℕ) × Factor x high i h h' l l' t
 
-factor : {x : Float} (S : Spelled x) (high : Float) (h l l' t : ℕ) → S .q + l' ≡ h * 2 ^ 27 + l → h ≤ 2 ^ 26 → dist l l' ≤ 2 ^ t → 2 ^ 52 ≤ S .q → S .k ≤ 1278 → HasValue high (S .neg) (h * 2 ^ 27 * 2 ^ S .k) (2 ^ 1074) → Cut x high (S .k) t
-factor S high h l l' t e H L lead room v =
+factor : {x : Float} (S : Spelled x) → InRange x → (high : Float) (h l l' t : ℕ) → S .q + l' ≡ h * 2 ^ 27 + l → h ≤ 2 ^ 26 → dist l l' ≤ 2 ^ t → HasValue high (S .neg) (h * 2 ^ 27 * 2 ^ S .k) (2 ^ 1074) → Cut x high (S .k) t
+factor S R high h l l' t e H L v =
+    let r = in-range S R in
     let s = S .neg in
     let a = cond s 0 h * 2 ^ 27 + cond s l' l in
     let b = cond s h 0 * 2 ^ 27 + cond s l l' in
@@ -117,7 +124,7 @@ factor S high h l l' t e H L lead room v =
         high = unit-is s (cond s 0 h * 2 ^ 27) (cond s h 0 * 2 ^ 27) (h * 2 ^ 27) (S .k) 1 v (g .1) (in-bound (h * 2 ^ 27) 53 (S .k) (omega arith) (omega arith));
         h-top = g .2;
         l-top = g .3;
-        from = le-trans lead (le-of-eq (signed-size s a b (S .q) (g .0)));
+        from = le-trans (r .0) (le-of-eq (signed-size s a b (S .q) (g .0)));
         to = lt-of-le-of-lt (le-of-eq (sym (signed-size s a b (S .q) (g .0)))) (S .top);
       },
     )
@@ -128,7 +135,7 @@ factor S high h l l' t e H L lead room v =
 
 -- ---- p and e are a product x - x', c is added, f is the rounded sum
 module _ {p e c f : Float} (x x' k k' : ℕ) (P : Is p (near (x - x')) (near (x' - x)) 1) (E : Is e (x + near (x' - x)) (x' + near (x - x')) 5) (C : Is c k k' 1) (K : Short (dist k k'))
-    (FF : T (fits binary64 f)) (G : NearPair f (x + k) (x' + k')) (small : dist (x + k) (x' + k') ≤ 2 ^ 2 * bound) where
+    (small : dist x x' ≤ 1 * bound) (G : NearPair f (x + k) (x' + k')) where
   abbrev s : Float
   s = add binary64 p c
 
@@ -168,14 +175,17 @@ module _ {p e c f : Float} (x x' k k' : ℕ) (P : Is p (near (x - x')) (near (x'
     w-is = add-near T-is E n m (omega arith) 5 (omega arith) (omega arith)
 
     -- a float below and one above that give the same sum
-    pinned : {lo hi : Float} (a a' b b' : ℕ) → Is lo a a' 128 → Is hi b b' 128 → Short (dist a a') → Short (dist b b') → a + u' < u + a' → u + b' < b + u' → add binary64 s lo ≡ add binary64 s hi → add binary64 s w ≡ f
+    pinned : {lo hi : Float} (a a' b b' : ℕ) → Is lo a a' 128 → Is hi b b' 128 → Short (dist a a') → Short (dist b b') → a + u' < u + a' → u + b' < b + u' → toBits binary64 (add binary64 s lo) ≡ toBits binary64 (add binary64 s hi) → add binary64 s w ≡ f
     pinned {lo} {hi} a a' b b' L H SL SH under over same =
+        let equal = same-bits (add binary64 s lo) (add binary64 s hi) (add-fits binary64 s lo) (add-fits binary64 s hi) same in
         let low = add-near s-is L (q + a) (q' + a') refl 8 (omega arith) (omega arith) in
-        let high = rw (← same) at (add-near s-is H (q + b) (q' + b') refl 8 (omega arith) (omega arith)) in
+        let high = rw (← equal) at (add-near s-is H (q + b) (q' + b') refl 8 (omega arith) (omega arith)) in
+        let F : T (fits binary64 f) = rw (G .is) (round-fits binary64 (G .neg) (G .size) (2 ^ 1074)) in
+        let whole = near-is G 2 (le-trans (dist-add x x' k k' (x + k) (x' + k') refl) (omega (arith, C .small))) (omega arith) in
         let below = from-below a a' n m SL under in
         let above = from-below b' b m n (turned b b' b' b (omega arith) SH) (omega arith) in
         sym (between (q + u) (q' + u') (q + a) (q' + a') (q + b) (q' + b') (add-fits binary64 s lo) (add-fits binary64 s w) low high (add-near s-is w-is (q + u) (q' + u') refl 8 (omega arith) (omega arith)) (omega arith) (omega arith) (omega arith))
-        ∙ between (x + k) (x' + k') (q + a) (q' + a') (q + b) (q' + b') (add-fits binary64 s lo) FF low high (near-is G 2 small (omega arith)) (omega arith) (omega arith) (omega arith)
+        ∙ between (x + k) (x' + k') (q + a) (q' + a') (q + b) (q' + b') (add-fits binary64 s lo) F low high whole (omega arith) (omega arith) (omega arith)
 
     -- ---- the two floats beside w
     S : Spelled w
@@ -200,11 +210,11 @@ module _ {p e c f : Float} (x x' k k' : ℕ) (P : Is p (near (x - x')) (near (x'
     abbrev o' : ℕ
     o' = cond (S .neg) (S .q + 1) 0 * 2 ^ S .k
 
-    out-is : Is (outward w) o o' 64
-    out-is =
-        unit-is (S .neg) (cond (S .neg) 0 (S .q + 1)) (cond (S .neg) (S .q + 1) 0) (S .q + 1) (S .k) 64
+    out-is : (j : ℕ) → 33 ≤ j → Is (outward w) o o' j
+    out-is j h =
+        unit-is (S .neg) (cond (S .neg) 0 (S .q + 1)) (cond (S .neg) (S .q + 1) 0) (S .q + 1) (S .k) j
         (written S (toBits binary64 w + 1) (S .q + 1) (omega (arith, S .pattern)) (λ z. omega (arith, S .full z)) (omega (arith, S .top)) (omega (arith, S .top, room))) (alone (S .neg) (S .q + 1))
-        (omega (arith, size-small, in-bound 1 0 (S .k) (omega arith) (omega (arith, room))))
+        (le-trans (omega (arith, size-small, in-bound 1 0 (S .k) (omega arith) (omega (arith, room)))) (mul-le-mul-right bound h))
 
     out-pair : Signed (S .neg) o o' ((S .q + 1) * 2 ^ S .k)
     out-pair = times (S .neg) (cond (S .neg) 0 (S .q + 1)) (cond (S .neg) (S .q + 1) 0) (S .q + 1) (2 ^ S .k) (alone (S .neg) (S .q + 1))
@@ -223,20 +233,14 @@ module _ {p e c f : Float} (x x' k k' : ℕ) (P : Is p (near (x - x')) (near (x'
         go true e h = turned size (1 * 2 ^ S .k) (u + u + o') (u' + u' + o) (omega arith) one
 
     in-is : Is (inward w) (u + u + o') (u' + u' + o) 128
-    in-is = sub-exact (add-exact w-is w-is (u + u) (u' + u') refl (short-twice u u' (near-dist-short n m)) (omega arith)) out-is (u + u + o') (u' + u' + o) refl in-short (omega arith)
+    in-is = sub-exact (add-exact w-is w-is (u + u) (u' + u') refl (short-twice u u' (near-dist-short n m)) (omega arith)) (out-is 64 (omega arith)) (u + u + o') (u' + u' + o) refl in-short (omega arith)
 
     certain-sum : Certain s w → add binary64 s w ≡ f
     certain-sum same = go (S .neg) (pair-is S w-is) out-pair
       where
-        wide : Is (outward w) o o' 128
-        wide = widen 128 (omega arith) out-is
-
-        equal : add binary64 s (inward w) ≡ add binary64 s (outward w)
-        equal = same-bits (add binary64 s (inward w)) (add binary64 s (outward w)) (add-fits binary64 s (inward w)) (add-fits binary64 s (outward w)) same
-
         go : (g : Bool) → Signed g u u' size → Signed g o o' ((S .q + 1) * 2 ^ S .k) → add binary64 s w ≡ f
-        go false e h = pinned (u + u + o') (u' + u' + o) o o' in-is wide in-short out-short (omega (arith, pow-pos (S .k))) (omega (arith, pow-pos (S .k))) equal
-        go true e h = pinned o o' (u + u + o') (u' + u' + o) wide in-is out-short in-short (omega (arith, pow-pos (S .k))) (omega (arith, pow-pos (S .k))) (sym equal)
+        go false e h = pinned (u + u + o') (u' + u' + o) o o' in-is (out-is 128 (omega arith)) in-short out-short (omega (arith, pow-pos (S .k))) (omega (arith, pow-pos (S .k))) same
+        go true e h = pinned o o' (u + u + o') (u' + u' + o) (out-is 128 (omega arith)) in-is out-short in-short (omega (arith, pow-pos (S .k))) (omega (arith, pow-pos (S .k))) (sym same)
 
   by-knuth : Certain s (sumError p c ⊕ e) → s ⊕ (sumError p c ⊕ e) ≡ f
   by-knuth same = certain-sum (two-sum.error-is P C (near-dist-short x x') K) same
@@ -245,12 +249,6 @@ module _ {p e c f : Float} (x x' k k' : ℕ) (P : Is p (near (x - x')) (near (x'
   by-dekker h same = certain-sum (two-sum.ordered-error-is P C (near-dist-short x x') K h) same
 
 -- ---- the operands
-in-range : {x : Float} (S : Spelled x) → InRange x → (2 ^ 52 ≤ S .q) × (767 ≤ S .k) × (S .k ≤ 1278)
-in-range S R =
-    let l : 767 ≤ S .k = omega (arith, S .pattern, S .room, S .top, R .low) in
-    let h = S .full (omega arith) in
-    (h, l, omega (arith, S .pattern, S .room, R .high))
-
 module _ (x y z : Float) (FX : T (fits binary64 x)) (FY : T (fits binary64 y)) (FZ : T (fits binary64 z)) (RX : InRange x) (RY : InRange y) (small : toBits binary64 z % 2 ^ 63 < 0x7e00_0000_0000_0000) where
   X : Spelled x
   X = spell x FX (omega (arith, RX .high))
@@ -265,15 +263,13 @@ module _ (x y z : Float) (FX : T (fits binary64 x)) (FY : T (fits binary64 y)) (
   XF =
       let h = (X .q + 2 ^ 26) / 2 ^ 27 in
       let r = in-range X RX in
-      let t = X .top in
-      factor X (roundedHigh x) h (X .q - h * 2 ^ 27) (h * 2 ^ 27 - X .q) 26 (omega arith) (omega arith) (omega arith) (r .0) (r .2) (written X ((toBits binary64 x + 2 ^ 26) / 2 ^ 27 * 2 ^ 27) (h * 2 ^ 27) (omega (arith, X .pattern)) (λ _. omega arith) (omega arith) (omega arith))
+      factor X RX (roundedHigh x) h (X .q - h * 2 ^ 27) (h * 2 ^ 27 - X .q) 26 (omega arith) (omega arith) (omega arith) (written X ((toBits binary64 x + 2 ^ 26) / 2 ^ 27 * 2 ^ 27) (h * 2 ^ 27) (omega (arith, X .pattern)) (λ _. omega arith) (omega arith) (omega arith))
 
   YF : Cut y (cutHigh y) (Y .k) 27
   YF =
       let h = Y .q / 2 ^ 27 in
       let r = in-range Y RY in
-      let t = Y .top in
-      factor Y (cutHigh y) h (Y .q % 2 ^ 27) 0 27 (omega arith) (omega arith) (omega arith) (r .0) (r .2) (written Y (toBits binary64 y - toBits binary64 y % 2 ^ 27) (h * 2 ^ 27) (omega (arith, Y .pattern)) (λ _. omega arith) (omega arith) (omega arith))
+      factor Y RY (cutHigh y) h (Y .q % 2 ^ 27) 0 27 (omega arith) (omega arith) (omega arith) (written Y (toBits binary64 y - toBits binary64 y % 2 ^ 27) (h * 2 ^ 27) (omega (arith, Y .pattern)) (λ _. omega arith) (omega arith) (omega arith))
 
   abbrev unit : ℕ
   unit = X .k + Y .k - 1074
@@ -311,17 +307,11 @@ module _ (x y z : Float) (FX : T (fits binary64 x)) (FY : T (fits binary64 y)) (
   f-is : NearPair (fma binary64 x y z) (xy + k) (xy' + k')
   f-is = two-product.fused unit E G (XF .4) (YF .4) z-is
 
-  f-fits : T (fits binary64 (fma binary64 x y z))
-  f-fits = subst (λ (w : Float). T (fits binary64 w)) (sym (f-is .is)) (round-fits binary64 (f-is .neg) (f-is .size) (2 ^ 1074))
-
-  f-small : dist (xy + k) (xy' + k') ≤ 2 ^ 2 * bound
-  f-small = go xy xy' k k' (two-product.z-bound unit E G (XF .4) (YF .4)) (z-is .small)
-    where
-      go : (n m k k' : ℕ) → dist n m ≤ 1 * bound → dist k k' ≤ 1 * bound → dist (n + k) (m + k') ≤ 2 ^ 2 * bound
-      go n m k k' h g = le-trans (dist-add n m k k' (n + k) (m + k') refl) (omega arith)
+  small-product : dist xy xy' ≤ 1 * bound
+  small-product = two-product.z-bound unit E G (XF .4) (YF .4)
 
   pub fused-is : Certain (x ⊗ y ⊕ z) (sumError (x ⊗ y) z ⊕ productError x y) → x ⊗ y ⊕ z ⊕ (sumError (x ⊗ y) z ⊕ productError x y) ≡ fma binary64 x y z
-  fused-is = by-knuth xy xy' k k' p-is e-is z-is z-short f-fits f-is f-small
+  fused-is = by-knuth xy xy' k k' p-is e-is z-is z-short small-product f-is
 
   -- the product is not the smaller one
   ordered : lt (bits (toBits binary64 (x ⊗ y) % 2 ^ 63)) (bits (toBits binary64 z % 2 ^ 63)) ≡ false → dist k k' ≤ dist (near (xy - xy')) (near (xy' - xy))
@@ -337,4 +327,4 @@ module _ (x y z : Float) (FX : T (fits binary64 x)) (FY : T (fits binary64 y)) (
 
   pub ordered-fused-is : lt (bits (toBits binary64 (x ⊗ y) % 2 ^ 63)) (bits (toBits binary64 z % 2 ^ 63)) ≡ false
       → Certain (x ⊗ y ⊕ z) (orderedSumError (x ⊗ y) z ⊕ productError x y) → x ⊗ y ⊕ z ⊕ (orderedSumError (x ⊗ y) z ⊕ productError x y) ≡ fma binary64 x y z
-  ordered-fused-is h = by-dekker xy xy' k k' p-is e-is z-is z-short f-fits f-is f-small (ordered h)
+  ordered-fused-is h = by-dekker xy xy' k k' p-is e-is z-is z-short small-product f-is (ordered h)

@@ -68,18 +68,12 @@ pub record Is (x : Float) (a b k : ℕ) : Type 0 where
 pub widen : {x : Float} {a b k : ℕ} (l : ℕ) → k ≤ l → Is x a b k → Is x a b l
 widen l h X = record { sign = X .sign; size = X .size; value = X .value; pair = X .pair; small = le-trans (X .small) (mul-le-mul-right bound h) }
 
-pub neg-is : {x : Float} {a b k : ℕ} → Is x a b k → Is (neg x) b a k
-neg-is {x} {a} {b} {k} X = record {
-  sign = not (X .sign);
-  size = X .size;
-  value = neg-value x (X .sign) (X .size) (2 ^ 1074) (X .value);
-  pair = go (X .sign) (X .pair);
-  small = omega (arith, X .small);
-}
-  where
-    go : (s : Bool) → Signed s a b (X .size) → Signed (not s) b a (X .size)
-    go true e = sym e
-    go false e = sym e
+turn : (s : Bool) (a b v : ℕ) → Signed s a b v → Signed (not s) b a v
+turn true a b v e = sym e
+turn false a b v e = sym e
+
+neg-is : {x : Float} {a b k : ℕ} → Is x a b k → Is (neg x) b a k
+neg-is {x} {a} {b} X = record { sign = not (X .sign); size = X .size; value = neg-value x (X .sign) (X .size) (2 ^ 1074) (X .value); pair = turn (X .sign) a b (X .size) (X .pair); small = omega (arith, X .small) }
 
 -- ---- r is n - m of the units, rounded
 pub record NearPair (r : Float) (n m : ℕ) : Type 0 where
@@ -123,7 +117,7 @@ module _ {r : Float} {n m : ℕ} (R : NearPair r n m) where
         size = near (R .size);
         value = value (le-trans top (mul-le-mul-right bound (pow-mono {i = l} {j = 16} k)));
         pair = go (R .neg) (R .size) (R .pair);
-        small = le-trans (le-of-eq (near-dist n m ∙ ap near (sym is-size))) top;
+        small = le-trans (le-of-eq (near-dist n m .0 ∙ ap near (sym is-size))) top;
       }
     where
       go : (s : Bool) (v : ℕ) → Signed s n m v → Signed s (near (n - m)) (near (m - n)) (near v)
@@ -182,6 +176,11 @@ mul-value (fin _ m e) (fin _ n g) s t a b c d C D p q =
     let r : a * b * (down e * down g) ≡ a * down e * (b * down g) = simp (mul-assoc, mul-comm, mul-left-comm) in
     rw (p .0, q .0) (round-same binary64 (unlike s t) (m * up e * (n * up g)) (down e * down g) (a * b) (c * d) (mul-pos (down-pos e) (down-pos g)) (mul-pos C D) (l ∙ rw (p .1, q .1) (sym r)))
 
+pub fma-value : (x y z : Float) (s t r : Bool) (a b c d n : ℕ) → 0 < d → HasValue x s a d → HasValue y t b d → HasValue z r c d → a * b ≡ n * d → fma binary64 x y z ≡ sum binary64 (unlike s t) n r c d
+fma-value x y z s t r a b c d n D X Y Z e =
+    fma-at binary64 x y z s t r a b c d 1 D (zero-lt-suc 0) X Y Z
+    ∙ sum-value binary64 (a * b * 1) (c * (1 * d)) (1 * (d * d)) n c d (mul-pos (zero-lt-suc 0) (mul-pos D D)) D (omega (arith, ap (λ (w : ℕ). w * d) e)) (omega arith) (unlike s t) r
+
 -- the sign and the size of a product of differences
 pub signed-mul : (s t : Bool) (a b c d v w : ℕ) → Signed s a b v → Signed t c d w → Signed (unlike s t) (a * c + b * d) (a * d + b * c) (v * w)
 signed-mul s t a b c d v w e f = go s t v w (out (cond s v 0) (cond s 0 v) (cond t w 0) (cond t 0 w) e f)
@@ -226,19 +225,8 @@ module _ {x y : Float} {a b c d i j : ℕ} (X : Is x a b i) (Y : Is y c d j) (n 
   -- and with an addend
   pub fma-rounds : {w : Float} {k l h : ℕ} → Is w k l h → NearPair (fma binary64 x y w) (n + k) (m + l)
   fma-rounds {w} {k} {l} W =
-      let U = 2 ^ 1074 in
-      let P = pow-pos 1074 in
-      let s = unlike (X .sign) (Y .sign) in
-      subst (λ (f : Float). NearPair f (n + k) (m + l))
-      (sym (fma-at binary64 x y w (X .sign) (Y .sign) (W .sign) (X .size) (Y .size) (W .size) U 1 P (zero-lt-suc 0) (X .value) (Y .value) (W .value)
-      ∙ sum-value binary64 (X .size * Y .size * 1) (W .size * (1 * U)) (1 * (U * U)) (dist n m) (W .size) U (mul-pos (zero-lt-suc 0) (mul-pos P P)) P (first (X .size * Y .size) (dist n m) U (product .0)) (second (W .size) U) s (W .sign)))
-      (sum-is s (W .sign) (dist n m) (W .size) n m k l (n + k) (m + l) (product .1) (W .pair) refl)
-    where
-      first : (v d u : ℕ) → v ≡ d * u → v * 1 * u ≡ d * (1 * (u * u))
-      first v d u e = omega (arith, ap (λ (z : ℕ). z * u) e)
-
-      second : (k u : ℕ) → k * (1 * u) * u ≡ k * (1 * (u * u))
-      second k u = omega arith
+      subst (λ (f : Float). NearPair f (n + k) (m + l)) (sym (fma-value x y w (X .sign) (Y .sign) (W .sign) (X .size) (Y .size) (W .size) (2 ^ 1074) (dist n m) (pow-pos 1074) (X .value) (Y .value) (W .value) (product .0)))
+      (sum-is (unlike (X .sign) (Y .sign)) (W .sign) (dist n m) (W .size) n m k l (n + k) (m + l) (product .1) (W .pair) refl)
 
 -- ---- a float has one value, and a value that is not 0 one float
 pub signed-by : {x : Float} {a b i : ℕ} (s : Bool) (v : ℕ) → HasValue x s v (2 ^ 1074) → Is x a b i → Signed s a b v

@@ -1,5 +1,5 @@
 -- A product's rounding error as a float: four exact products and their exact sums. Assumes nothing.
-use mathlib.Core.Path.{_≡_, refl, sym, ap, _∙_, subst}
+use mathlib.Core.Path.{_≡_, refl, sym, ap, _∙_}
 use Prim.Native.Nat.{ℕ, _+_, _-_, _*_, _^_, _≤_, _<_}
 use native.Mathlib.Nat.{le-trans, le-of-eq, le-of-lt, lt-of-lt-of-le, lt-of-le-of-lt, not-le-of-lt, le-of-mul-le-mul-right, mul-le-mul, mul-le-mul-right, mul-assoc, add-mul}
 use native.Mathlib.Decide.{decLe}
@@ -9,7 +9,7 @@ use lib.Ieee.{Float, binary64, mul, add, sub}
 use lib.Ieee.Digits.{size-le}
 use Rattle.elementary.specs.MulAdd.{fma}
 use Rattle.elementary.proofs.Laws.Decode.{split-power}
-use Rattle.elementary.proofs.Laws.Errors.Digits.{ex, ex-lt, dist, dist-mul, same-dist, Mult, mult-down, Short, turned, short-times, near, near-mult, near-half, near-sides, off-dist}
+use Rattle.elementary.proofs.Laws.Errors.Digits.{ex, ex-lt, dist, dist-mul, Mult, mult-down, Short, turned, short-times, near, near-mult, near-half, near-sides, near-dist}
 use Rattle.elementary.proofs.Laws.Errors.Pairs.{bound, in-bound, Is, NearPair, near-is, exact-is, add-exact, sub-exact, mul-rounds, fma-rounds, dist-product}
 use Rattle.elementary.proofs.mul_add.Carry.{mul-lt}
 
@@ -84,7 +84,7 @@ module _ (z z' g : ℕ) (low : 2 ^ 104 ≤ dist z z') (high : dist z z' < 2 ^ 10
       let y = down .0 * 2 ^ 52 in
       let e : dist (near (n - m) + m) (near (m - n) + n) ≡ dist (x + z') (y + z) * 2 ^ g = rw (up .1, down .1, ← add-mul x z' (2 ^ g), ← add-mul y z (2 ^ g)) (sym (dist-mul (x + z') (y + z) (2 ^ g))) in
       let h : 2 ^ ex (dist n m) ≤ 2 ^ (53 + g) = pow-mono (omega (arith, size-le (dist n m) (106 + g) (lt-of-le-of-lt (le-of-eq size-is) (shl-lt 106 g high)))) in
-      le-of-mul-le-mul-right {k = 2 ^ g} (le-trans (le-of-eq (sym e ∙ off-dist n m)) (le-trans (half (near (dist n m)) (dist n m) (2 ^ ex (dist n m)) (2 ^ (53 + g)) h (near-half (dist n m))) (le-of-eq (pow-add 2 53 g)))) (pow-pos g)
+      le-of-mul-le-mul-right {k = 2 ^ g} (le-trans (le-of-eq (sym e ∙ near-dist n m .1)) (le-trans (half (near (dist n m)) (dist n m) (2 ^ ex (dist n m)) (2 ^ (53 + g)) h (near-half (dist n m))) (le-of-eq (pow-add 2 53 g)))) (pow-pos g)
     where
       half : (x y w u : ℕ) → w ≤ u → (x * 2 ≤ y * 2 + w) × (y * 2 ≤ x * 2 + w) → dist x y ≤ u
       half x y w u h k = omega arith

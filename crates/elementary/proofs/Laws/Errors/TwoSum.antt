@@ -1,12 +1,12 @@
 -- Knuth's error-free addition: s and t with s the rounded sum of two floats and s + t their sum. Assumes nothing.
-use mathlib.Core.Path.{_≡_, refl, sym, ap, _∙_, subst}
-use Prim.Native.Nat.{ℕ, suc, _+_, _-_, _*_, _^_, _≤_, _<_}
-use native.Mathlib.Nat.{le-trans, le-of-eq, le-of-lt, one-mul}
+use mathlib.Core.Path.{_≡_, sym, ap, _∙_, subst}
+use Prim.Native.Nat.{ℕ, suc, _+_, _-_, _^_, _≤_}
+use native.Mathlib.Nat.{le-trans, le-of-eq}
 use native.Mathlib.Decide.{decLe}
 use native.Mathlib.Omega.{arith}
 use lib.Pow.{pow-mono}
 use lib.Ieee.{Float, binary64, add, sub}
-use Rattle.elementary.proofs.Laws.Errors.Digits.{ex, ex-lt, Mult, mult-down, dist, same-dist, mult-add, Short, turned, short-twice, short-zero, near, near-mult, near-best, near-exact, near-mono, near-keeps, near-dist, near-dist-short, off-dist, near-part}
+use Rattle.elementary.proofs.Laws.Errors.Digits.{ex, Mult, mult-down, dist, same-dist, mult-add, Short, turned, short-twice, short-zero, near, near-mult, near-best, near-exact, near-mono, near-whole, near-keeps, near-dist, near-dist-short, near-part}
 use Rattle.elementary.proofs.Laws.Errors.Pairs.{Is, widen, dist-add, add-exact, add-near, sub-exact, sub-near}
 
 -- a unit of both, of which the smaller one has at most 53 digits
@@ -40,10 +40,10 @@ module _ (a b c d n m : ℕ) (E : a + c + m ≡ n + (b + d)) (A : Short (dist a 
   whole = mult-add a b c d n m (unit .0) E (unit .1) (unit .2)
 
   rounded : (j : ℕ) → Mult (near (dist n m)) j → Mult (dist s r) j
-  rounded j h = subst (λ (z : ℕ). Mult z j) (sym (near-dist n m)) h
+  rounded j h = subst (λ (z : ℕ). Mult z j) (sym (near-dist n m .0)) h
 
   pub off : dist (s + m) (r + n) ≤ dist c d
-  off = le-trans (le-of-eq (off-dist n m)) (le-trans (near-best (dist n m) (dist a b) A) (within (dist a b) (dist n m) (dist c d) (omega arith) (dist-add a b c d n m E)))
+  off = le-trans (le-of-eq (near-dist n m .1)) (le-trans (near-best (dist n m) (dist a b) A) (within (dist a b) (dist n m) (dist c d) (omega arith) (dist-add a b c d n m E)))
     where
       within : (x y z : ℕ) → x ≤ y + z → y ≤ x + z → dist x y ≤ z
       within x y z h k = omega arith
@@ -66,8 +66,7 @@ module _ (a b c d n m : ℕ) (E : a + c + m ≡ n + (b + d)) (A : Short (dist a 
 
       go : Dec (k ≤ unit .0) → Dec (k ≤ A .unit) → Short (dist (s + b) (r + a))
       go (yes h) _ =
-          let e = near-exact (dist n m) (record { unit = unit .0; mult = whole; top = le-trans (le-of-lt (ex-lt (dist n m))) (pow-mono {i = 53 + k} {j = 53 + unit .0} (omega arith)) }) in
-          let o = none (s + m) (r + n) (dist n m) (off-dist n m ∙ ap (λ (z : ℕ). dist z (dist n m)) e) in
+          let o = none (s + m) (r + n) (dist n m) (near-dist n m .1 ∙ ap (λ (z : ℕ). dist z (dist n m)) (near-whole (dist n m) (unit .0) whole h)) in
           subst Short (same-dist c d (s + b) (r + a) (omega arith)) C
       go (no h) (yes g) = record {
         unit = k;
@@ -104,9 +103,6 @@ module _ {x y : Float} {a b c d : ℕ} (X : Is x a b 1) (Y : Is y c d 1) (A : Sh
   abbrev M : ℕ
   M = b + d + p
 
-  B : Short (dist b a)
-  B = turned a b b a (omega arith) A
-
   pub sum-near : Is sum p q 2
   sum-near = add-near X Y (a + c) (b + d) (omega arith) 1 (omega arith) (omega arith)
 
@@ -129,6 +125,7 @@ module _ {x y : Float} {a b c d : ℕ} (X : Is x a b 1) (Y : Is y c d 1) (A : Sh
   by-second l g =
       let u = near (p + b - (q + a)) in
       let w = near (q + a - (p + b)) in
+      let B = turned a b b a (omega arith) A in
       let P = near-dist-short (a + c) (b + d) in
       let R = rest c d a b (a + c) (b + d) (omega arith) C A l in
       let G = first c d (p + (b + d)) (q + (a + c)) (p + b) (q + a) (omega arith) C R (le-trans (off c d a b (a + c) (b + d) (omega arith) C A l) l) in
@@ -139,33 +136,21 @@ module _ {x y : Float} {a b c d : ℕ} (X : Is x a b 1) (Y : Is y c d 1) (A : Sh
       add-exact D E N M (omega arith) (turned (p + (b + d)) (q + (a + c)) N M (omega arith) R) (omega arith)
 
   -- ---- which of the two it is
-  exact-case : Short (dist (a + c) (b + d)) → Is t N M 12
-  exact-case S =
-      let e = near-part (a + c) (b + d) S in
-      let f = near-part (b + d) (a + c) (turned (a + c) (b + d) (b + d) (a + c) (omega arith) S) in
-      let h : p + (b + d) ≡ q + (a + c) = omega arith in
-      by-first (subst Short (same-dist c d (p + b) (q + a) (omega arith)) C) (subst Short (same-dist 0 0 N M (omega arith)) short-zero)
-
   pub error-is : Is t N M 12
-  error-is = go (decLe (dist c d) (dist a b))
+  error-is = go (decLe (dist c d) (dist a b)) (decLe (dist a b) (dist (a + c) (b + d)))
     where
-      n : ℕ
-      n = dist (a + c) (b + d)
+      short-sum : dist a b ≤ dist c d → dist (a + c) (b + d) ≤ dist a b → Short (dist (a + c) (b + d))
+      short-sum l h = let J = common (dist c d) (dist a b) C A l in record { unit = J .0; mult = mult-add a b c d (a + c) (b + d) (J .0) (omega arith) (J .2) (J .1); top = le-trans h (J .3) }
 
-      small : dist a b ≤ dist c d → Is t N M 12
-      small l =
-          let J = common (dist c d) (dist a b) C A l in
-          let k = 53 + J .0 in
-          elim (decLe (2 ^ k) n) [
-            | yes h ↦
-                let power : near (2 ^ k) ≡ 2 ^ k = near-exact (2 ^ k) (record { unit = k; mult = (1, sym (one-mul (2 ^ k))); top = pow-mono {i = k} {j = 53 + k} (omega arith) }) in
-                by-second l (omega (arith, J .3, near-mono (2 ^ k) n h, near-dist (a + c) (b + d)))
-            | no h ↦ exact-case (record { unit = J .0; mult = mult-add a b c d (a + c) (b + d) (J .0) (omega arith) (J .2) (J .1); top = omega arith })
-          ]
-
-      go : Dec (dist c d ≤ dist a b) → Is t N M 12
-      go (yes h) = by-first (first a b c d (a + c) (b + d) (omega arith) A C h) (turned (p + (b + d)) (q + (a + c)) N M (omega arith) (rest a b c d (a + c) (b + d) (omega arith) A C h))
-      go (no h) = small (omega arith)
+      go : Dec (dist c d ≤ dist a b) → Dec (dist a b ≤ dist (a + c) (b + d)) → Is t N M 12
+      go (yes h) _ = by-first (first a b c d (a + c) (b + d) (omega arith) A C h) (turned (p + (b + d)) (q + (a + c)) N M (omega arith) (rest a b c d (a + c) (b + d) (omega arith) A C h))
+      go (no h) (yes g) = by-second (omega arith) (omega (arith, near-mono (dist a b) (dist (a + c) (b + d)) g, near-exact (dist a b) A, near-dist (a + c) (b + d) .0))
+      go (no h) (no g) =
+          let S = short-sum (omega arith) (omega arith) in
+          let e = near-part (a + c) (b + d) S in
+          let f = near-part (b + d) (a + c) (turned (a + c) (b + d) (b + d) (a + c) (omega arith) S) in
+          let h : p + (b + d) ≡ q + (a + c) = omega arith in
+          by-first (subst Short (same-dist c d (p + b) (q + a) (omega arith)) C) (subst Short (same-dist 0 0 N M (omega arith)) short-zero)
 
   -- Dekker's, where x is not the smaller one
   pub ordered-error-is : dist c d ≤ dist a b → Is (sub binary64 y v) N M 12

@@ -2,7 +2,7 @@
 use mathlib.Core.Path.{_≡_, refl, sym, ap, _∙_}
 use mathlib.Core.Bool.{Bool, true, false, not}
 use Prim.Native.Nat.{ℕ, _+_, _-_, _*_, _/_, _%_, _^_, _≤_, _<_}
-use native.Mathlib.Nat.{lt-of-lt-of-le, mul-assoc, mul-comm, mul-left-comm, mul-one, mul-pos, zero-lt-suc}
+use native.Mathlib.Nat.{lt-of-lt-of-le, mul-assoc, mul-comm, mul-left-comm, mul-one, zero-lt-suc}
 use native.Mathlib.Decide.{decLe}
 use native.Mathlib.Omega.{arith}
 use lib.Dec.{T, leb}
@@ -17,11 +17,11 @@ use Rattle.elementary.specs.Inside.Errors.{CanSplit}
 use Rattle.elementary.proofs.Laws.Bits.{no-nan-pattern}
 use Rattle.elementary.proofs.Laws.Values.{recast, revalue, value-mid, whole-value}
 use Rattle.elementary.proofs.Laws.Decode.{same-power}
-use Rattle.elementary.proofs.Laws.Adding.{sum-value, add-at, sub-at, neg-value}
+use Rattle.elementary.proofs.Laws.Adding.{add-at, sub-at, neg-value}
 use Rattle.elementary.proofs.mul_add.Sums.{sum-same}
 use Rattle.elementary.proofs.mul_add.Carry.{mul-lt}
-use Rattle.elementary.proofs.mul_add.Exactly.{sum-comm, fma-at}
-use Rattle.elementary.proofs.Laws.Errors.Pairs.{Signed, minus-more, minus-less, mul-value}
+use Rattle.elementary.proofs.mul_add.Exactly.{sum-comm}
+use Rattle.elementary.proofs.Laws.Errors.Pairs.{Signed, minus-more, minus-less, mul-value, fma-value}
 
 -- a - b, whose sign and size are s and v, and c
 sum-after : (s : Bool) (a b v c d : ℕ) → Signed s a b v → sum binary64 s v false c d ≡ sum binary64 false (a + c) true b d
@@ -35,8 +35,7 @@ sum-after true a b v c d e = sum-comm binary64 true false v c d ∙ elim (decLe 
 fma-whole : (x y z : Float) (a p q d : ℕ) → 0 < d → HasValue x false a d → HasValue y false p 1 → HasValue z false q 1 → fma binary64 x y (neg z) ≡ sum binary64 false (a * p) true (q * d) d
 fma-whole x y z a p q d P X Y Z =
     let at : (w : Float) (n : ℕ) → HasValue w false n 1 → HasValue w false (n * d) d = λ w n v. revalue w false n 1 (n * d) d (zero-lt-suc 0) (sym (mul-one (n * d))) v in
-    fma-at binary64 x y (neg z) false false true a (p * d) (q * d) d 1 P (zero-lt-suc 0) X (at y p Y) (neg-value z false (q * d) d (at z q Z))
-    ∙ sum-value binary64 (a * (p * d) * 1) (q * d * (1 * d)) (1 * (d * d)) (a * p) (q * d) d (mul-pos (zero-lt-suc 0) (mul-pos P P)) P (omega arith) (omega arith) false true
+    fma-value x y (neg z) false false true a (p * d) (q * d) d (a * p) P X (at y p Y) (neg-value z false (q * d) d (at z q Z)) (omega arith)
 
 -- at most 53 digits, by the unit 2 ^ k / 2 ^ 64
 exact : {x : Float} (s : Bool) (n k v : ℕ) → n < 2 ^ 53 → k ≤ 64 → v ≡ n * 2 ^ k → x ≡ round binary64 s v (2 ^ 64) → HasValue x s v (2 ^ 64)
