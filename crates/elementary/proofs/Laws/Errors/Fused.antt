@@ -242,12 +242,6 @@ module _ {p e c f : Float} (x x' k k' : ℕ) (P : Is p (near (x - x')) (near (x'
         go false e h = pinned (u + u + o') (u' + u' + o) o o' in-is (out-is 128 (omega arith)) in-short out-short (omega (arith, pow-pos (S .k))) (omega (arith, pow-pos (S .k))) same
         go true e h = pinned o o' (u + u + o') (u' + u' + o) (out-is 128 (omega arith)) in-is out-short in-short (omega (arith, pow-pos (S .k))) (omega (arith, pow-pos (S .k))) (sym same)
 
-  by-knuth : Certain s (sumError p c ⊕ e) → s ⊕ (sumError p c ⊕ e) ≡ f
-  by-knuth same = certain-sum (two-sum.error-is P C (near-dist-short x x') K) same
-
-  by-dekker : dist k k' ≤ dist (near (x - x')) (near (x' - x)) → Certain s (orderedSumError p c ⊕ e) → s ⊕ (orderedSumError p c ⊕ e) ≡ f
-  by-dekker h same = certain-sum (two-sum.ordered-error-is P C (near-dist-short x x') K h) same
-
 -- ---- the operands
 module _ (x y z : Float) (FX : T (fits binary64 x)) (FY : T (fits binary64 y)) (FZ : T (fits binary64 z)) (RX : InRange x) (RY : InRange y) (small : toBits binary64 z % 2 ^ 63 < 0x7e00_0000_0000_0000) where
   X : Spelled x
@@ -311,7 +305,7 @@ module _ (x y z : Float) (FX : T (fits binary64 x)) (FY : T (fits binary64 y)) (
   small-product = two-product.z-bound unit E G (XF .4) (YF .4)
 
   pub fused-is : Certain (x ⊗ y ⊕ z) (sumError (x ⊗ y) z ⊕ productError x y) → x ⊗ y ⊕ z ⊕ (sumError (x ⊗ y) z ⊕ productError x y) ≡ fma binary64 x y z
-  fused-is = by-knuth xy xy' k k' p-is e-is z-is z-short small-product f-is
+  fused-is = certain-sum xy xy' k k' p-is e-is z-is z-short small-product f-is (two-sum.error-is p-is z-is (near-dist-short xy xy') z-short)
 
   -- the product is not the smaller one
   ordered : lt (bits (toBits binary64 (x ⊗ y) % 2 ^ 63)) (bits (toBits binary64 z % 2 ^ 63)) ≡ false → dist k k' ≤ dist (near (xy - xy')) (near (xy' - xy))
@@ -327,4 +321,4 @@ module _ (x y z : Float) (FX : T (fits binary64 x)) (FY : T (fits binary64 y)) (
 
   pub ordered-fused-is : lt (bits (toBits binary64 (x ⊗ y) % 2 ^ 63)) (bits (toBits binary64 z % 2 ^ 63)) ≡ false
       → Certain (x ⊗ y ⊕ z) (orderedSumError (x ⊗ y) z ⊕ productError x y) → x ⊗ y ⊕ z ⊕ (orderedSumError (x ⊗ y) z ⊕ productError x y) ≡ fma binary64 x y z
-  ordered-fused-is h = by-dekker xy xy' k k' p-is e-is z-is z-short small-product f-is (ordered h)
+  ordered-fused-is h = certain-sum xy xy' k k' p-is e-is z-is z-short small-product f-is (two-sum.ordered-error-is p-is z-is (near-dist-short xy xy') z-short (ordered h))

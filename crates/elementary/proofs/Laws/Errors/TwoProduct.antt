@@ -24,12 +24,9 @@ short-unit u v k g h = rw (← split-power u (k + g) k g refl, ← split-power v
 module _ {x y : Float} {k l : ℕ} (a b c d i j g : ℕ) (E : i + j ≡ g + 1074) (X : Is x (a * 2 ^ i) (b * 2 ^ i) k) (Y : Is y (c * 2 ^ j) (d * 2 ^ j) l) where
   scale : (a c b d : ℕ) → a * 2 ^ i * (c * 2 ^ j) + b * 2 ^ i * (d * 2 ^ j) ≡ (a * c + b * d) * 2 ^ g * 2 ^ 1074
   scale a c b d =
-      regroup (2 ^ i) (2 ^ j)
+      omega arith
       ∙ ap (λ (z : ℕ). (a * c + b * d) * z) (sym (pow-add 2 i j) ∙ ap (λ (z : ℕ). 2 ^ z) E ∙ pow-add 2 g 1074)
       ∙ sym (mul-assoc (a * c + b * d) (2 ^ g) (2 ^ 1074))
-    where
-      regroup : (p q : ℕ) → a * p * (c * q) + b * p * (d * q) ≡ (a * c + b * d) * (p * q)
-      regroup p q = omega arith
 
   product-rounds : NearPair (mul binary64 x y) ((a * c + b * d) * 2 ^ g) ((a * d + b * c) * 2 ^ g)
   product-rounds = mul-rounds X Y ((a * c + b * d) * 2 ^ g) ((a * d + b * c) * 2 ^ g) (scale a c b d) (scale a d b c)
@@ -65,24 +62,21 @@ module _ (z z' g : ℕ) (low : 2 ^ 104 ≤ dist z z') (high : dist z z' < 2 ^ 10
     | no h ↦ absurd (not-le-of-lt (lt-of-lt-of-le (ex-lt (dist n m)) (pow-mono {i = 53 + ex (dist n m)} {j = 104 + g} (omega arith))) reached)
   ]
 
-  -- the rounded product by the unit 2 ^ (52 + g), and of the other sign
-  side : (n m q : ℕ) → near (dist n m) ≡ q * 2 ^ (52 + g) → (p : ℕ) × (near (n - m) ≡ p * 2 ^ 52 * 2 ^ g)
-  side n m q e = elim (decLe n m) [
-    | yes h ↦ (0, omega (arith, near-sides n m (dist n m) (omega arith) .0))
-    | no h ↦ (q, near-sides m n (dist n m) (omega arith) .1 ∙ e ∙ split-power q (52 + g) 52 g refl)
-  ]
+  -- the rounded product by the unit 2 ^ (52 + g)
+  sides : (p : ℕ) × (p' : ℕ) × (near (n - m) ≡ p * 2 ^ 52 * 2 ^ g) × (near (m - n) ≡ p' * 2 ^ 52 * 2 ^ g)
+  sides =
+      let q = nearest .0 in
+      let e = nearest .1 ∙ split-power q (52 + g) 52 g refl in
+      elim (decLe n m) [
+        | yes h ↦ let s = near-sides n m (dist n m) (omega arith) in (0, q, omega (arith, s .0), s .1 ∙ e)
+        | no h ↦ let s = near-sides m n (dist n m) (omega arith) in (q, 0, s .1 ∙ e, omega (arith, s .0))
+      ]
 
-  up : (p : ℕ) × (near (n - m) ≡ p * 2 ^ 52 * 2 ^ g)
-  up = side n m (nearest .0) (nearest .1)
-
-  down : (p : ℕ) × (near (m - n) ≡ p * 2 ^ 52 * 2 ^ g)
-  down = side m n (nearest .0) (ap near (omega arith) ∙ nearest .1)
-
-  close : dist (up .0 * 2 ^ 52 + z') (down .0 * 2 ^ 52 + z) ≤ 2 ^ 53
+  close : dist (sides .0 * 2 ^ 52 + z') (sides .1 * 2 ^ 52 + z) ≤ 2 ^ 53
   close =
-      let x = up .0 * 2 ^ 52 in
-      let y = down .0 * 2 ^ 52 in
-      let e : dist (near (n - m) + m) (near (m - n) + n) ≡ dist (x + z') (y + z) * 2 ^ g = rw (up .1, down .1, ← add-mul x z' (2 ^ g), ← add-mul y z (2 ^ g)) (sym (dist-mul (x + z') (y + z) (2 ^ g))) in
+      let x = sides .0 * 2 ^ 52 in
+      let y = sides .1 * 2 ^ 52 in
+      let e : dist (near (n - m) + m) (near (m - n) + n) ≡ dist (x + z') (y + z) * 2 ^ g = rw (sides .2, sides .3, ← add-mul x z' (2 ^ g), ← add-mul y z (2 ^ g)) (sym (dist-mul (x + z') (y + z) (2 ^ g))) in
       let h : 2 ^ ex (dist n m) ≤ 2 ^ (53 + g) = pow-mono (omega (arith, size-le (dist n m) (106 + g) (lt-of-le-of-lt (le-of-eq size-is) (shl-lt 106 g high)))) in
       le-of-mul-le-mul-right {k = 2 ^ g} (le-trans (le-of-eq (sym e ∙ near-dist n m .1)) (le-trans (half (near (dist n m)) (dist n m) (2 ^ ex (dist n m)) (2 ^ (53 + g)) h (near-half (dist n m))) (le-of-eq (pow-add 2 53 g)))) (pow-pos g)
     where
@@ -149,8 +143,9 @@ module _ {x xh y yh : Float} {h h' l l' s s' k k' i j : ℕ} (g : ℕ) (E : i + 
       let d' = l * k' + l' * k in
       let e : z ≡ a * 2 ^ 54 + b * 2 ^ 27 + c * 2 ^ 27 + d = omega arith in
       let e' : z' ≡ a' * 2 ^ 54 + b' * 2 ^ 27 + c' * 2 ^ 27 + d' = omega arith in
-      let q = up z z' g z-low z-top in
-      let q' = down z z' g z-low z-top in
+      let r = sides z z' g z-low z-top in
+      let q = r .0 in
+      let q' = r .1 in
       let near-z = close z z' g z-low z-top in
       let yl = low-is j s s' k k' 27 (omega arith) Y in
       let xl = low-is i h h' l l' 26 (omega arith) X in
@@ -158,25 +153,25 @@ module _ {x xh y yh : Float} {h h' l l' s s' k k' i j : ℕ} (g : ℕ) (E : i + 
       let b-top = product-top 26 27 h h' k k' (X .h-top) (Y .l-top) in
       let c-top = product-top 26 26 l l' s s' (X .l-top) (Y .h-top) in
       let d-top = product-top 26 27 l l' k k' (X .l-top) (Y .l-top) in
-      let top = sums a a' b b' c c' d d' (q .0) (q' .0) z z' e e' (both b b' (2 ^ 53) b-top) (both c c' (2 ^ 52) c-top) (both d d' (2 ^ 53) d-top) (both (q .0 * 2 ^ 52 + z') (q' .0 * 2 ^ 52 + z) (2 ^ 53) near-z) in
+      let top = sums a a' b b' c c' d d' q q' z z' e e' (both b b' (2 ^ 53) b-top) (both c c' (2 ^ 52) c-top) (both d d' (2 ^ 53) d-top) (both (q * 2 ^ 52 + z') (q' * 2 ^ 52 + z) (2 ^ 53) near-z) in
       let A = product-exact (h * 2 ^ 27) (h' * 2 ^ 27) (s * 2 ^ 27) (s' * 2 ^ 27) i j g E (X .high) (Y .high) a a' 54 (omega arith) (omega arith) (le-trans a-top (pow-mono {i = 52} {j = 53} (omega arith))) (omega arith) in
       let B = product-exact (h * 2 ^ 27) (h' * 2 ^ 27) (k * 2 ^ 0) (k' * 2 ^ 0) i j g E (X .high) yl b b' 27 (omega arith) (omega arith) b-top (omega arith) in
       let C = product-exact (l * 2 ^ 0) (l' * 2 ^ 0) (s * 2 ^ 27) (s' * 2 ^ 27) i j g E xl (Y .high) c c' 27 (omega arith) (omega arith) (le-trans c-top (pow-mono {i = 52} {j = 53} (omega arith))) (omega arith) in
       let D = product-exact (l * 2 ^ 0) (l' * 2 ^ 0) (k * 2 ^ 0) (k' * 2 ^ 0) i j g E xl yl d d' 0 (omega arith) (omega arith) d-top (omega arith) in
-      let P : Is (mul binary64 x y) (q .0 * 2 ^ 52 * 2 ^ g) (q' .0 * 2 ^ 52 * 2 ^ g) 1 = rw (q .1, q' .1) at rounded in
-      let u = a * 4 + q' .0 in
-      let u' = a' * 4 + q .0 in
-      let v = a * 2 ^ 27 + q' .0 * 2 ^ 25 + b in
-      let v' = a' * 2 ^ 27 + q .0 * 2 ^ 25 + b' in
+      let P : Is (mul binary64 x y) (q * 2 ^ 52 * 2 ^ g) (q' * 2 ^ 52 * 2 ^ g) 1 = rw (r .2, r .3) at rounded in
+      let u = a * 4 + q' in
+      let u' = a' * 4 + q in
+      let v = a * 2 ^ 27 + q' * 2 ^ 25 + b in
+      let v' = a' * 2 ^ 27 + q * 2 ^ 25 + b' in
       let S1 = sub-exact A P (u * 2 ^ 52 * 2 ^ g) (u' * 2 ^ 52 * 2 ^ g) (omega arith) (short-unit u u' 52 g (top .0)) (omega arith) in
       let S2 = add-exact S1 B (v * 2 ^ 27 * 2 ^ g) (v' * 2 ^ 27 * 2 ^ g) (omega arith) (short-unit v v' 27 g (top .1)) (omega arith) in
       let S3 = add-exact S2 C ((v + c) * 2 ^ 27 * 2 ^ g) ((v' + c') * 2 ^ 27 * 2 ^ g) (omega arith) (short-unit (v + c) (v' + c') 27 g (top .2)) (omega arith) in
-      let w = q .0 * 2 ^ 52 + z' in
-      let w' = q' .0 * 2 ^ 52 + z in
-      let N = z * 2 ^ g + q' .0 * 2 ^ 52 * 2 ^ g in
-      let M = z' * 2 ^ g + q .0 * 2 ^ 52 * 2 ^ g in
-      rw (q .1, q' .1)
-      (add-exact S3 D N M (last a a' b b' c c' d d' (q .0) (q' .0) z z' (2 ^ g) e e') (turned (w * 2 ^ 0 * 2 ^ g) (w' * 2 ^ 0 * 2 ^ g) N M (swap (q .0 * 2 ^ 52) (q' .0 * 2 ^ 52) z z' (2 ^ g)) (short-unit w w' 0 g near-z)) (omega arith))
+      let w = q * 2 ^ 52 + z' in
+      let w' = q' * 2 ^ 52 + z in
+      let N = z * 2 ^ g + q' * 2 ^ 52 * 2 ^ g in
+      let M = z' * 2 ^ g + q * 2 ^ 52 * 2 ^ g in
+      rw (r .2, r .3)
+      (add-exact S3 D N M (last a a' b b' c c' d d' q q' z z' (2 ^ g) e e') (turned (w * 2 ^ 0 * 2 ^ g) (w' * 2 ^ 0 * 2 ^ g) N M (swap (q * 2 ^ 52) (q' * 2 ^ 52) z z' (2 ^ g)) (short-unit w w' 0 g near-z)) (omega arith))
     where
       swap : (q q' z z' p : ℕ) → (q + z') * 2 ^ 0 * p + (z * p + q' * p) ≡ (q' + z) * 2 ^ 0 * p + (z' * p + q * p)
       swap q q' z z' p = omega arith
