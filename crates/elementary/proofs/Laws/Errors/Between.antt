@@ -6,7 +6,7 @@ use native.Mathlib.Omega.{arith}
 use lib.Dec.{T}
 use lib.Pow.{pow-pos}
 use lib.Ieee.{Float, binary64, fits}
-use Rattle.elementary.proofs.Laws.Errors.Digits.{dist, Short, turned, near, near-exact, near-mono, near-dist, near-part}
+use Rattle.elementary.proofs.Laws.Errors.Digits.{dist, Short, near, near-exact, near-mono, near-dist, near-part}
 use Rattle.elementary.proofs.Laws.Errors.Pairs.{Is, one-value, one-float}
 
 -- n - m is not below a float that its rounded value is above
@@ -16,7 +16,7 @@ from-below a b n m S h = elim (decLe (a + m) (n + b)) [
   | no l ↦
       let u = near-mono (n - m) (a - b) (omega arith) in
       let v = near-mono (b - a) (m - n) (omega arith) in
-      absurd (omega (arith, near-part a b S, near-part b a (turned a b b a (omega arith) S)))
+      absurd (omega (arith, near-part a b S))
 ]
 
 none : (n m : ℕ) → near (n - m) ≡ near (m - n) → n ≡ m

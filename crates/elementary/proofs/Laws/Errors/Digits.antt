@@ -90,7 +90,7 @@ pub near-mult : (n : ℕ) → Mult (near n) (ex n)
 unfolding near
 near-mult n = (closest n (2 ^ ex n), refl)
 
-pub near-short : (n : ℕ) → Short (near n)
+near-short : (n : ℕ) → Short (near n)
 unfolding near
 near-short n =
     let kept = le-trans (nearest-le (n / 2 ^ ex n) (compare (n % 2 ^ ex n * 2) (2 ^ ex n))) (shr-lt 53 (ex n) (ex-lt n)) in
@@ -163,8 +163,8 @@ near-dist n m = elim (decLe n m) [
 pub near-dist-short : (n m : ℕ) → Short (dist (near (n - m)) (near (m - n)))
 near-dist-short n m = subst Short (sym (near-dist n m .0)) (near-short (dist n m))
 
-pub near-part : (n m : ℕ) → Short (dist n m) → near (n - m) ≡ n - m
+pub near-part : (n m : ℕ) → Short (dist n m) → (near (n - m) ≡ n - m) × (near (m - n) ≡ m - n)
 near-part n m S = elim (decLe n m) [
-  | yes h ↦ near-sides n m (m - n) (omega arith) .0 ∙ omega arith
-  | no h ↦ near-sides m n (dist n m) (omega arith) .1 ∙ near-exact (dist n m) S ∙ omega arith
+  | yes h ↦ let z = near-sides n m (dist n m) (omega arith) in omega (arith, near-exact (dist n m) S)
+  | no h ↦ let z = near-sides m n (dist n m) (omega arith) in omega (arith, near-exact (dist n m) S)
 ]

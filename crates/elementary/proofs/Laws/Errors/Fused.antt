@@ -3,7 +3,7 @@ use mathlib.Core.Path.{_≡_, refl, sym, ap, _∙_, subst}
 use mathlib.Core.Logic.{inl, inr}
 use mathlib.Core.Bool.{Bool, true, false, cond}
 use Prim.Native.Nat.{ℕ, _+_, _-_, _*_, _/_, _%_, _^_, _≤_, _<_}
-use native.Mathlib.Nat.{le-trans, le-of-eq, le-of-lt, lt-of-le-of-lt, eq-zero-or-pos, add-comm, mul-le-mul-right, le-of-mul-le-mul-right}
+use native.Mathlib.Nat.{le-trans, le-of-eq, le-of-lt, eq-zero-or-pos, add-comm, mul-le-mul-right, le-of-mul-le-mul-right}
 use native.Mathlib.Decide.{decLe}
 use native.Mathlib.Omega.{arith}
 use lib.Dec.{T}
@@ -124,8 +124,7 @@ factor S R high h l l' t e H L v =
         high = unit-is s (cond s 0 h * 2 ^ 27) (cond s h 0 * 2 ^ 27) (h * 2 ^ 27) (S .k) 1 v (g .1) (in-bound (h * 2 ^ 27) 53 (S .k) (omega arith) (omega arith));
         h-top = g .2;
         l-top = g .3;
-        from = le-trans (r .0) (le-of-eq (signed-size s a b (S .q) (g .0)));
-        to = lt-of-le-of-lt (le-of-eq (sym (signed-size s a b (S .q) (g .0)))) (S .top);
+        span = subst (λ (w : ℕ). (2 ^ 52 ≤ w) × (w < 2 ^ 53)) (signed-size s a b (S .q) (g .0)) (r .0, S .top);
       },
     )
   where

@@ -95,7 +95,7 @@ minus-is p q a b c d n m e f g = elim (decLe q p) [
   | no h ↦ record { neg = true; size = q - p; is = minus-less p q (2 ^ 1074) (omega arith); pair = omega arith }
 ]
 
-pub sum-is : (s t : Bool) (p q a b c d n m : ℕ) → Signed s a b p → Signed t c d q → a + c + m ≡ n + (b + d) → NearPair (sum binary64 s p t q (2 ^ 1074)) n m
+sum-is : (s t : Bool) (p q a b c d n m : ℕ) → Signed s a b p → Signed t c d q → a + c + m ≡ n + (b + d) → NearPair (sum binary64 s p t q (2 ^ 1074)) n m
 sum-is false false p q a b c d n m e f g = record { neg = false; size = p + q; is = sum-same binary64 false false p q (2 ^ 1074) refl; pair = omega arith }
 sum-is true true p q a b c d n m e f g = record { neg = true; size = p + q; is = sum-same binary64 true true p q (2 ^ 1074) refl; pair = omega arith }
 sum-is false true p q a b c d n m e f g = minus-is p q a b c d n m e f g
@@ -182,7 +182,7 @@ fma-value x y z s t r a b c d n D X Y Z e =
     ∙ sum-value binary64 (a * b * 1) (c * (1 * d)) (1 * (d * d)) n c d (mul-pos (zero-lt-suc 0) (mul-pos D D)) D (omega (arith, ap (λ (w : ℕ). w * d) e)) (omega arith) (unlike s t) r
 
 -- the sign and the size of a product of differences
-pub signed-mul : (s t : Bool) (a b c d v w : ℕ) → Signed s a b v → Signed t c d w → Signed (unlike s t) (a * c + b * d) (a * d + b * c) (v * w)
+signed-mul : (s t : Bool) (a b c d v w : ℕ) → Signed s a b v → Signed t c d w → Signed (unlike s t) (a * c + b * d) (a * d + b * c) (v * w)
 signed-mul s t a b c d v w e f = go s t v w (out (cond s v 0) (cond s 0 v) (cond t w 0) (cond t 0 w) e f)
   where
     out : (p q r u : ℕ) → a + p ≡ b + q → c + r ≡ d + u → a * c + b * d + (p * u + q * r) ≡ a * d + b * c + (p * r + q * u)

@@ -78,10 +78,7 @@ module _ (z z' g : ℕ) (low : 2 ^ 104 ≤ dist z z') (high : dist z z' < 2 ^ 10
       let y = sides .1 * 2 ^ 52 in
       let e : dist (near (n - m) + m) (near (m - n) + n) ≡ dist (x + z') (y + z) * 2 ^ g = rw (sides .2, sides .3, ← add-mul x z' (2 ^ g), ← add-mul y z (2 ^ g)) (sym (dist-mul (x + z') (y + z) (2 ^ g))) in
       let h : 2 ^ ex (dist n m) ≤ 2 ^ (53 + g) = pow-mono (omega (arith, size-le (dist n m) (106 + g) (lt-of-le-of-lt (le-of-eq size-is) (shl-lt 106 g high)))) in
-      le-of-mul-le-mul-right {k = 2 ^ g} (le-trans (le-of-eq (sym e ∙ near-dist n m .1)) (le-trans (half (near (dist n m)) (dist n m) (2 ^ ex (dist n m)) (2 ^ (53 + g)) h (near-half (dist n m))) (le-of-eq (pow-add 2 53 g)))) (pow-pos g)
-    where
-      half : (x y w u : ℕ) → w ≤ u → (x * 2 ≤ y * 2 + w) × (y * 2 ≤ x * 2 + w) → dist x y ≤ u
-      half x y w u h k = omega arith
+      le-of-mul-le-mul-right {k = 2 ^ g} (le-trans (le-of-eq (sym e ∙ near-dist n m .1)) (le-trans (omega (arith, near-half (dist n m))) (le-of-eq (pow-add 2 53 g)))) (pow-pos g)
 
 -- ---- a factor x, cut: h - h' by the unit 2 ^ (27 + i) and l - l' by the unit 2 ^ i
 pub record Factor (x xh : Float) (i h h' l l' t : ℕ) : Type 0 where
@@ -89,8 +86,7 @@ pub record Factor (x xh : Float) (i h h' l l' t : ℕ) : Type 0 where
   pub high : Is xh (h * 2 ^ 27 * 2 ^ i) (h' * 2 ^ 27 * 2 ^ i) 1
   pub h-top : dist h h' ≤ 2 ^ 26
   pub l-top : dist l l' ≤ 2 ^ t
-  pub from : 2 ^ 52 ≤ dist (h * 2 ^ 27 + l) (h' * 2 ^ 27 + l')
-  pub to : dist (h * 2 ^ 27 + l) (h' * 2 ^ 27 + l') < 2 ^ 53
+  pub span : (2 ^ 52 ≤ dist (h * 2 ^ 27 + l) (h' * 2 ^ 27 + l')) × (dist (h * 2 ^ 27 + l) (h' * 2 ^ 27 + l') < 2 ^ 53)
 
 low-is : {x xh : Float} (i h h' l l' t : ℕ) → t ≤ 27 → Factor x xh i h h' l l' t → Is (sub binary64 x xh) (l * 2 ^ 0 * 2 ^ i) (l' * 2 ^ 0 * 2 ^ i) 2
 low-is i h h' l l' t T X = sub-exact (X .whole) (X .high) (l * 2 ^ 0 * 2 ^ i) (l' * 2 ^ 0 * 2 ^ i) (omega arith) (short-unit l l' 0 i (le-trans (X .l-top) (pow-mono {i = t} {j = 53} (omega arith)))) (omega arith)
@@ -116,10 +112,10 @@ module _ {x xh y yh : Float} {h h' l l' s s' k k' i j : ℕ} (g : ℕ) (E : i + 
   z' = (h * 2 ^ 27 + l) * (s' * 2 ^ 27 + k') + (h' * 2 ^ 27 + l') * (s * 2 ^ 27 + k)
 
   z-low : 2 ^ 104 ≤ dist z z'
-  z-low = le-trans (mul-le-mul (X .from) (Y .from)) (le-of-eq (dist-product (h * 2 ^ 27 + l) (h' * 2 ^ 27 + l') (s * 2 ^ 27 + k) (s' * 2 ^ 27 + k')))
+  z-low = le-trans (mul-le-mul (X .span .0) (Y .span .0)) (le-of-eq (dist-product (h * 2 ^ 27 + l) (h' * 2 ^ 27 + l') (s * 2 ^ 27 + k) (s' * 2 ^ 27 + k')))
 
   z-top : dist z z' < 2 ^ 106
-  z-top = lt-of-le-of-lt (le-of-eq (sym (dist-product (h * 2 ^ 27 + l) (h' * 2 ^ 27 + l') (s * 2 ^ 27 + k) (s' * 2 ^ 27 + k')))) (mul-lt 53 53 _ _ (X .to) (Y .to))
+  z-top = lt-of-le-of-lt (le-of-eq (sym (dist-product (h * 2 ^ 27 + l) (h' * 2 ^ 27 + l') (s * 2 ^ 27 + k) (s' * 2 ^ 27 + k')))) (mul-lt 53 53 _ _ (X .span .1) (Y .span .1))
 
   pub z-bound : dist (z * 2 ^ g) (z' * 2 ^ g) ≤ 2 ^ 0 * bound
   z-bound = le-trans (le-of-eq (size-is z z' g z-low z-top)) (in-bound (dist z z') 106 g (le-of-lt z-top) (omega arith))

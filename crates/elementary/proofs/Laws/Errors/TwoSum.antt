@@ -61,6 +61,9 @@ module _ (a b c d n m : ℕ) (E : a + c + m ≡ n + (b + d)) (A : Short (dist a 
       k : ℕ
       k = ex (dist n m)
 
+      twice : (near (a + a - (b + b)) ≡ a + a - (b + b)) × (near (b + b - (a + a)) ≡ b + b - (a + a))
+      twice = near-part (a + a) (b + b) (short-twice a b A)
+
       steps : (j : ℕ) → Mult (near (dist n m)) j → Mult (dist a b) j → Mult (dist (s + b) (r + a)) j
       steps j h g = mult-add s r b a (s + b) (r + a) j (omega arith) (rounded j h) (turn a b j g)
 
@@ -76,8 +79,7 @@ module _ (a b c d n m : ℕ) (E : a + c + m ≡ n + (b + d)) (A : Short (dist a 
       go (no h) (no g) = record {
         unit = A .unit;
         mult = steps (A .unit) (mult-down (near (dist n m)) (A .unit) k (omega arith) (near-mult (dist n m))) (A .mult);
-        top = le-trans (below a b s r (le-trans (near-mono (n - m) (a + a - (b + b)) (omega arith)) (le-of-eq (near-part (a + a) (b + b) (short-twice a b A))))
-            (le-trans (near-mono (m - n) (b + b - (a + a)) (omega arith)) (le-of-eq (near-part (b + b) (a + a) (turned (a + a) (b + b) (b + b) (a + a) (omega arith) (short-twice a b A)))))) (A .top);
+        top = le-trans (below a b s r (le-trans (near-mono (n - m) (a + a - (b + b)) (omega arith)) (le-of-eq (twice .0))) (le-trans (near-mono (m - n) (b + b - (a + a)) (omega arith)) (le-of-eq (twice .1)))) (A .top);
       }
 
 -- ---- the steps
@@ -146,9 +148,7 @@ module _ {x y : Float} {a b c d : ℕ} (X : Is x a b 1) (Y : Is y c d 1) (A : Sh
       go (yes h) _ = by-first (first a b c d (a + c) (b + d) (omega arith) A C h) (turned (p + (b + d)) (q + (a + c)) N M (omega arith) (rest a b c d (a + c) (b + d) (omega arith) A C h))
       go (no h) (yes g) = by-second (omega arith) (omega (arith, near-mono (dist a b) (dist (a + c) (b + d)) g, near-exact (dist a b) A, near-dist (a + c) (b + d) .0))
       go (no h) (no g) =
-          let S = short-sum (omega arith) (omega arith) in
-          let e = near-part (a + c) (b + d) S in
-          let f = near-part (b + d) (a + c) (turned (a + c) (b + d) (b + d) (a + c) (omega arith) S) in
+          let e = near-part (a + c) (b + d) (short-sum (omega arith) (omega arith)) in
           let h : p + (b + d) ≡ q + (a + c) = omega arith in
           by-first (subst Short (same-dist c d (p + b) (q + a) (omega arith)) C) (subst Short (same-dist 0 0 N M (omega arith)) short-zero)
 
