@@ -133,7 +133,7 @@ factor S R high h l l' t e H L v =
     go false = omega arith
 
 -- ---- p and e are a product x - x', c is added, f is the rounded sum
-module _ {p e c f : Float} (x x' k k' : ℕ) (P : Is p (near (x - x')) (near (x' - x)) 1) (E : Is e (x + near (x' - x)) (x' + near (x - x')) 5) (C : Is c k k' 1) (K : Short (dist k k'))
+module _ {p e c f : Float} (x x' k k' : ℕ) (P : Is p (near (x - x')) (near (x' - x)) 2) (E : Is e (x + near (x' - x)) (x' + near (x - x')) 6) (C : Is c k k' 1) (K : Short (dist k k'))
     (small : dist x x' ≤ 1 * bound) (G : NearPair f (x + k) (x' + k')) where
   abbrev s : Float
   s = add binary64 p c
@@ -150,11 +150,11 @@ module _ {p e c f : Float} (x x' k k' : ℕ) (P : Is p (near (x - x')) (near (x'
   abbrev q' : ℕ
   q' = near (y' - y)
 
-  s-is : Is s q q' 2
+  s-is : Is s q q' 6
   s-is = two-sum.sum-near P C (near-dist-short x x') K
 
   -- t is what rounding took off that sum
-  module _ {t : Float} (T-is : Is t (y + q') (y' + q) 12) where
+  module _ {t : Float} (T-is : Is t (y + q') (y' + q) 41) where
     abbrev w : Float
     w = add binary64 t e
 
@@ -170,20 +170,20 @@ module _ {p e c f : Float} (x x' k k' : ℕ) (P : Is p (near (x - x')) (near (x'
     abbrev u' : ℕ
     u' = near (m - n)
 
-    w-is : Is w u u' 32
-    w-is = add-near T-is E n m (omega arith) 5 (omega arith) (omega arith)
+    w-is : Is w u u' 94
+    w-is = add-near T-is E n m (omega arith) (omega arith)
 
     -- a float below and one above that give the same sum
-    pinned : {lo hi : Float} (a a' b b' : ℕ) → Is lo a a' 128 → Is hi b b' 128 → Short (dist a a') → Short (dist b b') → a + u' < u + a' → u + b' < b + u' → toBits binary64 (add binary64 s lo) ≡ toBits binary64 (add binary64 s hi) → add binary64 s w ≡ f
+    pinned : {lo hi : Float} (a a' b b' : ℕ) → Is lo a a' 320 → Is hi b b' 320 → Short (dist a a') → Short (dist b b') → a + u' < u + a' → u + b' < b + u' → toBits binary64 (add binary64 s lo) ≡ toBits binary64 (add binary64 s hi) → add binary64 s w ≡ f
     pinned {lo} {hi} a a' b b' L H SL SH under over same =
         let equal = same-bits (add binary64 s lo) (add binary64 s hi) (add-fits binary64 s lo) (add-fits binary64 s hi) same in
-        let low = add-near s-is L (q + a) (q' + a') refl 8 (omega arith) (omega arith) in
-        let high = rw (← equal) at (add-near s-is H (q + b) (q' + b') refl 8 (omega arith) (omega arith)) in
+        let low = add-near s-is L (q + a) (q' + a') refl (omega arith) in
+        let high = rw (← equal) at (add-near s-is H (q + b) (q' + b') refl (omega arith)) in
         let F : T (fits binary64 f) = rw (G .is) (round-fits binary64 (G .neg) (G .size) (2 ^ 1074)) in
         let whole = near-is G 2 (le-trans (dist-add x x' k k' (x + k) (x' + k') refl) (omega (arith, C .small))) (omega arith) in
         let below = from-below a a' n m SL under in
         let above = from-below b' b m n (turned b b' b' b (omega arith) SH) (omega arith) in
-        sym (between (q + u) (q' + u') (q + a) (q' + a') (q + b) (q' + b') (add-fits binary64 s lo) (add-fits binary64 s w) low high (add-near s-is w-is (q + u) (q' + u') refl 8 (omega arith) (omega arith)) (omega arith) (omega arith) (omega arith))
+        sym (between (q + u) (q' + u') (q + a) (q' + a') (q + b) (q' + b') (add-fits binary64 s lo) (add-fits binary64 s w) low high (add-near s-is w-is (q + u) (q' + u') refl (omega arith)) (omega arith) (omega arith) (omega arith))
         ∙ between (x + k) (x' + k') (q + a) (q' + a') (q + b) (q' + b') (add-fits binary64 s lo) F low high whole (omega arith) (omega arith) (omega arith)
 
     -- ---- the two floats beside w
@@ -193,14 +193,14 @@ module _ {p e c f : Float} (x x' k k' : ℕ) (P : Is p (near (x - x')) (near (x'
     abbrev size : ℕ
     size = S .q * 2 ^ S .k
 
-    size-small : size ≤ 32 * bound
-    size-small = le-trans (le-of-eq (size-is S w-is)) (w-is .small)
+    size-small : size ≤ 128 * bound
+    size-small = le-trans (le-of-eq (size-is S w-is)) (omega (arith, w-is .small))
 
-    room : S .k ≤ 2033
+    room : S .k ≤ 2035
     unfolding bound
     room = elim (eq-zero-or-pos (S .k)) [
       | inl z ↦ omega arith
-      | inr z ↦ omega (arith, pow-le-back (52 + S .k) 2085 (le-trans (le-of-eq (pow-add 2 52 (S .k))) (le-trans (mul-le-mul-right (2 ^ S .k) (S .full z)) (le-trans size-small (le-of-eq (sym (pow-add 2 5 2080)))))))
+      | inr z ↦ omega (arith, pow-le-back (52 + S .k) 2087 (le-trans (le-of-eq (pow-add 2 52 (S .k))) (le-trans (mul-le-mul-right (2 ^ S .k) (S .full z)) (le-trans size-small (le-of-eq (sym (pow-add 2 7 2080)))))))
     ]
 
     abbrev o : ℕ
@@ -209,7 +209,7 @@ module _ {p e c f : Float} (x x' k k' : ℕ) (P : Is p (near (x - x')) (near (x'
     abbrev o' : ℕ
     o' = cond (S .neg) (S .q + 1) 0 * 2 ^ S .k
 
-    out-is : (j : ℕ) → 33 ≤ j → Is (outward w) o o' j
+    out-is : (j : ℕ) → 129 ≤ j → Is (outward w) o o' j
     out-is j h =
         unit-is (S .neg) (cond (S .neg) 0 (S .q + 1)) (cond (S .neg) (S .q + 1) 0) (S .q + 1) (S .k) j
         (written S (toBits binary64 w + 1) (S .q + 1) (omega (arith, S .pattern)) (λ z. omega (arith, S .full z)) (omega (arith, S .top)) (omega (arith, S .top, room))) (alone (S .neg) (S .q + 1))
@@ -231,15 +231,15 @@ module _ {p e c f : Float} (x x' k k' : ℕ) (P : Is p (near (x - x')) (near (x'
         go false e h = subst Short (same-dist size (1 * 2 ^ S .k) (u + u + o') (u' + u' + o) (omega arith)) one
         go true e h = turned size (1 * 2 ^ S .k) (u + u + o') (u' + u' + o) (omega arith) one
 
-    in-is : Is (inward w) (u + u + o') (u' + u' + o) 128
-    in-is = sub-exact (add-exact w-is w-is (u + u) (u' + u') refl (short-twice u u' (near-dist-short n m)) (omega arith)) (out-is 64 (omega arith)) (u + u + o') (u' + u' + o) refl in-short (omega arith)
+    in-is : Is (inward w) (u + u + o') (u' + u' + o) 320
+    in-is = sub-exact (add-exact w-is w-is (u + u) (u' + u') refl (short-twice u u' (near-dist-short n m)) (omega arith)) (out-is 132 (omega arith)) (u + u + o') (u' + u' + o) refl in-short (omega arith)
 
     certain-sum : Certain s w → add binary64 s w ≡ f
     certain-sum same = go (S .neg) (pair-is S w-is) out-pair
       where
         go : (g : Bool) → Signed g u u' size → Signed g o o' ((S .q + 1) * 2 ^ S .k) → add binary64 s w ≡ f
-        go false e h = pinned (u + u + o') (u' + u' + o) o o' in-is (out-is 128 (omega arith)) in-short out-short (omega (arith, pow-pos (S .k))) (omega (arith, pow-pos (S .k))) same
-        go true e h = pinned o o' (u + u + o') (u' + u' + o) (out-is 128 (omega arith)) in-is out-short in-short (omega (arith, pow-pos (S .k))) (omega (arith, pow-pos (S .k))) (sym same)
+        go false e h = pinned (u + u + o') (u' + u' + o) o o' in-is (out-is 320 (omega arith)) in-short out-short (omega (arith, pow-pos (S .k))) (omega (arith, pow-pos (S .k))) same
+        go true e h = pinned o o' (u + u + o') (u' + u' + o) (out-is 320 (omega arith)) in-is out-short in-short (omega (arith, pow-pos (S .k))) (omega (arith, pow-pos (S .k))) (sym same)
 
 -- ---- the operands
 module _ (x y z : Float) (FX : T (fits binary64 x)) (FY : T (fits binary64 y)) (FZ : T (fits binary64 z)) (RX : InRange x) (RY : InRange y) (small : toBits binary64 z % 2 ^ 63 < 0x7e00_0000_0000_0000) where
@@ -285,10 +285,10 @@ module _ (x y z : Float) (FX : T (fits binary64 x)) (FY : T (fits binary64 y)) (
   abbrev k' : ℕ
   k' = cond (Z .neg) (Z .q) 0 * 2 ^ Z .k
 
-  p-is : Is (x ⊗ y) (near (xy - xy')) (near (xy' - xy)) 1
+  p-is : Is (x ⊗ y) (near (xy - xy')) (near (xy' - xy)) 2
   p-is = two-product.rounded unit E G (XF .4) (YF .4)
 
-  e-is : Is (productError x y) (xy + near (xy' - xy)) (xy' + near (xy - xy')) 5
+  e-is : Is (productError x y) (xy + near (xy' - xy)) (xy' + near (xy - xy')) 6
   e-is = two-product.error-is unit E G (XF .4) (YF .4)
 
   z-is : Is z k k' 1

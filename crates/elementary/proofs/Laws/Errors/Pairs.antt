@@ -19,7 +19,7 @@ use Rattle.elementary.proofs.Laws.Values.{recast, value-unique}
 use Rattle.elementary.proofs.Laws.Adding.{sum-value, add-at, neg-value}
 use Rattle.elementary.proofs.mul_add.Sums.{sum-same, sum-more}
 use Rattle.elementary.proofs.mul_add.Exactly.{sum-comm, fma-at}
-use Rattle.elementary.proofs.Laws.Errors.Digits.{ex, dist, dist-mul, Short, near, near-exact, near-mono, near-sides, near-dist}
+use Rattle.elementary.proofs.Laws.Errors.Digits.{ex, dist, dist-mul, Short, short-zero, near, near-best, near-exact, near-sides, near-dist}
 
 -- ---- a whole number of units rounded
 round-units : (s : Bool) (n : ℕ) → round binary64 s n (2 ^ 1074) ≡ units binary64 s (closest n (2 ^ ex n)) (ex n)
@@ -36,12 +36,6 @@ bound = 2 ^ 2080
 pub in-bound : (x k g : ℕ) → x ≤ 2 ^ k → k + g ≤ 2080 → x * 2 ^ g ≤ 1 * bound
 unfolding bound
 in-bound x k g h l = le-trans (mul-le-mul-right (2 ^ g) h) (le-trans (le-of-eq (sym (pow-add 2 k g))) (le-trans (pow-mono {i = k + g} {j = 2080} l) (le-of-eq (sym (one-mul (2 ^ 2080))))))
-
-near-in : (n j : ℕ) → n ≤ 2 ^ j * bound → near n ≤ 2 ^ j * bound
-unfolding bound
-near-in n j h =
-    let e = pow-add 2 j 2080 in
-    le-trans (near-mono n (2 ^ j * bound) h) (le-of-eq (near-exact (2 ^ j * bound) (record { unit = j + 2080; mult = (1, sym e ∙ sym (one-mul (2 ^ (j + 2080)))); top = le-trans (le-of-eq (sym e)) (pow-mono {i = j + 2080} {j = 53 + (j + 2080)} (omega arith)) })))
 
 round-value : (s : Bool) (n : ℕ) → near n ≤ 2 ^ 16 * bound → HasValue (round binary64 s n (2 ^ 1074)) s (near n) (2 ^ 1074)
 unfolding near bound
@@ -109,13 +103,14 @@ module _ {r : Float} {n m : ℕ} (R : NearPair r n m) where
   value : near (R .size) ≤ 2 ^ 16 * bound → HasValue r (R .neg) (near (R .size)) (2 ^ 1074)
   value h = subst (λ (z : Float). HasValue z (R .neg) (near (R .size)) (2 ^ 1074)) (sym (R .is)) (round-value (R .neg) (R .size) h)
 
-  pub near-is : (l : ℕ) → dist n m ≤ 2 ^ l * bound → l ≤ 16 → Is r (near (n - m)) (near (m - n)) (2 ^ l)
+  -- it is at most doubled
+  pub near-is : (l : ℕ) → dist n m ≤ l * bound → l * 2 ≤ 2 ^ 16 → Is r (near (n - m)) (near (m - n)) (l * 2)
   near-is l h k =
-      let top : near (R .size) ≤ 2 ^ l * bound = near-in (R .size) l (le-trans (le-of-eq is-size) h) in
+      let top : near (R .size) ≤ l * 2 * bound = omega (arith, near-best (R .size) 0 short-zero, is-size) in
       record {
         sign = R .neg;
         size = near (R .size);
-        value = value (le-trans top (mul-le-mul-right bound (pow-mono {i = l} {j = 16} k)));
+        value = value (le-trans top (mul-le-mul-right bound k));
         pair = go (R .neg) (R .size) (R .pair);
         small = le-trans (le-of-eq (near-dist n m .0 ∙ ap near (sym is-size))) top;
       }
@@ -151,8 +146,8 @@ module _ {x y : Float} {a b c d i j : ℕ} (X : Is x a b i) (Y : Is y c d j) (n 
   pub add-exact : Short (dist n m) → i + j ≤ 2 ^ 16 → Is (add binary64 x y) n m (i + j)
   add-exact S h = exact-is add-rounds S (i + j) both-small h
 
-  pub add-near : (l : ℕ) → i + j ≤ 2 ^ l → l ≤ 16 → Is (add binary64 x y) (near (n - m)) (near (m - n)) (2 ^ l)
-  add-near l h k = near-is add-rounds l (le-trans both-small (mul-le-mul-right bound h)) k
+  pub add-near : (i + j) * 2 ≤ 2 ^ 16 → Is (add binary64 x y) (near (n - m)) (near (m - n)) ((i + j) * 2)
+  add-near h = near-is add-rounds (i + j) both-small h
 
 -- ---- x - y is n - m
 module _ {x y : Float} {a b c d i j : ℕ} (X : Is x a b i) (Y : Is y c d j) (n m : ℕ) (E : a + d + m ≡ n + (b + c)) where
@@ -160,9 +155,9 @@ module _ {x y : Float} {a b c d i j : ℕ} (X : Is x a b i) (Y : Is y c d j) (n 
   unfolding sub
   sub-exact S h = add-exact X (neg-is Y) n m E S h
 
-  pub sub-near : (l : ℕ) → i + j ≤ 2 ^ l → l ≤ 16 → Is (sub binary64 x y) (near (n - m)) (near (m - n)) (2 ^ l)
+  pub sub-near : (i + j) * 2 ≤ 2 ^ 16 → Is (sub binary64 x y) (near (n - m)) (near (m - n)) ((i + j) * 2)
   unfolding sub
-  sub-near l h k = add-near X (neg-is Y) n m E l h k
+  sub-near h = add-near X (neg-is Y) n m E h
 
 -- ---- x * y is n - m
 pub mul-value : (x y : Float) (s t : Bool) (a b c d : ℕ) → 0 < c → 0 < d → HasValue x s a c → HasValue y t b d → mul binary64 x y ≡ round binary64 (unlike s t) (a * b) (c * d)

@@ -117,17 +117,17 @@ module _ {x xh y yh : Float} {h h' l l' s s' k k' i j : ℕ} (g : ℕ) (E : i + 
   z-top : dist z z' < 2 ^ 106
   z-top = lt-of-le-of-lt (le-of-eq (sym (dist-product (h * 2 ^ 27 + l) (h' * 2 ^ 27 + l') (s * 2 ^ 27 + k) (s' * 2 ^ 27 + k')))) (mul-lt 53 53 _ _ (X .span .1) (Y .span .1))
 
-  pub z-bound : dist (z * 2 ^ g) (z' * 2 ^ g) ≤ 2 ^ 0 * bound
+  pub z-bound : dist (z * 2 ^ g) (z' * 2 ^ g) ≤ 1 * bound
   z-bound = le-trans (le-of-eq (size-is z z' g z-low z-top)) (in-bound (dist z z') 106 g (le-of-lt z-top) (omega arith))
 
-  pub rounded : Is (mul binary64 x y) (near (z * 2 ^ g - z' * 2 ^ g)) (near (z' * 2 ^ g - z * 2 ^ g)) 1
-  rounded = near-is (product-rounds (h * 2 ^ 27 + l) (h' * 2 ^ 27 + l') (s * 2 ^ 27 + k) (s' * 2 ^ 27 + k') i j g E (X .whole) (Y .whole)) 0 z-bound (omega arith)
+  pub rounded : Is (mul binary64 x y) (near (z * 2 ^ g - z' * 2 ^ g)) (near (z' * 2 ^ g - z * 2 ^ g)) 2
+  rounded = near-is (product-rounds (h * 2 ^ 27 + l) (h' * 2 ^ 27 + l') (s * 2 ^ 27 + k) (s' * 2 ^ 27 + k') i j g E (X .whole) (Y .whole)) 1 z-bound (omega arith)
 
   pub fused : {w : Float} {m n h : ℕ} → Is w m n h → NearPair (fma binary64 x y w) (z * 2 ^ g + m) (z' * 2 ^ g + n)
   fused W = fused-rounds (h * 2 ^ 27 + l) (h' * 2 ^ 27 + l') (s * 2 ^ 27 + k) (s' * 2 ^ 27 + k') i j g E (X .whole) (Y .whole) W
 
   pub error-is : Is (add binary64 (add binary64 (add binary64 (sub binary64 (mul binary64 xh yh) (mul binary64 x y)) (mul binary64 xh (sub binary64 y yh))) (mul binary64 (sub binary64 x xh) yh)) (mul binary64 (sub binary64 x xh) (sub binary64 y yh)))
-      (z * 2 ^ g + near (z' * 2 ^ g - z * 2 ^ g)) (z' * 2 ^ g + near (z * 2 ^ g - z' * 2 ^ g)) 5
+      (z * 2 ^ g + near (z' * 2 ^ g - z * 2 ^ g)) (z' * 2 ^ g + near (z * 2 ^ g - z' * 2 ^ g)) 6
   error-is =
       let a = h * s + h' * s' in
       let a' = h * s' + h' * s in
@@ -154,7 +154,7 @@ module _ {x xh y yh : Float} {h h' l l' s s' k k' i j : ℕ} (g : ℕ) (E : i + 
       let B = product-exact (h * 2 ^ 27) (h' * 2 ^ 27) (k * 2 ^ 0) (k' * 2 ^ 0) i j g E (X .high) yl b b' 27 (omega arith) (omega arith) b-top (omega arith) in
       let C = product-exact (l * 2 ^ 0) (l' * 2 ^ 0) (s * 2 ^ 27) (s' * 2 ^ 27) i j g E xl (Y .high) c c' 27 (omega arith) (omega arith) (le-trans c-top (pow-mono {i = 52} {j = 53} (omega arith))) (omega arith) in
       let D = product-exact (l * 2 ^ 0) (l' * 2 ^ 0) (k * 2 ^ 0) (k' * 2 ^ 0) i j g E xl yl d d' 0 (omega arith) (omega arith) d-top (omega arith) in
-      let P : Is (mul binary64 x y) (q * 2 ^ 52 * 2 ^ g) (q' * 2 ^ 52 * 2 ^ g) 1 = rw (r .2, r .3) at rounded in
+      let P : Is (mul binary64 x y) (q * 2 ^ 52 * 2 ^ g) (q' * 2 ^ 52 * 2 ^ g) 2 = rw (r .2, r .3) at rounded in
       let u = a * 4 + q' in
       let u' = a' * 4 + q in
       let v = a * 2 ^ 27 + q' * 2 ^ 25 + b in

@@ -83,7 +83,7 @@ module _ (a b c d n m : ℕ) (E : a + c + m ≡ n + (b + d)) (A : Short (dist a 
       }
 
 -- ---- the steps
-module _ {x y : Float} {a b c d : ℕ} (X : Is x a b 1) (Y : Is y c d 1) (A : Short (dist a b)) (C : Short (dist c d)) where
+module _ {x y : Float} {a b c d : ℕ} (X : Is x a b 2) (Y : Is y c d 1) (A : Short (dist a b)) (C : Short (dist c d)) where
   abbrev p : ℕ
   p = near (a + c - (b + d))
 
@@ -105,25 +105,25 @@ module _ {x y : Float} {a b c d : ℕ} (X : Is x a b 1) (Y : Is y c d 1) (A : Sh
   abbrev M : ℕ
   M = b + d + p
 
-  pub sum-near : Is sum p q 2
-  sum-near = add-near X Y (a + c) (b + d) (omega arith) 1 (omega arith) (omega arith)
+  pub sum-near : Is sum p q 6
+  sum-near = add-near X Y (a + c) (b + d) (omega arith) (omega arith)
 
   -- where s - x is short
   module _ (F : Short (dist (p + b) (q + a))) (R : Short (dist N M)) where
-    first-is : Is v (p + b) (q + a) 3
+    first-is : Is v (p + b) (q + a) 8
     first-is = sub-exact sum-near X (p + b) (q + a) (omega arith) F (omega arith)
 
-    left-is : Is (sub binary64 y v) N M 4
+    left-is : Is (sub binary64 y v) N M 9
     left-is = sub-exact Y first-is N M (omega arith) R (omega arith)
 
-    by-first : Is t N M 12
+    by-first : Is t N M 41
     by-first =
-        let Z : Is (sub binary64 sum v) a b 5 = sub-exact sum-near first-is a b (omega arith) A (omega arith) in
-        let D : Is (sub binary64 x (sub binary64 sum v)) 0 0 6 = sub-exact X Z 0 0 (omega arith) short-zero (omega arith) in
-        widen 12 (omega arith) (add-exact D left-is N M (omega arith) R (omega arith))
+        let Z : Is (sub binary64 sum v) a b 14 = sub-exact sum-near first-is a b (omega arith) A (omega arith) in
+        let D : Is (sub binary64 x (sub binary64 sum v)) 0 0 16 = sub-exact X Z 0 0 (omega arith) short-zero (omega arith) in
+        widen 41 (omega arith) (add-exact D left-is N M (omega arith) R (omega arith))
 
   -- where s - x is rounded once more
-  by-second : dist a b ≤ dist c d → dist b a ≤ dist p q → Is t N M 12
+  by-second : dist a b ≤ dist c d → dist b a ≤ dist p q → Is t N M 41
   by-second l g =
       let u = near (p + b - (q + a)) in
       let w = near (q + a - (p + b)) in
@@ -131,20 +131,20 @@ module _ {x y : Float} {a b c d : ℕ} (X : Is x a b 1) (Y : Is y c d 1) (A : Sh
       let P = near-dist-short (a + c) (b + d) in
       let R = rest c d a b (a + c) (b + d) (omega arith) C A l in
       let G = first c d (p + (b + d)) (q + (a + c)) (p + b) (q + a) (omega arith) C R (le-trans (off c d a b (a + c) (b + d) (omega arith) C A l) l) in
-      let W : Is v u w 4 = sub-near sum-near X (p + b) (q + a) (omega arith) 2 (omega arith) (omega arith) in
-      let Z : Is (sub binary64 sum v) (p + w) (q + u) 6 = sub-exact sum-near W (p + w) (q + u) (omega arith) (turned (u + q) (w + p) (p + w) (q + u) (omega arith) (first p q b a (p + b) (q + a) (omega arith) P B g)) (omega arith) in
-      let D : Is (sub binary64 x (sub binary64 sum v)) (u + (q + a)) (w + (p + b)) 7 = sub-exact X Z (u + (q + a)) (w + (p + b)) (omega arith) (rest p q b a (p + b) (q + a) (omega arith) P B g) (omega arith) in
-      let E : Is (sub binary64 y v) (c + w) (d + u) 5 = sub-exact Y W (c + w) (d + u) (omega arith) (turned (u + d) (w + c) (c + w) (d + u) (omega arith) G) (omega arith) in
+      let W : Is v u w 16 = sub-near sum-near X (p + b) (q + a) (omega arith) (omega arith) in
+      let Z : Is (sub binary64 sum v) (p + w) (q + u) 22 = sub-exact sum-near W (p + w) (q + u) (omega arith) (turned (u + q) (w + p) (p + w) (q + u) (omega arith) (first p q b a (p + b) (q + a) (omega arith) P B g)) (omega arith) in
+      let D : Is (sub binary64 x (sub binary64 sum v)) (u + (q + a)) (w + (p + b)) 24 = sub-exact X Z (u + (q + a)) (w + (p + b)) (omega arith) (rest p q b a (p + b) (q + a) (omega arith) P B g) (omega arith) in
+      let E : Is (sub binary64 y v) (c + w) (d + u) 17 = sub-exact Y W (c + w) (d + u) (omega arith) (turned (u + d) (w + c) (c + w) (d + u) (omega arith) G) (omega arith) in
       add-exact D E N M (omega arith) (turned (p + (b + d)) (q + (a + c)) N M (omega arith) R) (omega arith)
 
   -- ---- which of the two it is
-  pub error-is : Is t N M 12
+  pub error-is : Is t N M 41
   error-is = go (decLe (dist c d) (dist a b)) (decLe (dist a b) (dist (a + c) (b + d)))
     where
       short-sum : dist a b ≤ dist c d → dist (a + c) (b + d) ≤ dist a b → Short (dist (a + c) (b + d))
       short-sum l h = let J = common (dist c d) (dist a b) C A l in record { unit = J .0; mult = mult-add a b c d (a + c) (b + d) (J .0) (omega arith) (J .2) (J .1); top = le-trans h (J .3) }
 
-      go : Dec (dist c d ≤ dist a b) → Dec (dist a b ≤ dist (a + c) (b + d)) → Is t N M 12
+      go : Dec (dist c d ≤ dist a b) → Dec (dist a b ≤ dist (a + c) (b + d)) → Is t N M 41
       go (yes h) _ = by-first (first a b c d (a + c) (b + d) (omega arith) A C h) (turned (p + (b + d)) (q + (a + c)) N M (omega arith) (rest a b c d (a + c) (b + d) (omega arith) A C h))
       go (no h) (yes g) = by-second (omega arith) (omega (arith, near-mono (dist a b) (dist (a + c) (b + d)) g, near-exact (dist a b) A, near-dist (a + c) (b + d) .0))
       go (no h) (no g) =
@@ -153,5 +153,5 @@ module _ {x y : Float} {a b c d : ℕ} (X : Is x a b 1) (Y : Is y c d 1) (A : Sh
           by-first (subst Short (same-dist c d (p + b) (q + a) (omega arith)) C) (subst Short (same-dist 0 0 N M (omega arith)) short-zero)
 
   -- Dekker's, where x is not the smaller one
-  pub ordered-error-is : dist c d ≤ dist a b → Is (sub binary64 y v) N M 12
-  ordered-error-is h = widen 12 (omega arith) (left-is (first a b c d (a + c) (b + d) (omega arith) A C h) (turned (p + (b + d)) (q + (a + c)) N M (omega arith) (rest a b c d (a + c) (b + d) (omega arith) A C h)))
+  pub ordered-error-is : dist c d ≤ dist a b → Is (sub binary64 y v) N M 41
+  ordered-error-is h = widen 41 (omega arith) (left-is (first a b c d (a + c) (b + d) (omega arith) A C h) (turned (p + (b + d)) (q + (a + c)) N M (omega arith) (rest a b c d (a + c) (b + d) (omega arith) A C h)))
