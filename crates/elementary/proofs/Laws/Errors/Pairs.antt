@@ -19,7 +19,7 @@ use Rattle.elementary.proofs.Laws.Values.{recast, value-unique}
 use Rattle.elementary.proofs.Laws.Adding.{sum-value, add-at, neg-value}
 use Rattle.elementary.proofs.mul_add.Sums.{sum-same, sum-more}
 use Rattle.elementary.proofs.mul_add.Exactly.{sum-comm, fma-at}
-use Rattle.elementary.proofs.Laws.Errors.Digits.{ex, dist, dist-mul, Short, short-zero, near, near-best, near-exact, near-sides, near-dist}
+use Rattle.elementary.proofs.Laws.Errors.Digits.{ex, dist, dist-mul, Short, short-zero, near, near-best, near-sides, near-dist, near-part}
 
 -- ---- a whole number of units rounded
 round-units : (s : Bool) (n : ℕ) → round binary64 s n (2 ^ 1074) ≡ units binary64 s (closest n (2 ^ ex n)) (ex n)
@@ -100,9 +100,6 @@ module _ {r : Float} {n m : ℕ} (R : NearPair r n m) where
   is-size : R .size ≡ dist n m
   is-size = signed-size (R .neg) n m (R .size) (R .pair)
 
-  value : near (R .size) ≤ 2 ^ 16 * bound → HasValue r (R .neg) (near (R .size)) (2 ^ 1074)
-  value h = subst (λ (z : Float). HasValue z (R .neg) (near (R .size)) (2 ^ 1074)) (sym (R .is)) (round-value (R .neg) (R .size) h)
-
   -- it is at most doubled
   pub near-is : (l : ℕ) → dist n m ≤ l * bound → l * 2 ≤ 2 ^ 16 → Is r (near (n - m)) (near (m - n)) (l * 2)
   near-is l h k =
@@ -110,7 +107,7 @@ module _ {r : Float} {n m : ℕ} (R : NearPair r n m) where
       record {
         sign = R .neg;
         size = near (R .size);
-        value = value (le-trans top (mul-le-mul-right bound k));
+        value = subst (λ (z : Float). HasValue z (R .neg) (near (R .size)) (2 ^ 1074)) (sym (R .is)) (round-value (R .neg) (R .size) (le-trans top (mul-le-mul-right bound k)));
         pair = go (R .neg) (R .size) (R .pair);
         small = le-trans (le-of-eq (near-dist n m .0 ∙ ap near (sym is-size))) top;
       }
@@ -119,16 +116,10 @@ module _ {r : Float} {n m : ℕ} (R : NearPair r n m) where
       go true v e = let z = near-sides n m v (omega arith) in omega arith
       go false v e = let z = near-sides m n v (omega arith) in omega arith
 
-  pub exact-is : Short (dist n m) → (l : ℕ) → dist n m ≤ l * bound → l ≤ 2 ^ 16 → Is r n m l
+  pub exact-is : Short (dist n m) → (l : ℕ) → dist n m ≤ l * bound → l * 2 ≤ 2 ^ 16 → Is r n m l
   exact-is S l h k =
-      let e = near-exact (R .size) (subst Short (sym is-size) S) in
-      record {
-        sign = R .neg;
-        size = R .size;
-        value = recast r (2 ^ 1074) refl e (value (le-trans (le-of-eq (e ∙ is-size)) (le-trans h (mul-le-mul-right bound k))));
-        pair = R .pair;
-        small = h;
-      }
+      let N = near-is l h k in
+      record { sign = N .sign; size = N .size; value = N .value; pair = omega (arith, N .pair, near-part n m S); small = h }
 
 -- ---- x + y is n - m
 pub dist-add : (a b c d n m : ℕ) → a + c + m ≡ n + (b + d) → dist n m ≤ dist a b + dist c d
@@ -143,7 +134,7 @@ module _ {x y : Float} {a b c d i j : ℕ} (X : Is x a b i) (Y : Is y c d j) (n 
   both-small : dist n m ≤ (i + j) * bound
   both-small = le-trans (dist-add a b c d n m E) (omega (arith, X .small, Y .small, add-mul i j bound))
 
-  pub add-exact : Short (dist n m) → i + j ≤ 2 ^ 16 → Is (add binary64 x y) n m (i + j)
+  pub add-exact : Short (dist n m) → (i + j) * 2 ≤ 2 ^ 16 → Is (add binary64 x y) n m (i + j)
   add-exact S h = exact-is add-rounds S (i + j) both-small h
 
   pub add-near : (i + j) * 2 ≤ 2 ^ 16 → Is (add binary64 x y) (near (n - m)) (near (m - n)) ((i + j) * 2)
@@ -151,7 +142,7 @@ module _ {x y : Float} {a b c d i j : ℕ} (X : Is x a b i) (Y : Is y c d j) (n 
 
 -- ---- x - y is n - m
 module _ {x y : Float} {a b c d i j : ℕ} (X : Is x a b i) (Y : Is y c d j) (n m : ℕ) (E : a + d + m ≡ n + (b + c)) where
-  pub sub-exact : Short (dist n m) → i + j ≤ 2 ^ 16 → Is (sub binary64 x y) n m (i + j)
+  pub sub-exact : Short (dist n m) → (i + j) * 2 ≤ 2 ^ 16 → Is (sub binary64 x y) n m (i + j)
   unfolding sub
   sub-exact S h = add-exact X (neg-is Y) n m E S h
 
