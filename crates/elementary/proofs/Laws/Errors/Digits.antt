@@ -104,12 +104,10 @@ near-half n =
 
 -- among the multiples of its unit
 best-mult : (n f : ℕ) → Mult f (ex n) → dist (near n) n ≤ dist f n
-best-mult n f m = go (decLe f (near n)) (decLe (near n) f)
-  where
-    go : Dec (f ≤ near n) → Dec (near n ≤ f) → dist (near n) n ≤ dist f n
-    go (yes a) (yes b) = omega arith
-    go (yes a) (no b) = omega (arith, mult-apart f (near n) (ex n) m (near-mult n) (omega arith), near-half n .0, near-half n .1)
-    go (no a) d = omega (arith, mult-apart (near n) f (ex n) (near-mult n) m (omega arith), near-half n .0, near-half n .1)
+best-mult n f m = elim (decLe f (near n)) [
+  | yes a ↦ elim (decLe (near n) f) [ yes b ↦ omega arith | no b ↦ omega (arith, mult-apart f (near n) (ex n) m (near-mult n) (omega arith), near-half n) ]
+  | no a ↦ omega (arith, mult-apart (near n) f (ex n) (near-mult n) m (omega arith), near-half n)
+]
 
 pub near-best : (n f : ℕ) → Short f → dist (near n) n ≤ dist f n
 near-best n f s = elim (decLe (ex n) (s .unit)) [

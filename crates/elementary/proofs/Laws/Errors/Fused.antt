@@ -43,14 +43,12 @@ record Spelled (x : Float) : Type 0 where
 spell : (x : Float) → T (fits binary64 x) → toBits binary64 x % 2 ^ 63 / 2 ^ 52 < 2047 → Spelled x
 spell x F h =
     let b = toBits binary64 x in
-    let s = sign b (toBits-lt binary64 x F) in
+    let t = toBits-lt binary64 x F in
+    let s : (s : Bool) × (b ≡ cond s 1 0 * 2 ^ 63 + b % 2 ^ 63) = elim (decLe (2 ^ 63) b) [ yes l ↦ (true, omega arith) | no l ↦ (false, omega arith) ] in
     elim (eq-zero-or-pos (b % 2 ^ 63 / 2 ^ 52)) [
       | inl e ↦ record { neg = s .0; k = 0; q = b % 2 ^ 63; fit = F; pattern = omega (arith, s .1); full = λ z. absurd (omega arith); top = omega arith; room = omega arith }
       | inr p ↦ record { neg = s .0; k = b % 2 ^ 63 / 2 ^ 52 - 1; q = 2 ^ 52 + b % 2 ^ 52; fit = F; pattern = omega (arith, s .1); full = λ z. omega arith; top = omega arith; room = omega arith }
     ]
-  where
-    sign : (b : ℕ) → b < 2 ^ 64 → (s : Bool) × (b ≡ cond s 1 0 * 2 ^ 63 + b % 2 ^ 63)
-    sign b h = elim (decLe (2 ^ 63) b) [ yes l ↦ (true, omega arith) | no l ↦ (false, omega arith) ]
 
 finite-value : (x : Float) (s : Bool) (v : ℕ) → HasValue x s v (2 ^ 1074) → T (finite x)
 finite-value nan s v p = p
@@ -267,17 +265,14 @@ module _ (x y z : Float) (FX : T (fits binary64 x)) (FY : T (fits binary64 y)) (
   abbrev unit : ℕ
   unit = X .k + Y .k - 1074
 
-  E : X .k + Y .k ≡ unit + 1074
-  E = omega (arith, in-range X RX .1, in-range Y RY .1)
-
-  G : unit ≤ 1900
-  G = omega (arith, in-range X RX .2, in-range Y RY .2)
+  E : (X .k + Y .k ≡ unit + 1074) × (unit ≤ 1900)
+  E = let r = in-range X RX in let t = in-range Y RY in omega arith
 
   abbrev xy : ℕ
-  xy = two-product.z unit E G (XF .4) (YF .4) * 2 ^ unit
+  xy = two-product.z unit E (XF .4) (YF .4) * 2 ^ unit
 
   abbrev xy' : ℕ
-  xy' = two-product.z' unit E G (XF .4) (YF .4) * 2 ^ unit
+  xy' = two-product.z' unit E (XF .4) (YF .4) * 2 ^ unit
 
   abbrev k : ℕ
   k = cond (Z .neg) 0 (Z .q) * 2 ^ Z .k
@@ -286,10 +281,10 @@ module _ (x y z : Float) (FX : T (fits binary64 x)) (FY : T (fits binary64 y)) (
   k' = cond (Z .neg) (Z .q) 0 * 2 ^ Z .k
 
   p-is : Is (x ⊗ y) (near (xy - xy')) (near (xy' - xy)) 2
-  p-is = two-product.rounded unit E G (XF .4) (YF .4)
+  p-is = two-product.rounded unit E (XF .4) (YF .4)
 
   e-is : Is (productError x y) (xy + near (xy' - xy)) (xy' + near (xy - xy')) 6
-  e-is = two-product.error-is unit E G (XF .4) (YF .4)
+  e-is = two-product.error-is unit E (XF .4) (YF .4)
 
   z-is : Is z k k' 1
   z-is = unit-is (Z .neg) (cond (Z .neg) 0 (Z .q)) (cond (Z .neg) (Z .q) 0) (Z .q) (Z .k) 1 (value Z) (alone (Z .neg) (Z .q)) (in-bound (Z .q) 53 (Z .k) (le-of-lt (Z .top)) (omega (arith, Z .pattern, Z .room)))
@@ -298,10 +293,10 @@ module _ (x y z : Float) (FX : T (fits binary64 x)) (FY : T (fits binary64 y)) (
   z-short = alone-short (Z .neg) (Z .q) (Z .k) (le-of-lt (Z .top))
 
   f-is : NearPair (fma binary64 x y z) (xy + k) (xy' + k')
-  f-is = two-product.fused unit E G (XF .4) (YF .4) z-is
+  f-is = two-product.fused unit E (XF .4) (YF .4) z-is
 
   small-product : dist xy xy' ≤ 1 * bound
-  small-product = two-product.z-bound unit E G (XF .4) (YF .4)
+  small-product = two-product.z-bound unit E (XF .4) (YF .4)
 
   pub fused-is : Certain (x ⊗ y ⊕ z) (sumError (x ⊗ y) z ⊕ productError x y) → x ⊗ y ⊕ z ⊕ (sumError (x ⊗ y) z ⊕ productError x y) ≡ fma binary64 x y z
   fused-is = certain-sum xy xy' k k' p-is e-is z-is z-short small-product f-is (two-sum.error-is p-is z-is (near-dist-short xy xy') z-short)

@@ -1,5 +1,5 @@
 -- A product's rounding error as a float: four exact products and their exact sums. Assumes nothing.
-use mathlib.Core.Path.{_≡_, refl, sym, ap, _∙_}
+use mathlib.Core.Path.{_≡_, refl, sym, ap, _∙_, subst}
 use Prim.Native.Nat.{ℕ, _+_, _-_, _*_, _^_, _≤_, _<_}
 use native.Mathlib.Nat.{le-trans, le-of-eq, le-of-lt, lt-of-lt-of-le, lt-of-le-of-lt, not-le-of-lt, le-of-mul-le-mul-right, mul-le-mul, mul-le-mul-right, mul-assoc, add-mul}
 use native.Mathlib.Decide.{decLe}
@@ -43,7 +43,7 @@ product-top : (i j a b c d : ℕ) → dist a b ≤ 2 ^ i → dist c d ≤ 2 ^ j 
 product-top i j a b c d h k = le-trans (le-of-eq (sym (dist-product a b c d))) (le-trans (mul-le-mul h k) (le-of-eq (sym (pow-add 2 i j))))
 
 -- ---- a rounded product of 105 or 106 digits
-module _ (z z' g : ℕ) (low : 2 ^ 104 ≤ dist z z') (high : dist z z' < 2 ^ 106) where
+module _ (z z' g : ℕ) (Z : (2 ^ 104 ≤ dist z z') × (dist z z' < 2 ^ 106)) where
   abbrev n : ℕ
   n = z * 2 ^ g
 
@@ -54,7 +54,7 @@ module _ (z z' g : ℕ) (low : 2 ^ 104 ≤ dist z z') (high : dist z z' < 2 ^ 10
   size-is = sym (dist-mul z z' (2 ^ g))
 
   reached : 2 ^ (104 + g) ≤ dist n m
-  reached = le-trans (le-of-eq (pow-add 2 104 g)) (le-trans (mul-le-mul-right (2 ^ g) low) (le-of-eq (sym size-is)))
+  reached = le-trans (le-of-eq (pow-add 2 104 g)) (le-trans (mul-le-mul-right (2 ^ g) (Z .0)) (le-of-eq (sym size-is)))
 
   nearest : Mult (near (dist n m)) (52 + g)
   nearest = elim (decLe (52 + g) (ex (dist n m))) [
@@ -77,7 +77,7 @@ module _ (z z' g : ℕ) (low : 2 ^ 104 ≤ dist z z') (high : dist z z' < 2 ^ 10
       let x = sides .0 * 2 ^ 52 in
       let y = sides .1 * 2 ^ 52 in
       let e : dist (near (n - m) + m) (near (m - n) + n) ≡ dist (x + z') (y + z) * 2 ^ g = rw (sides .2, sides .3, ← add-mul x z' (2 ^ g), ← add-mul y z (2 ^ g)) (sym (dist-mul (x + z') (y + z) (2 ^ g))) in
-      let h : 2 ^ ex (dist n m) ≤ 2 ^ (53 + g) = pow-mono (omega (arith, size-le (dist n m) (106 + g) (lt-of-le-of-lt (le-of-eq size-is) (shl-lt 106 g high)))) in
+      let h : 2 ^ ex (dist n m) ≤ 2 ^ (53 + g) = pow-mono (omega (arith, size-le (dist n m) (106 + g) (lt-of-le-of-lt (le-of-eq size-is) (shl-lt 106 g (Z .1))))) in
       le-of-mul-le-mul-right {k = 2 ^ g} (le-trans (le-of-eq (sym e ∙ near-dist n m .1)) (le-trans (omega (arith, near-half (dist n m))) (le-of-eq (pow-add 2 53 g)))) (pow-pos g)
 
 -- ---- a factor x, cut: h - h' by the unit 2 ^ (27 + i) and l - l' by the unit 2 ^ i
@@ -104,27 +104,24 @@ last : (a a' b b' c c' d d' q q' z z' p : ℕ) → z ≡ a * 2 ^ 54 + b * 2 ^ 27
     → (a * 2 ^ 27 + q' * 2 ^ 25 + b + c) * 2 ^ 27 * p + d * 2 ^ 0 * p + (z' * p + q * 2 ^ 52 * p) ≡ z * p + q' * 2 ^ 52 * p + ((a' * 2 ^ 27 + q * 2 ^ 25 + b' + c') * 2 ^ 27 * p + d' * 2 ^ 0 * p)
 last a a' b b' c c' d d' q q' z z' p e e' = omega (arith, ap (λ (w : ℕ). w * p) e, ap (λ (w : ℕ). w * p) e')
 
-module _ {x xh y yh : Float} {h h' l l' s s' k k' i j : ℕ} (g : ℕ) (E : i + j ≡ g + 1074) (G : g ≤ 1900) (X : Factor x xh i h h' l l' 26) (Y : Factor y yh j s s' k k' 27) where
+module _ {x xh y yh : Float} {h h' l l' s s' k k' i j : ℕ} (g : ℕ) (E : (i + j ≡ g + 1074) × (g ≤ 1900)) (X : Factor x xh i h h' l l' 26) (Y : Factor y yh j s s' k k' 27) where
   abbrev pub z : ℕ
   z = (h * 2 ^ 27 + l) * (s * 2 ^ 27 + k) + (h' * 2 ^ 27 + l') * (s' * 2 ^ 27 + k')
 
   abbrev pub z' : ℕ
   z' = (h * 2 ^ 27 + l) * (s' * 2 ^ 27 + k') + (h' * 2 ^ 27 + l') * (s * 2 ^ 27 + k)
 
-  z-low : 2 ^ 104 ≤ dist z z'
-  z-low = le-trans (mul-le-mul (X .span .0) (Y .span .0)) (le-of-eq (dist-product (h * 2 ^ 27 + l) (h' * 2 ^ 27 + l') (s * 2 ^ 27 + k) (s' * 2 ^ 27 + k')))
-
-  z-top : dist z z' < 2 ^ 106
-  z-top = lt-of-le-of-lt (le-of-eq (sym (dist-product (h * 2 ^ 27 + l) (h' * 2 ^ 27 + l') (s * 2 ^ 27 + k) (s' * 2 ^ 27 + k')))) (mul-lt 53 53 _ _ (X .span .1) (Y .span .1))
+  z-span : (2 ^ 104 ≤ dist z z') × (dist z z' < 2 ^ 106)
+  z-span = subst (λ (w : ℕ). (2 ^ 104 ≤ w) × (w < 2 ^ 106)) (dist-product (h * 2 ^ 27 + l) (h' * 2 ^ 27 + l') (s * 2 ^ 27 + k) (s' * 2 ^ 27 + k')) (mul-le-mul (X .span .0) (Y .span .0), mul-lt 53 53 _ _ (X .span .1) (Y .span .1))
 
   pub z-bound : dist (z * 2 ^ g) (z' * 2 ^ g) ≤ 1 * bound
-  z-bound = le-trans (le-of-eq (size-is z z' g z-low z-top)) (in-bound (dist z z') 106 g (le-of-lt z-top) (omega arith))
+  z-bound = le-trans (le-of-eq (size-is z z' g z-span)) (in-bound (dist z z') 106 g (le-of-lt (z-span .1)) (omega arith))
 
   pub rounded : Is (mul binary64 x y) (near (z * 2 ^ g - z' * 2 ^ g)) (near (z' * 2 ^ g - z * 2 ^ g)) 2
-  rounded = near-is (product-rounds (h * 2 ^ 27 + l) (h' * 2 ^ 27 + l') (s * 2 ^ 27 + k) (s' * 2 ^ 27 + k') i j g E (X .whole) (Y .whole)) 1 z-bound (omega arith)
+  rounded = near-is (product-rounds (h * 2 ^ 27 + l) (h' * 2 ^ 27 + l') (s * 2 ^ 27 + k) (s' * 2 ^ 27 + k') i j g (E .0) (X .whole) (Y .whole)) 1 z-bound (omega arith)
 
   pub fused : {w : Float} {m n h : ℕ} → Is w m n h → NearPair (fma binary64 x y w) (z * 2 ^ g + m) (z' * 2 ^ g + n)
-  fused W = fused-rounds (h * 2 ^ 27 + l) (h' * 2 ^ 27 + l') (s * 2 ^ 27 + k) (s' * 2 ^ 27 + k') i j g E (X .whole) (Y .whole) W
+  fused W = fused-rounds (h * 2 ^ 27 + l) (h' * 2 ^ 27 + l') (s * 2 ^ 27 + k) (s' * 2 ^ 27 + k') i j g (E .0) (X .whole) (Y .whole) W
 
   pub error-is : Is (add binary64 (add binary64 (add binary64 (sub binary64 (mul binary64 xh yh) (mul binary64 x y)) (mul binary64 xh (sub binary64 y yh))) (mul binary64 (sub binary64 x xh) yh)) (mul binary64 (sub binary64 x xh) (sub binary64 y yh)))
       (z * 2 ^ g + near (z' * 2 ^ g - z * 2 ^ g)) (z' * 2 ^ g + near (z * 2 ^ g - z' * 2 ^ g)) 6
@@ -139,10 +136,10 @@ module _ {x xh y yh : Float} {h h' l l' s s' k k' i j : ℕ} (g : ℕ) (E : i + 
       let d' = l * k' + l' * k in
       let e : z ≡ a * 2 ^ 54 + b * 2 ^ 27 + c * 2 ^ 27 + d = omega arith in
       let e' : z' ≡ a' * 2 ^ 54 + b' * 2 ^ 27 + c' * 2 ^ 27 + d' = omega arith in
-      let r = sides z z' g z-low z-top in
+      let r = sides z z' g z-span in
       let q = r .0 in
       let q' = r .1 in
-      let near-z = close z z' g z-low z-top in
+      let near-z = close z z' g z-span in
       let yl = low-is j s s' k k' 27 (omega arith) Y in
       let xl = low-is i h h' l l' 26 (omega arith) X in
       let a-top = product-top 26 26 h h' s s' (X .h-top) (Y .h-top) in
@@ -150,10 +147,10 @@ module _ {x xh y yh : Float} {h h' l l' s s' k k' i j : ℕ} (g : ℕ) (E : i + 
       let c-top = product-top 26 26 l l' s s' (X .l-top) (Y .h-top) in
       let d-top = product-top 26 27 l l' k k' (X .l-top) (Y .l-top) in
       let top = sums a a' b b' c c' d d' q q' z z' e e' (both b b' (2 ^ 53) b-top) (both c c' (2 ^ 52) c-top) (both d d' (2 ^ 53) d-top) (both (q * 2 ^ 52 + z') (q' * 2 ^ 52 + z) (2 ^ 53) near-z) in
-      let A = product-exact (h * 2 ^ 27) (h' * 2 ^ 27) (s * 2 ^ 27) (s' * 2 ^ 27) i j g E (X .high) (Y .high) a a' 54 (omega arith) (omega arith) (le-trans a-top (pow-mono {i = 52} {j = 53} (omega arith))) (omega arith) in
-      let B = product-exact (h * 2 ^ 27) (h' * 2 ^ 27) (k * 2 ^ 0) (k' * 2 ^ 0) i j g E (X .high) yl b b' 27 (omega arith) (omega arith) b-top (omega arith) in
-      let C = product-exact (l * 2 ^ 0) (l' * 2 ^ 0) (s * 2 ^ 27) (s' * 2 ^ 27) i j g E xl (Y .high) c c' 27 (omega arith) (omega arith) (le-trans c-top (pow-mono {i = 52} {j = 53} (omega arith))) (omega arith) in
-      let D = product-exact (l * 2 ^ 0) (l' * 2 ^ 0) (k * 2 ^ 0) (k' * 2 ^ 0) i j g E xl yl d d' 0 (omega arith) (omega arith) d-top (omega arith) in
+      let A = product-exact (h * 2 ^ 27) (h' * 2 ^ 27) (s * 2 ^ 27) (s' * 2 ^ 27) i j g (E .0) (X .high) (Y .high) a a' 54 (omega arith) (omega arith) (le-trans a-top (pow-mono {i = 52} {j = 53} (omega arith))) (omega arith) in
+      let B = product-exact (h * 2 ^ 27) (h' * 2 ^ 27) (k * 2 ^ 0) (k' * 2 ^ 0) i j g (E .0) (X .high) yl b b' 27 (omega arith) (omega arith) b-top (omega arith) in
+      let C = product-exact (l * 2 ^ 0) (l' * 2 ^ 0) (s * 2 ^ 27) (s' * 2 ^ 27) i j g (E .0) xl (Y .high) c c' 27 (omega arith) (omega arith) (le-trans c-top (pow-mono {i = 52} {j = 53} (omega arith))) (omega arith) in
+      let D = product-exact (l * 2 ^ 0) (l' * 2 ^ 0) (k * 2 ^ 0) (k' * 2 ^ 0) i j g (E .0) xl yl d d' 0 (omega arith) (omega arith) d-top (omega arith) in
       let P : Is (mul binary64 x y) (q * 2 ^ 52 * 2 ^ g) (q' * 2 ^ 52 * 2 ^ g) 2 = rw (r .2, r .3) at rounded in
       let u = a * 4 + q' in
       let u' = a' * 4 + q in
