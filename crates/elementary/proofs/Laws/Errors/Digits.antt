@@ -50,6 +50,7 @@ dist-mul a b u = add-mul (a - b) (b - a) u ∙ rw (sub-mul a b u, sub-mul b a u)
 pub same-dist : (a b c d : ℕ) → a + d ≡ c + b → dist a b ≡ dist c d
 same-dist a b c d e = omega arith
 
+-- a - b and c - d add up to n - m
 pub mult-add : (a b c d n m j : ℕ) → a + c + m ≡ n + (b + d) → Mult (dist a b) j → Mult (dist c d) j → Mult (dist n m) j
 mult-add a b c d n m j e x y =
     let k = signed a b x in
@@ -67,6 +68,7 @@ pub record Short (n : ℕ) : Type 0 where
   pub mult : Mult n unit
   pub top : n ≤ 2 ^ (53 + unit)
 
+-- c - d is b - a
 pub turned : (a b c d : ℕ) → a + c ≡ b + d → Short (dist a b) → Short (dist c d)
 turned a b c d e S = subst Short (omega arith) S
 
@@ -134,7 +136,7 @@ near-mono a b h = elim (decLe (near a) (near b)) [
     mid : (p q x : ℕ) → q < p → (dist p x ≤ dist q x → p + q ≤ x * 2) × (dist q x ≤ dist p x → x * 2 ≤ p + q)
     mid p q x l = omega arith
 
--- a multiple of a power stays one, and stays itself where it has no digits below 53
+-- a multiple of 2 ^ j is not changed where at most j digits are beyond the 53 first, and stays a multiple in any case
 pub near-whole : (n j : ℕ) → Mult n j → ex n ≤ j → near n ≡ n
 near-whole n j m h = near-exact n (record { unit = j; mult = m; top = le-trans (le-of-lt (ex-lt n)) (pow-mono {i = 53 + ex n} {j = 53 + j} (omega arith)) })
 

@@ -22,7 +22,7 @@ use Rattle.elementary.proofs.Laws.Order.{le→fractions}
 use Rattle.elementary.proofs.Laws.Compare.{le-of-not-lt}
 use Rattle.elementary.proofs.Laws.Values.{add-sign, value-of-pattern}
 use Rattle.elementary.proofs.Laws.Decode.{finite-field}
-use Rattle.elementary.proofs.Laws.Errors.Digits.{dist, same-dist, Short, turned, short-times, short-twice, near, near-dist-short}
+use Rattle.elementary.proofs.Laws.Errors.Digits.{dist, Short, turned, short-times, short-twice, near, near-dist-short}
 use Rattle.elementary.proofs.Laws.Errors.Pairs.{bound, in-bound, Signed, signed-size, Is, NearPair, dist-add, add-exact, sub-exact, add-near, near-is, signed-by}
 use Rattle.elementary.proofs.Laws.Errors.TwoSum as two-sum
 use Rattle.elementary.proofs.Laws.Errors.TwoProduct as two-product
@@ -90,12 +90,14 @@ unit-is s a b v i k p e h =
     let f = times s a b v (2 ^ i) e in
     record { sign = s; size = v * 2 ^ i; value = p; pair = f; small = le-trans (le-of-eq (sym (signed-size s (a * 2 ^ i) (b * 2 ^ i) (v * 2 ^ i) f))) h }
 
+-- v or - v
 alone : (s : Bool) (v : ℕ) → Signed s (cond s 0 v) (cond s v 0) v
 alone s v = add-comm (cond s 0 v) (cond s v 0)
 
 alone-short : (s : Bool) (v i : ℕ) → v ≤ 2 ^ 53 → Short (dist (cond s 0 v * 2 ^ i) (cond s v 0 * 2 ^ i))
 alone-short s v i h = short-times (cond s 0 v) (cond s v 0) i (le-trans (le-of-eq (sym (signed-size s (cond s 0 v) (cond s v 0) v (alone s v)))) h)
 
+-- the digits of a factor
 in-range : {x : Float} (S : Spelled x) → InRange x → (2 ^ 52 ≤ S .q) × (767 ≤ S .k) × (S .k ≤ 1278) × (S .q < 2 ^ 53)
 in-range S R =
     let l : 767 ≤ S .k = omega (arith, S .pattern, S .room, S .top, R .low) in
@@ -220,14 +222,11 @@ module _ {p e c f : Float} (x x' k k' : ℕ) (P : Is p (near (x - x')) (near (x'
     out-short = alone-short (S .neg) (S .q + 1) (S .k) (omega (arith, S .top))
 
     in-short : Short (dist (u + u + o') (u' + u' + o))
-    in-short = go (S .neg) (pair-is S w-is) out-pair
+    in-short = subst Short (go (S .neg) (pair-is S w-is) out-pair) (short-times (S .q) 1 (S .k) (omega (arith, S .top)))
       where
-        one : Short (dist size (1 * 2 ^ S .k))
-        one = short-times (S .q) 1 (S .k) (omega (arith, S .top))
-
-        go : (g : Bool) → Signed g u u' size → Signed g o o' ((S .q + 1) * 2 ^ S .k) → Short (dist (u + u + o') (u' + u' + o))
-        go false e h = subst Short (same-dist size (1 * 2 ^ S .k) (u + u + o') (u' + u' + o) (omega arith)) one
-        go true e h = turned size (1 * 2 ^ S .k) (u + u + o') (u' + u' + o) (omega arith) one
+        go : (g : Bool) → Signed g u u' size → Signed g o o' ((S .q + 1) * 2 ^ S .k) → dist size (1 * 2 ^ S .k) ≡ dist (u + u + o') (u' + u' + o)
+        go true e h = omega arith
+        go false e h = omega arith
 
     in-is : Is (inward w) (u + u + o') (u' + u' + o) 320
     in-is = sub-exact (add-exact w-is w-is (u + u) (u' + u') refl (short-twice u u' (near-dist-short n m)) (omega arith)) (out-is 132 (omega arith)) (u + u + o') (u' + u' + o) refl in-short (omega arith)

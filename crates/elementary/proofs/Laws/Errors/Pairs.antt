@@ -168,17 +168,14 @@ fma-value x y z s t r a b c d n D X Y Z e =
     ∙ sum-value binary64 (a * b * 1) (c * (1 * d)) (1 * (d * d)) n c d (mul-pos (zero-lt-suc 0) (mul-pos D D)) D (omega (arith, ap (λ (w : ℕ). w * d) e)) (omega arith) (unlike s t) r
 
 -- the sign and the size of a product of differences
-signed-mul : (s t : Bool) (a b c d v w : ℕ) → Signed s a b v → Signed t c d w → Signed (unlike s t) (a * c + b * d) (a * d + b * c) (v * w)
-signed-mul s t a b c d v w e f = go s t v w (out (cond s v 0) (cond s 0 v) (cond t w 0) (cond t 0 w) e f)
-  where
-    out : (p q r u : ℕ) → a + p ≡ b + q → c + r ≡ d + u → a * c + b * d + (p * u + q * r) ≡ a * d + b * c + (p * r + q * u)
-    out p q r u e f = omega (arith, ap (λ (z : ℕ). z * c) e, ap (λ (z : ℕ). z * d) e, ap (λ (z : ℕ). p * z) f, ap (λ (z : ℕ). q * z) f)
+multiply : (a b c d p q r u : ℕ) → a + p ≡ b + q → c + r ≡ d + u → a * c + b * d + (p * u + q * r) ≡ a * d + b * c + (p * r + q * u)
+multiply a b c d p q r u e f = omega (arith, ap (λ (z : ℕ). z * c) e, ap (λ (z : ℕ). z * d) e, ap (λ (z : ℕ). p * z) f, ap (λ (z : ℕ). q * z) f)
 
-    go : (s t : Bool) (v w : ℕ) → a * c + b * d + (cond s v 0 * cond t 0 w + cond s 0 v * cond t w 0) ≡ a * d + b * c + (cond s v 0 * cond t w 0 + cond s 0 v * cond t 0 w) → Signed (unlike s t) (a * c + b * d) (a * d + b * c) (v * w)
-    go true true v w h = omega arith
-    go true false v w h = omega arith
-    go false true v w h = omega arith
-    go false false v w h = omega arith
+signed-mul : (s t : Bool) (a b c d v w : ℕ) → Signed s a b v → Signed t c d w → Signed (unlike s t) (a * c + b * d) (a * d + b * c) (v * w)
+signed-mul true true a b c d v w e f = omega (arith, multiply a b c d v 0 w 0 e f)
+signed-mul true false a b c d v w e f = omega (arith, multiply a b c d v 0 0 w e f)
+signed-mul false true a b c d v w e f = omega (arith, multiply a b c d 0 v w 0 e f)
+signed-mul false false a b c d v w e f = omega (arith, multiply a b c d 0 v 0 w e f)
 
 signed-of : (a b : ℕ) → (s : Bool) × Signed s a b (dist a b)
 signed-of a b = elim (decLe b a) [ yes h ↦ (false, omega arith) | no h ↦ (true, omega arith) ]

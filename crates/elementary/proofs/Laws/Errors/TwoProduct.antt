@@ -91,10 +91,10 @@ pub record Factor (x xh : Float) (i h h' l l' t : ℕ) : Type 0 where
 low-is : {x xh : Float} (i h h' l l' t : ℕ) → t ≤ 27 → Factor x xh i h h' l l' t → Is (sub binary64 x xh) (l * 2 ^ 0 * 2 ^ i) (l' * 2 ^ 0 * 2 ^ i) 2
 low-is i h h' l l' t T X = sub-exact (X .whole) (X .high) (l * 2 ^ 0 * 2 ^ i) (l' * 2 ^ 0 * 2 ^ i) (omega arith) (short-unit l l' 0 i (le-trans (X .l-top) (pow-mono {i = t} {j = 53} (omega arith)))) (omega arith)
 
--- a, b, c, d are the products of the parts, q the rounded product: the partial sums have at most 53 digits
 both : (x y k : ℕ) → dist x y ≤ k → (x ≤ y + k) × (y ≤ x + k)
 both x y k h = omega arith
 
+-- a, b, c, d are the products of the parts, q the rounded product, z the product: the partial sums have at most 53 digits, and the last one is z less the rounded product
 sums : (a a' b b' c c' d d' q q' z z' : ℕ) → z ≡ a * 2 ^ 54 + b * 2 ^ 27 + c * 2 ^ 27 + d → z' ≡ a' * 2 ^ 54 + b' * 2 ^ 27 + c' * 2 ^ 27 + d'
     → (b ≤ b' + 2 ^ 53) × (b' ≤ b + 2 ^ 53) → (c ≤ c' + 2 ^ 52) × (c' ≤ c + 2 ^ 52) → (d ≤ d' + 2 ^ 53) × (d' ≤ d + 2 ^ 53) → (q * 2 ^ 52 + z' ≤ q' * 2 ^ 52 + z + 2 ^ 53) × (q' * 2 ^ 52 + z ≤ q * 2 ^ 52 + z' + 2 ^ 53)
     → (dist (a * 4 + q') (a' * 4 + q) ≤ 2 ^ 53) × (dist (a * 2 ^ 27 + q' * 2 ^ 25 + b) (a' * 2 ^ 27 + q * 2 ^ 25 + b') ≤ 2 ^ 53) × (dist (a * 2 ^ 27 + q' * 2 ^ 25 + b + c) (a' * 2 ^ 27 + q * 2 ^ 25 + b' + c') ≤ 2 ^ 53)

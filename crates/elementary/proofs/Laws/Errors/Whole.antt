@@ -31,11 +31,8 @@ sum-after true a b v c d e = sum-comm binary64 true false v c d ∙ elim (decLe 
   | no h ↦ minus-less c v d (omega arith) ∙ ap (λ (w : ℕ). round binary64 true w d) (omega arith) ∙ sym (minus-less (a + c) b d (omega arith))
 ]
 
--- a whole factor and a whole addend
-fma-whole : (x y z : Float) (a p q d : ℕ) → 0 < d → HasValue x false a d → HasValue y false p 1 → HasValue z false q 1 → fma binary64 x y (neg z) ≡ sum binary64 false (a * p) true (q * d) d
-fma-whole x y z a p q d P X Y Z =
-    let at : (w : Float) (n : ℕ) → HasValue w false n 1 → HasValue w false (n * d) d = λ w n v. revalue w false n 1 (n * d) d (zero-lt-suc 0) (sym (mul-one (n * d))) v in
-    fma-value x y (neg z) false false true a (p * d) (q * d) d (a * p) P X (at y p Y) (neg-value z false (q * d) d (at z q Z)) (omega arith)
+whole : (x : Float) (n : ℕ) → HasValue x false n 1 → HasValue x false (n * 2 ^ 64) (2 ^ 64)
+whole x n v = revalue x false n 1 (n * 2 ^ 64) (2 ^ 64) (zero-lt-suc 0) (sym (mul-one (n * 2 ^ 64))) v
 
 -- at most 53 digits, by the unit 2 ^ k / 2 ^ 64
 exact : {x : Float} (s : Bool) (n k v : ℕ) → n < 2 ^ 53 → k ≤ 64 → v ≡ n * 2 ^ k → x ≡ round binary64 s v (2 ^ 64) → HasValue x s v (2 ^ 64)
@@ -80,7 +77,7 @@ module _ (x high y z : Float) (h l p q g : ℕ) (H : h < 2 ^ 22) (L : l < 2 ^ 31
       let n = h * p * 2 ^ g in
       let e : u * p ≡ n * 2 ^ 31 = omega arith in
       let small : n < 2 ^ 53 = lt-of-lt-of-le (shl-lt 41 g (mul-lt 22 19 h p H P)) (pow-mono {i = 41 + g} {j = 53} (omega arith)) in
-      let by-sum = sub-at (mul binary64 high y) z false false (u * p) (q * d) d (pow-pos 64) product (revalue z false q 1 (q * d) d (zero-lt-suc 0) (sym (mul-one (q * d))) Z) in
+      let by-sum = sub-at (mul binary64 high y) z false false (u * p) (q * d) d (pow-pos 64) product (whole z q Z) in
       elim (decLe (q * d) (u * p)) [
         | yes k ↦ (false, u * p - q * d, exact false (n - q * 2 ^ 33) 31 (u * p - q * d) (omega arith) (omega arith) (omega arith) (by-sum ∙ minus-more (u * p) (q * d) d k), omega arith)
         | no k ↦ (true, q * d - u * p, exact true (q * 2 ^ 33 - n) 31 (q * d - u * p) (omega arith) (omega arith) (omega arith) (by-sum ∙ minus-less (u * p) (q * d) d (omega arith)), omega arith)
@@ -91,7 +88,7 @@ module _ (x high y z : Float) (h l p q g : ℕ) (H : h < 2 ^ 22) (L : l < 2 ^ 31
       add-at w (mul binary64 (sub binary64 x high) y) (first .0) false (first .1) (v * p) d (pow-pos 64) (first .2) rest-product
       ∙ sum-after (first .0) (u * p) (q * d) (first .1) (v * p) d (first .3)
       ∙ ap (λ (w : ℕ). sum binary64 false w true (q * d) d) (omega arith)
-      ∙ sym (fma-whole x y z ((h * 2 ^ 31 + l) * 2 ^ g) p q d (pow-pos 64) X Y Z)
+      ∙ sym (fma-value x y (neg z) false false true ((h * 2 ^ 31 + l) * 2 ^ g) (p * d) (q * d) d ((h * 2 ^ 31 + l) * 2 ^ g * p) (pow-pos 64) X (whole y p Y) (neg-value z false (q * d) d (whole z q Z)) (omega arith))
 
 -- ---- the parts of a float by its bits: n digits by the unit 2 ^ g / 2 ^ 64
 by-unit : (b n g : ℕ) → 2 ^ 52 + b % 2 ^ 52 ≡ n → b / 2 ^ 52 ≡ 1011 + g → g ≤ 12 → HasValue (ofBits binary64 b) false (n * 2 ^ g) (2 ^ 64)
