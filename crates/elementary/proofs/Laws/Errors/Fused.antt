@@ -26,7 +26,6 @@ use Rattle.elementary.proofs.Laws.Errors.Digits.{dist, Short, turned, s
 use Rattle.elementary.proofs.Laws.Errors.Pairs.{bound, in-bound, Signed, signed-size, Is, NearPair, dist-add, add-exact, sub-exact, add-near, near-is, signed-by}
 use Rattle.elementary.proofs.Laws.Errors.TwoSum as two-sum
 use Rattle.elementary.proofs.Laws.Errors.TwoProduct as two-product
-use Rattle.elementary.proofs.Laws.Errors.TwoProduct.{Factor}
 use Rattle.elementary.proofs.Laws.Errors.Between.{from-below, between}
 
 -- ---- a finite float's digits: q * 2 ^ k units, and its bit pattern
@@ -106,7 +105,7 @@ in-range S R =
 
 -- a factor of which `high` is h * 2 ^ 27 and the rest l - l'
 abbrev Cut : Float → Float → ℕ → ℕ → Type 0
-Cut x high i t = (h : ℕ) × (h' : ℕ) × (l : ℕ) × (l' : ℕ) × Factor x high i h h' l l' t
+Cut x high i t = (h : ℕ) × (h' : ℕ) × (l : ℕ) × (l' : ℕ) × two-product.Factor x high i h h' l l' t
 
 factor : {x : Float} (S : Spelled x) → InRange x → (high : Float) (h l l' t : ℕ) → S .q + l' ≡ h * 2 ^ 27 + l → h ≤ 2 ^ 26 → dist l l' ≤ 2 ^ t → HasValue high (S .neg) (h * 2 ^ 27 * 2 ^ S .k) (2 ^ 1074) → Cut x high (S .k) t
 factor S R high h l l' t e H L v =

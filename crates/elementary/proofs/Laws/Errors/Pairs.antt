@@ -21,14 +21,6 @@ use Rattle.elementary.proofs.mul_add.Sums.{sum-same, sum-more}
 use Rattle.elementary.proofs.mul_add.Exactly.{sum-comm, fma-at}
 use Rattle.elementary.proofs.Laws.Errors.Digits.{ex, dist, dist-mul, Short, short-zero, near, near-best, near-sides, near-dist, near-part}
 
--- ---- a whole number of units rounded
-round-units : (s : Bool) (n : ℕ) → round binary64 s n (2 ^ 1074) ≡ units binary64 s (closest n (2 ^ ex n)) (ex n)
-round-units s n =
-    let u = 2 ^ 1074 in
-    round-is binary64 s n u
-    ∙ ap (λ (z : ℕ). units binary64 s (closest (n * u) (u * 2 ^ (size z - 53))) (size z - 53)) (mul-div-cancel n (pow-pos 1074))
-    ∙ ap (λ (z : ℕ). units binary64 s z (ex n)) (closest-same (n * u) (u * 2 ^ ex n) n (2 ^ ex n) (mul-pos (pow-pos 1074) (pow-pos (ex n))) (pow-pos (ex n)) (mul-assoc n u (2 ^ ex n)))
-
 -- ---- values are at most some times this
 unfoldable pub bound : ℕ
 bound = 2 ^ 2080
@@ -37,11 +29,16 @@ pub in-bound : (x k g : ℕ) → x ≤ 2 ^ k → k + g ≤ 2080 → x * 2 ^ g �
 unfolding bound
 in-bound x k g h l = le-trans (mul-le-mul-right (2 ^ g) h) (le-trans (le-of-eq (sym (pow-add 2 k g))) (le-trans (pow-mono {i = k + g} {j = 2080} l) (le-of-eq (sym (one-mul (2 ^ 2080))))))
 
+-- a whole number of units rounded
 round-value : (s : Bool) (n : ℕ) → near n ≤ 2 ^ 16 * bound → HasValue (round binary64 s n (2 ^ 1074)) s (near n) (2 ^ 1074)
 unfolding near bound
 round-value s n h =
-    subst (λ (z : Float). HasValue z s (near n) (2 ^ 1074)) (sym (round-units s n))
-    (units-val binary64 s (closest n (2 ^ ex n)) (ex n) (lt-of-le-of-lt (le-trans h (le-of-eq (sym (pow-add 2 16 2080)))) (pow-lt {i = 2096} {j = 2098} (omega arith))))
+    let u = 2 ^ 1074 in
+    let e : round binary64 s n u ≡ units binary64 s (closest n (2 ^ ex n)) (ex n) =
+    round-is binary64 s n u
+    ∙ ap (λ (z : ℕ). units binary64 s (closest (n * u) (u * 2 ^ (size z - 53))) (size z - 53)) (mul-div-cancel n (pow-pos 1074))
+    ∙ ap (λ (z : ℕ). units binary64 s z (ex n)) (closest-same (n * u) (u * 2 ^ ex n) n (2 ^ ex n) (mul-pos (pow-pos 1074) (pow-pos (ex n))) (pow-pos (ex n)) (mul-assoc n u (2 ^ ex n))) in
+    rw e (units-val binary64 s (closest n (2 ^ ex n)) (ex n) (lt-of-le-of-lt (le-trans h (le-of-eq (sym (pow-add 2 16 2080)))) (pow-lt {i = 2096} {j = 2098} (omega arith))))
 
 -- ---- a - b has the sign s, where it is not 0, and the size v
 abbrev pub Signed : Bool → ℕ → ℕ → ℕ → Type 0
@@ -159,7 +156,7 @@ mul-value (fin _ m e) nan s t a b c d C D p q = absurd q
 mul-value (fin _ m e) (inf _) s t a b c d C D p q = absurd q
 mul-value (fin _ m e) (fin _ n g) s t a b c d C D p q =
     let l : m * up e * (n * up g) * (c * d) ≡ m * up e * c * (n * up g * d) = simp (mul-assoc, mul-comm, mul-left-comm) in
-    let r : a * b * (down e * down g) ≡ a * down e * (b * down g) = simp (mul-assoc, mul-comm, mul-left-comm) in
+    let r : a * b * (down e * down g) ≡ a * down e * (b * down g) = simp (mul-assoc, mul-left-comm) in
     rw (p .0, q .0) (round-same binary64 (unlike s t) (m * up e * (n * up g)) (down e * down g) (a * b) (c * d) (mul-pos (down-pos e) (down-pos g)) (mul-pos C D) (l ∙ rw (p .1, q .1) (sym r)))
 
 pub fma-value : (x y z : Float) (s t r : Bool) (a b c d n : ℕ) → 0 < d → HasValue x s a d → HasValue y t b d → HasValue z r c d → a * b ≡ n * d → fma binary64 x y z ≡ sum binary64 (unlike s t) n r c d
