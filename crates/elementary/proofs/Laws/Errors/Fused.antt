@@ -1,503 +1,316 @@
 -- a × b + c from the rounded product and sum and what rounding took off them: the four numbers add up to it, and where both floats beside the small part give the same sum, that is it rounded once. Assumes nothing.
 use mathlib.Core.Path.{_≡_, refl, sym, ap, _∙_, subst}
-use mathlib.Core.Logic.{_⊎_, inl, inr}
-use mathlib.Core.Bool.{Bool, true, false, not, cond}
+use mathlib.Core.Logic.{inl, inr}
+use mathlib.Core.Bool.{Bool, true, false, cond}
 use Prim.Native.Nat.{ℕ, _+_, _-_, _*_, _/_, _%_, _^_, _≤_, _<_}
-use native.Mathlib.Nat.{le-trans, le-of-eq, le-of-lt, lt-of-le-of-lt, lt-of-not-le, not-le-of-lt, eq-zero-or-pos, mul-assoc, mul-comm, mul-left-comm, mul-pos, mul-one, one-mul, add-mul, add-comm, zero-lt-suc, mul-le-mul, le-of-mul-le-mul-right}
+use native.Mathlib.Nat.{le-trans, le-of-eq, le-of-lt, eq-zero-or-pos, add-comm, mul-le-mul-right, le-of-mul-le-mul-right}
 use native.Mathlib.Decide.{decLe}
 use native.Mathlib.Omega.{arith}
-use lib.Dec.{T, leb, le→leb}
-use lib.Arith.{lt→nleb}
-use lib.Pow.{pow-add, pow-pos, pow-mono, pow-lt, shl-lt}
-use lib.Ieee.{Float, nan, inf, fin, binary64, unlike, add, fits, ofBits, toBits, lt}
+use lib.Dec.{T}
+use lib.Pow.{pow-add, pow-pos}
+use lib.Ieee.{Float, nan, inf, fin, binary64, add, fits, ofBits, toBits, lt}
 use lib.Ieee.Fits.{add-fits, mul-fits, round-fits}
 use lib.Ieee.Exact.{HasValue}
 use lib.Ieee.Scale.{finite}
-use lib.Ieee.Bits.{is-true, is-false, ofBits-toBits, toBits-lt}
+use lib.Ieee.Bits.{ofBits-toBits, toBits-lt}
 use Rattle.elementary.specs.Ops.{_⊕_, _⊗_, bits}
 use Rattle.elementary.specs.MulAdd.{fma}
 use Rattle.elementary.specs.Inside.Errors.{InRange, roundedHigh, cutHigh, productError, sumError, orderedSumError, outward, inward, Certain}
 use Rattle.elementary.proofs.Laws.Bits.{same-bits}
+use Rattle.elementary.proofs.Laws.Powers.{pow-le-back}
 use Rattle.elementary.proofs.Laws.Order.{le→fractions}
 use Rattle.elementary.proofs.Laws.Compare.{le-of-not-lt}
-use Rattle.elementary.proofs.Laws.Places.{place-of, sign-of}
-use Rattle.elementary.proofs.Laws.Values.{recast, bit-pattern, value-of-pattern}
-use Rattle.elementary.proofs.Laws.Adding.{sum-value}
+use Rattle.elementary.proofs.Laws.Values.{add-sign, value-of-pattern}
 use Rattle.elementary.proofs.Laws.Decode.{finite-field}
-use Rattle.elementary.proofs.mul_add.Exactly.{fma-at}
-use Rattle.elementary.proofs.Laws.Errors.Digits.{dist, Short, short-of, near, near-short}
-use Rattle.elementary.proofs.Laws.Errors.Pairs.{bound, Is, NearPair, sum-is, dist-add, add-exact, sub-exact, add-near, add-rounds, near-is}
+use Rattle.elementary.proofs.Laws.Errors.Digits.{dist, Short, turned, short-times, short-twice, near, near-dist-short}
+use Rattle.elementary.proofs.Laws.Errors.Pairs.{bound, in-bound, Signed, signed-size, Is, NearPair, dist-add, add-exact, sub-exact, add-near, near-is, signed-by}
 use Rattle.elementary.proofs.Laws.Errors.TwoSum as two-sum
 use Rattle.elementary.proofs.Laws.Errors.TwoProduct as two-product
-use Rattle.elementary.proofs.Laws.Errors.TwoProduct.{Rel, plain, Cuts, in-bound, short-unit, dist-mul}
-use Rattle.elementary.proofs.Laws.Errors.Between.{from-below, from-above, between}
+use Rattle.elementary.proofs.Laws.Errors.Between.{from-below, between}
 
 -- ---- a finite float's digits: q * 2 ^ k units, and its bit pattern
-record Spelled (x : Float) (k q : ℕ) : Type 0 where
+record Spelled (x : Float) : Type 0 where
   neg : Bool
+  k : ℕ
+  q : ℕ
   fit : T (fits binary64 x)
-  pattern : toBits binary64 x ≡ bit-pattern neg k q
+  pattern : toBits binary64 x ≡ cond neg 1 0 * 2 ^ 63 + (k * 2 ^ 52 + q)
   full : 0 < k → 2 ^ 52 ≤ q
   top : q < 2 ^ 53
-  room : k ≤ 2045
+  room : k * 2 ^ 52 + q < 2047 * 2 ^ 52
 
-signed : (b : ℕ) → b < 2 ^ 64 → b ≡ cond (leb (2 ^ 63) b) (2 ^ 63 + b % 2 ^ 63) (b % 2 ^ 63)
-signed b h = go (decLe (2 ^ 63) b)
-  where
-    go : Dec (2 ^ 63 ≤ b) → b ≡ cond (leb (2 ^ 63) b) (2 ^ 63 + b % 2 ^ 63) (b % 2 ^ 63)
-    go (yes l) = rw (is-true (leb (2 ^ 63) b) (le→leb (2 ^ 63) b l)) (omega arith)
-    go (no l) = let g = lt-of-not-le l in rw (is-false (leb (2 ^ 63) b) (lt→nleb (2 ^ 63) b g)) (omega arith)
-
-module _ (x : Float) (F : T (fits binary64 x)) where
-  abbrev b : ℕ
-  b = toBits binary64 x
-
-  spelled : (k q : ℕ) → b % 2 ^ 63 ≡ k * 2 ^ 52 + q → (0 < k → 2 ^ 52 ≤ q) → q < 2 ^ 53 → k ≤ 2045 → Spelled x k q
-  spelled k q e u t r = record {
-    neg = leb (2 ^ 63) b;
-    fit = F;
-    pattern = signed b (toBits-lt binary64 x F) ∙ ap (λ (z : ℕ). cond (leb (2 ^ 63) b) (2 ^ 63 + z) z) e;
-    full = u;
-    top = t;
-    room = r;
-  }
-
-  -- by the exponent's field
-  low : b % 2 ^ 63 / 2 ^ 52 ≡ 0 → Spelled x 0 (b % 2 ^ 52)
-  low e = spelled 0 (b % 2 ^ 52) (omega arith) (λ z. absurd (omega arith)) (omega arith) (omega arith)
-
-  normal : 0 < b % 2 ^ 63 / 2 ^ 52 → b % 2 ^ 63 / 2 ^ 52 < 2047 → Spelled x (b % 2 ^ 63 / 2 ^ 52 - 1) (2 ^ 52 + b % 2 ^ 52)
-  normal p h = spelled (b % 2 ^ 63 / 2 ^ 52 - 1) (2 ^ 52 + b % 2 ^ 52) (omega arith) (λ z. omega arith) (omega arith) (omega arith)
-
-  any : T (finite x) → (k : ℕ) × (q : ℕ) × Spelled x k q
-  any f = elim (eq-zero-or-pos (b % 2 ^ 63 / 2 ^ 52)) [
-    | inl e ↦ (0, b % 2 ^ 52, low e)
-    | inr p ↦ (b % 2 ^ 63 / 2 ^ 52 - 1, 2 ^ 52 + b % 2 ^ 52, normal p (finite-field x F f))
-  ]
+spell : (x : Float) → T (fits binary64 x) → toBits binary64 x % 2 ^ 63 / 2 ^ 52 < 2047 → Spelled x
+spell x F h =
+    let b = toBits binary64 x in
+    let t = toBits-lt binary64 x F in
+    let s : (s : Bool) × (b ≡ cond s 1 0 * 2 ^ 63 + b % 2 ^ 63) = elim (decLe (2 ^ 63) b) [ yes l ↦ (true, omega arith) | no l ↦ (false, omega arith) ] in
+    elim (eq-zero-or-pos (b % 2 ^ 63 / 2 ^ 52)) [
+      | inl e ↦ record { neg = s .0; k = 0; q = b % 2 ^ 63; fit = F; pattern = omega (arith, s .1); full = λ z. absurd (omega arith); top = omega arith; room = omega arith }
+      | inr p ↦ record { neg = s .0; k = b % 2 ^ 63 / 2 ^ 52 - 1; q = 2 ^ 52 + b % 2 ^ 52; fit = F; pattern = omega (arith, s .1); full = λ z. omega arith; top = omega arith; room = omega arith }
+    ]
 
 finite-value : (x : Float) (s : Bool) (v : ℕ) → HasValue x s v (2 ^ 1074) → T (finite x)
 finite-value nan s v p = p
 finite-value (inf _) s v p = p
 finite-value (fin _ m e) s v p = tt
 
--- a pattern of the same sign and place
-pattern-is : (s : Bool) (k q : ℕ) → (0 < k → 2 ^ 52 ≤ q) → q ≤ 2 ^ 53 → k ≤ 2044 → HasValue (ofBits binary64 (bit-pattern s k q)) s (q * 2 ^ k) (2 ^ 1074)
-pattern-is s k q u t r = value-of-pattern s k q u t (omega arith)
+spell-is : {x : Float} {a b i : ℕ} → T (fits binary64 x) → Is x a b i → Spelled x
+spell-is {x} F X = spell x F (finite-field x F (finite-value x (X .sign) (X .size) (X .value)))
 
-module _ {x : Float} {k q : ℕ} (S : Spelled x k q) where
-  value : HasValue x (S .neg) (q * 2 ^ k) (2 ^ 1074)
-  value =
-      subst (λ (z : Float). HasValue z (S .neg) (q * 2 ^ k) (2 ^ 1074)) (ofBits-toBits binary64 x (S .fit))
-      (subst (λ (z : ℕ). HasValue (ofBits binary64 z) (S .neg) (q * 2 ^ k) (2 ^ 1074)) (sym (S .pattern)) (value-of-pattern (S .neg) k q (S .full) (le-of-lt (S .top)) (omega (arith, S .top, S .room))))
+module _ {x : Float} (S : Spelled x) where
+  -- a pattern of the same sign and exponent
+  written : (c n : ℕ) → c ≡ cond (S .neg) 1 0 * 2 ^ 63 + (S .k * 2 ^ 52 + n) → (0 < S .k → 2 ^ 52 ≤ n) → n ≤ 2 ^ 53 → S .k * 2 ^ 52 + n < 2047 * 2 ^ 52 → HasValue (ofBits binary64 c) (S .neg) (n * 2 ^ S .k) (2 ^ 1074)
+  written c n e u t r = rw (e, go (S .neg) (S .k * 2 ^ 52 + n)) (value-of-pattern (S .neg) (S .k) n u t r)
+    where
+      go : (s : Bool) (v : ℕ) → cond s 1 0 * 2 ^ 63 + v ≡ add-sign s v
+      go true v = omega arith
+      go false v = omega arith
+
+  value : HasValue x (S .neg) (S .q * 2 ^ S .k) (2 ^ 1074)
+  value = rw (ofBits-toBits binary64 x (S .fit)) at (written (toBits binary64 x) (S .q) (S .pattern) (S .full) (le-of-lt (S .top)) (S .room))
 
   -- without its sign
-  size-value : HasValue (bits (toBits binary64 x % 2 ^ 63)) false (q * 2 ^ k) (2 ^ 1074)
-  size-value = subst (λ (z : ℕ). HasValue (ofBits binary64 z) false (q * 2 ^ k) (2 ^ 1074)) (sym (ap (λ (z : ℕ). z % 2 ^ 63) (S .pattern) ∙ unsigned (S .neg))) (value-of-pattern false k q (S .full) (le-of-lt (S .top)) (omega (arith, S .top, S .room)))
-    where
-      unsigned : (s : Bool) → bit-pattern s k q % 2 ^ 63 ≡ k * 2 ^ 52 + q
-      unsigned true = omega (arith, S .top, S .room)
-      unsigned false = omega (arith, S .top, S .room)
+  size-value : HasValue (bits (toBits binary64 x % 2 ^ 63)) false (S .q * 2 ^ S .k) (2 ^ 1074)
+  size-value = subst (λ (z : ℕ). HasValue (ofBits binary64 z) false (S .q * 2 ^ S .k) (2 ^ 1074)) (omega (arith, S .pattern, S .room)) (value-of-pattern false (S .k) (S .q) (S .full) (le-of-lt (S .top)) (S .room))
 
-  digits-short : Short (q * 2 ^ k)
-  digits-short = short-of (q * 2 ^ k) k (q, refl) (shl-lt 53 k (S .top))
+  pair-is : {a b i : ℕ} → Is x a b i → Signed (S .neg) a b (S .q * 2 ^ S .k)
+  pair-is X = signed-by (S .neg) (S .q * 2 ^ S .k) value X
 
-  -- the float whose pattern is one more
-  next-value : k ≤ 2044 → HasValue (outward x) (S .neg) ((q + 1) * 2 ^ k) (2 ^ 1074)
-  next-value r = subst (λ (z : ℕ). HasValue (ofBits binary64 z) (S .neg) ((q + 1) * 2 ^ k) (2 ^ 1074)) (sym (ap (λ (z : ℕ). z + 1) (S .pattern) ∙ more (S .neg))) (pattern-is (S .neg) k (q + 1) (λ p. omega (arith, S .full p)) (omega (arith, S .top)) r)
-    where
-      more : (s : Bool) → bit-pattern s k q + 1 ≡ bit-pattern s k (q + 1)
-      more true = omega arith
-      more false = omega arith
-
-  -- the leading 26 digits, rounded and cut
-  module _ (r : k ≤ 1278) (lead : 2 ^ 52 ≤ q) where
-    abbrev rounded : ℕ
-    rounded = (q + 2 ^ 26) / 2 ^ 27
-
-    pattern-rel : (n : ℕ) → 2 ^ 52 ≤ n → n ≤ 2 ^ 53 → Rel (S .neg) (ofBits binary64 (bit-pattern (S .neg) k n)) (n * 2 ^ k) 0 1
-    pattern-rel n l h = plain (S .neg) _ (n * 2 ^ k) 1 (le-trans (in-bound n 53 k h (omega arith)) (le-of-eq (sym (one-mul bound)))) (pattern-is (S .neg) k n (λ p. l) h (omega arith))
-
-    whole-is : Rel (S .neg) x (q * 2 ^ k) 0 1
-    whole-is = plain (S .neg) x (q * 2 ^ k) 1 (le-trans (in-bound q 53 k (le-of-lt (S .top)) (omega arith)) (le-of-eq (sym (one-mul bound)))) value
-
-    rounded-is : Rel (S .neg) (roundedHigh x) (rounded * 2 ^ 27 * 2 ^ k) 0 1
-    rounded-is = subst (λ (z : ℕ). Rel (S .neg) (ofBits binary64 z) (rounded * 2 ^ 27 * 2 ^ k) 0 1) (sym (ap (λ (z : ℕ). (z + 2 ^ 26) / 2 ^ 27 * 2 ^ 27) (S .pattern) ∙ at (S .neg))) (pattern-rel (rounded * 2 ^ 27) (omega arith) (omega (arith, S .top)))
-      where
-        at : (s : Bool) → (bit-pattern s k q + 2 ^ 26) / 2 ^ 27 * 2 ^ 27 ≡ bit-pattern s k ((q + 2 ^ 26) / 2 ^ 27 * 2 ^ 27)
-        at true = omega arith
-        at false = omega arith
-
-    cut-is : Rel (S .neg) (cutHigh x) (q / 2 ^ 27 * 2 ^ 27 * 2 ^ k) 0 1
-    cut-is = subst (λ (z : ℕ). Rel (S .neg) (ofBits binary64 z) (q / 2 ^ 27 * 2 ^ 27 * 2 ^ k) 0 1) (sym (ap (λ (z : ℕ). z - z % 2 ^ 27) (S .pattern) ∙ at (S .neg))) (pattern-rel (q / 2 ^ 27 * 2 ^ 27) (omega arith) (omega (arith, S .top)))
-      where
-        at : (s : Bool) → bit-pattern s k q - bit-pattern s k q % 2 ^ 27 ≡ bit-pattern s k (q / 2 ^ 27 * 2 ^ 27)
-        at true = omega arith
-        at false = omega arith
-
--- the digits of two factors
-cuts : (u w : ℕ) → 2 ^ 52 ≤ u → u < 2 ^ 53 → 2 ^ 52 ≤ w → w < 2 ^ 53 → Cuts u ((u + 2 ^ 26) / 2 ^ 27) (u - (u + 2 ^ 26) / 2 ^ 27 * 2 ^ 27) ((u + 2 ^ 26) / 2 ^ 27 * 2 ^ 27 - u) (w / 2 ^ 27) (w % 2 ^ 27)
-cuts u w a b c d = record {
-  x-low = a;
-  x-top = b;
-  x-is = omega arith;
-  one = side ((u + 2 ^ 26) / 2 ^ 27 * 2 ^ 27) (decLe u ((u + 2 ^ 26) / 2 ^ 27 * 2 ^ 27));
-  h-top = omega arith;
-  p-top = omega arith;
-  m-top = omega arith;
-  s-low = omega arith;
-  s-top = omega arith;
-  k-top = omega arith;
-}
-  where
-    side : (v : ℕ) → Dec (u ≤ v) → (u - v ≡ 0) ⊎ (v - u ≡ 0)
-    side v (yes l) = inl (omega arith)
-    side v (no l) = inr (let g = lt-of-not-le l in omega arith)
+  size-is : {a b i : ℕ} → Is x a b i → S .q * 2 ^ S .k ≡ dist a b
+  size-is {a} {b} X = signed-size (S .neg) a b (S .q * 2 ^ S .k) (pair-is X)
 
 -- ---- pairs by a sign
-pair-size : (n : Bool) (v : ℕ) → dist (cond n 0 v) (cond n v 0) ≡ v
-pair-size true v = omega arith
-pair-size false v = omega arith
+times : (s : Bool) (a b v u : ℕ) → Signed s a b v → Signed s (a * u) (b * u) (v * u)
+times true a b v u e = omega (arith, ap (λ (z : ℕ). z * u) e)
+times false a b v u e = omega (arith, ap (λ (z : ℕ). z * u) e)
 
-pair-is : (n : Bool) (v : ℕ) → cond n 0 v + cond n v 0 ≡ cond n v 0 + cond n 0 v
-pair-is n v = add-comm (cond n 0 v) (cond n v 0)
+unit-is : {x : Float} (s : Bool) (a b v i k : ℕ) → HasValue x s (v * 2 ^ i) (2 ^ 1074) → Signed s a b v → v * 2 ^ i ≤ k * bound → Is x (a * 2 ^ i) (b * 2 ^ i) k
+unit-is s a b v i k p e h =
+    let f = times s a b v (2 ^ i) e in
+    record { sign = s; size = v * 2 ^ i; value = p; pair = f; small = le-trans (le-of-eq (sym (signed-size s (a * 2 ^ i) (b * 2 ^ i) (v * 2 ^ i) f))) h }
 
-value-is : {x : Float} (s : Bool) (v j : ℕ) → HasValue x s v (2 ^ 1074) → v ≤ j * bound → Is x (cond s 0 v) (cond s v 0) j
-value-is s v j p h = record { sign = s; size = v; value = p; pair = pair-is s v; small = le-trans (le-of-eq (pair-size s v)) h }
+-- v or - v
+alone : (s : Bool) (v : ℕ) → Signed s (cond s 0 v) (cond s v 0) v
+alone s v = add-comm (cond s 0 v) (cond s v 0)
 
--- ---- p and e are a product, c is added, t is what rounding took off that sum
-module _ (n v : Bool) {p e c : Float} (x y k : ℕ) (P : Rel n p y 0 1) (Y : Short y) (E : Rel n e x y 5) (C : Rel v c k 0 1) (K : Short k) where
+alone-short : (s : Bool) (v i : ℕ) → v ≤ 2 ^ 53 → Short (dist (cond s 0 v * 2 ^ i) (cond s v 0 * 2 ^ i))
+alone-short s v i h = short-times (cond s 0 v) (cond s v 0) i (le-trans (le-of-eq (sym (signed-size s (cond s 0 v) (cond s v 0) v (alone s v)))) h)
+
+-- the digits of a factor
+in-range : {x : Float} (S : Spelled x) → InRange x → (2 ^ 52 ≤ S .q) × (767 ≤ S .k) × (S .k ≤ 1278) × (S .q < 2 ^ 53)
+in-range S R =
+    let l : 767 ≤ S .k = omega (arith, S .pattern, S .room, S .top, R .low) in
+    let h = S .full (omega arith) in
+    (h, l, omega (arith, S .pattern, S .room, R .high), S .top)
+
+-- a factor of which `high` is h * 2 ^ 27 and the rest l - l'
+abbrev Cut : Float → Float → ℕ → ℕ → Type 0
+Cut x high i t = (h : ℕ) × (h' : ℕ) × (l : ℕ) × (l' : ℕ) × two-product.Factor x high i h h' l l' t
+
+factor : {x : Float} (S : Spelled x) → InRange x → (high : Float) (h l l' t : ℕ) → S .q + l' ≡ h * 2 ^ 27 + l → h ≤ 2 ^ 26 → dist l l' ≤ 2 ^ t → HasValue high (S .neg) (h * 2 ^ 27 * 2 ^ S .k) (2 ^ 1074) → Cut x high (S .k) t
+factor S R high h l l' t e H L v =
+    let r = in-range S R in
+    let s = S .neg in
+    let a = cond s 0 h * 2 ^ 27 + cond s l' l in
+    let b = cond s h 0 * 2 ^ 27 + cond s l l' in
+    let g = go s in (
+      cond s 0 h,
+      cond s h 0,
+      cond s l' l,
+      cond s l l',
+      record {
+        whole = unit-is s a b (S .q) (S .k) 1 (value S) (g .0) (in-bound (S .q) 53 (S .k) (le-of-lt (S .top)) (omega arith));
+        high = unit-is s (cond s 0 h * 2 ^ 27) (cond s h 0 * 2 ^ 27) (h * 2 ^ 27) (S .k) 1 v (g .1) (in-bound (h * 2 ^ 27) 53 (S .k) (omega arith) (omega arith));
+        h-top = g .2;
+        l-top = g .3;
+        span = subst (λ (w : ℕ). (2 ^ 52 ≤ w) × (w < 2 ^ 53)) (signed-size s a b (S .q) (g .0)) (r .0, S .top);
+      },
+    )
+  where
+    go : (s : Bool) → (Signed s (cond s 0 h * 2 ^ 27 + cond s l' l) (cond s h 0 * 2 ^ 27 + cond s l l') (S .q)) × (Signed s (cond s 0 h * 2 ^ 27) (cond s h 0 * 2 ^ 27) (h * 2 ^ 27)) × (dist (cond s 0 h) (cond s h 0) ≤ 2 ^ 26) × (dist (cond s l' l) (cond s l l') ≤ 2 ^ t)
+    go true = omega arith
+    go false = omega arith
+
+-- ---- p and e are a product x - x', c is added, f is the rounded sum
+module _ {p e c f : Float} (x x' k k' : ℕ) (P : Is p (near (x - x')) (near (x' - x)) 2) (E : Is e (x + near (x' - x)) (x' + near (x - x')) 6) (C : Is c k k' 1) (K : Short (dist k k'))
+    (small : dist x x' ≤ 1 * bound) (G : NearPair f (x + k) (x' + k')) where
   abbrev s : Float
   s = add binary64 p c
 
-  abbrev a : ℕ
-  a = cond n 0 y + cond v 0 k
+  abbrev y : ℕ
+  y = near (x - x') + k
 
-  abbrev b' : ℕ
-  b' = cond n y 0 + cond v k 0
+  abbrev y' : ℕ
+  y' = near (x' - x) + k'
 
   abbrev q : ℕ
-  q = near (a - b')
+  q = near (y - y')
 
   abbrev q' : ℕ
-  q' = near (b' - a)
+  q' = near (y' - y)
 
-  Y' : Short (dist (cond n 0 y) (cond n y 0))
-  Y' = subst Short (sym (pair-size n y)) Y
+  s-is : Is s q q' 6
+  s-is = two-sum.sum-near P C (near-dist-short x x') K
 
-  K' : Short (dist (cond v 0 k) (cond v k 0))
-  K' = subst Short (sym (pair-size v k)) K
-
-  s-is : Is s q q' 2
-  s-is = two-sum.sum-near (P .is) (C .is) Y' K'
-
-  knuth : Is (sumError p c) (a + q') (b' + q) 12
-  knuth = two-sum.error-is (P .is) (C .is) Y' K'
-
-  dekker : k ≤ y → Is (orderedSumError p c) (a + q') (b' + q) 12
-  dekker h = two-sum.ordered-error-is (P .is) (C .is) Y' K' (le-trans (le-of-eq (pair-size v k)) (le-trans h (le-of-eq (sym (pair-size n y)))))
-
-  module _ {t f : Float} (T-is : Is t (a + q') (b' + q) 12) (FF : T (fits binary64 f)) (G : NearPair f (cond n 0 x + cond v 0 k) (cond n x 0 + cond v k 0)) (G-small : dist (cond n 0 x + cond v 0 k) (cond n x 0 + cond v k 0) ≤ 2 ^ 2 * bound) where
+  -- t is what rounding took off that sum
+  module _ {t : Float} (T-is : Is t (y + q') (y' + q) 41) where
     abbrev w : Float
     w = add binary64 t e
 
-    abbrev nw : ℕ
-    nw = a + q' + cond n y x
+    abbrev n : ℕ
+    n = x + k + q'
 
-    abbrev mw : ℕ
-    mw = b' + q + cond n x y
+    abbrev m : ℕ
+    m = x' + k' + q
 
-    w-is : Is w (near (nw - mw)) (near (mw - nw)) 32
-    w-is = add-near T-is (E .is) 5 (le-trans (dist-add (a + q') (b' + q) (cond n y x) (cond n x y)) (omega (arith, T-is .small, E .is .small))) (omega arith)
+    abbrev u : ℕ
+    u = near (n - m)
+
+    abbrev u' : ℕ
+    u' = near (m - n)
+
+    w-is : Is w u u' 94
+    w-is = add-near T-is E n m (omega arith) (omega arith)
 
     -- a float below and one above that give the same sum
-    module _ {lo hi : Float} (la lb ha hb : ℕ) (L : Is lo la lb 200) (H : Is hi ha hb 200) (SL : Short (dist la lb)) (SH : Short (dist ha hb))
-        (under : la + near (mw - nw) < near (nw - mw) + lb) (over : near (nw - mw) + hb < ha + near (mw - nw)) (same : add binary64 s lo ≡ add binary64 s hi) where
-      low-sum : Is (add binary64 s lo) (near (q + la - (q' + lb))) (near (q' + lb - (q + la))) (2 ^ 8)
-      low-sum = near-is (add-rounds s-is L) 8 (le-trans (dist-add q q' la lb) (omega (arith, s-is .small, L .small))) (omega arith)
-
-      high-sum : Is (add binary64 s lo) (near (q + ha - (q' + hb))) (near (q' + hb - (q + ha))) (2 ^ 8)
-      high-sum = subst (λ (z : Float). Is z (near (q + ha - (q' + hb))) (near (q' + hb - (q + ha))) (2 ^ 8)) (sym same) (near-is (add-rounds s-is H) 8 (le-trans (dist-add q q' ha hb) (omega (arith, s-is .small, H .small))) (omega arith))
-
-      apart : q + la + (q' + hb) < q + ha + (q' + lb)
-      apart = go (near (nw - mw)) (near (mw - nw)) under over
-        where
-          go : (i j : ℕ) → la + j < i + lb → i + hb < ha + j → q + la + (q' + hb) < q + ha + (q' + lb)
-          go i j u o = omega arith
-
-      plain-sum : add binary64 s lo ≡ add binary64 s w
-      plain-sum =
-          between (q + near (nw - mw)) (q' + near (mw - nw)) (q + la) (q' + lb) (q + ha) (q' + hb) (add-fits binary64 s lo) (add-fits binary64 s w) low-sum high-sum
-          (near-is (add-rounds s-is w-is) 8 (le-trans (dist-add q q' (near (nw - mw)) (near (mw - nw))) (omega (arith, s-is .small, w-is .small))) (omega arith))
-          (go (near (nw - mw)) (near (mw - nw)) under) (go' (near (nw - mw)) (near (mw - nw)) over) apart
-        where
-          go : (i j : ℕ) → la + j < i + lb → q + la + (q' + j) ≤ q + i + (q' + lb)
-          go i j u = omega arith
-
-          go' : (i j : ℕ) → i + hb < ha + j → q + i + (q' + hb) ≤ q + ha + (q' + j)
-          go' i j o = omega arith
-
-      whole-sum : add binary64 s lo ≡ f
-      whole-sum =
-          between (cond n 0 x + cond v 0 k) (cond n x 0 + cond v k 0) (q + la) (q' + lb) (q + ha) (q' + hb) (add-fits binary64 s lo) FF low-sum high-sum (near-is G 2 G-small (omega arith))
-          (low n la lb (cond v 0 k) (cond v k 0) q q' (from-below la lb nw mw SL under)) (high n ha hb (cond v 0 k) (cond v k 0) q q' (from-above ha hb nw mw SH over)) apart
-        where
-          low : (n : Bool) (u u' c c' q q' : ℕ) → u + (cond n y 0 + c' + q + cond n x y) ≤ cond n 0 y + c + q' + cond n y x + u' → q + u + (cond n x 0 + c') ≤ cond n 0 x + c + (q' + u')
-          low true u u' c c' q q' h = omega arith
-          low false u u' c c' q q' h = omega arith
-
-          high : (n : Bool) (u u' c c' q q' : ℕ) → cond n 0 y + c + q' + cond n y x + u' ≤ u + (cond n y 0 + c' + q + cond n x y) → cond n 0 x + c + (q' + u') ≤ q + u + (cond n x 0 + c')
-          high true u u' c c' q q' h = omega arith
-          high false u u' c c' q q' h = omega arith
-
-      pub pinned : add binary64 s w ≡ f
-      pinned = sym plain-sum ∙ whole-sum
+    pinned : {lo hi : Float} (a a' b b' : ℕ) → Is lo a a' 320 → Is hi b b' 320 → Short (dist a a') → Short (dist b b') → a + u' < u + a' → u + b' < b + u' → toBits binary64 (add binary64 s lo) ≡ toBits binary64 (add binary64 s hi) → add binary64 s w ≡ f
+    pinned {lo} {hi} a a' b b' L H SL SH under over same =
+        let equal = same-bits (add binary64 s lo) (add binary64 s hi) (add-fits binary64 s lo) (add-fits binary64 s hi) same in
+        let low = add-near s-is L (q + a) (q' + a') refl (omega arith) in
+        let high = rw (← equal) at (add-near s-is H (q + b) (q' + b') refl (omega arith)) in
+        let F : T (fits binary64 f) = rw (G .is) (round-fits binary64 (G .neg) (G .size) (2 ^ 1074)) in
+        let whole = near-is G 2 (le-trans (dist-add x x' k k' (x + k) (x' + k') refl) (omega (arith, C .small))) (omega arith) in
+        let below = from-below a a' n m SL under in
+        let above = from-below b' b m n (turned b b' b' b (omega arith) SH) (omega arith) in
+        sym (between (q + u) (q' + u') (q + a) (q' + a') (q + b) (q' + b') (add-fits binary64 s lo) (add-fits binary64 s w) low high (add-near s-is w-is (q + u) (q' + u') refl (omega arith)) (omega arith) (omega arith) (omega arith))
+        ∙ between (x + k) (x' + k') (q + a) (q' + a') (q + b) (q' + b') (add-fits binary64 s lo) F low high whole (omega arith) (omega arith) (omega arith)
 
     -- ---- the two floats beside w
-    module _ {i u : ℕ} (S : Spelled w i u) where
-      abbrev size : ℕ
-      size = u * 2 ^ i
+    S : Spelled w
+    S = spell-is (add-fits binary64 t e) w-is
 
-      size-is : w-is .size ≡ size
-      size-is = sym (place-of binary64 w (w-is .sign) (w-is .size) (w-is .value)) ∙ place-of binary64 w (S .neg) size (value S)
+    abbrev size : ℕ
+    size = S .q * 2 ^ S .k
 
-      sign-is : w-is .sign ≡ S .neg
-      sign-is = sym (sign-of w (w-is .sign) _ _ (w-is .value)) ∙ sign-of w (S .neg) _ _ (value S)
+    size-small : size ≤ 128 * bound
+    size-small = le-trans (le-of-eq (size-is S w-is)) (omega (arith, w-is .small))
 
-      size-small : size ≤ 32 * bound
-      size-small = le-trans (le-of-eq (sym size-is ∙ go (w-is .sign) (w-is .size) (near (nw - mw)) (near (mw - nw)) (w-is .pair))) (w-is .small)
-        where
-          go : (s : Bool) (v a b : ℕ) → a + cond s v 0 ≡ b + cond s 0 v → v ≡ dist a b
-          go true v a b e = omega arith
-          go false v a b e = omega arith
+    room : S .k ≤ 2035
+    unfolding bound
+    room = elim (eq-zero-or-pos (S .k)) [
+      | inl z ↦ omega arith
+      | inr z ↦ omega (arith, pow-le-back (52 + S .k) 2087 (le-trans (le-of-eq (pow-add 2 52 (S .k))) (le-trans (mul-le-mul-right (2 ^ S .k) (S .full z)) (le-trans size-small (le-of-eq (sym (pow-add 2 7 2080)))))))
+    ]
 
-      w-pair : near (nw - mw) + cond (S .neg) size 0 ≡ near (mw - nw) + cond (S .neg) 0 size
-      w-pair = rw (← sign-is, ← size-is) (w-is .pair)
+    abbrev o : ℕ
+    o = cond (S .neg) 0 (S .q + 1) * 2 ^ S .k
 
-      room : i ≤ 2044
-      unfolding bound
-      room = go (decLe i 2044)
-        where
-          go : Dec (i ≤ 2044) → i ≤ 2044
-          go (yes l) = l
-          go (no l) =
-              let g : 2044 < i = lt-of-not-le l in
-              absurd (not-le-of-lt (lt-of-le-of-lt (le-trans size-small (le-of-eq (sym (pow-add 2 5 2080)))) (pow-lt {i = 2085} {j = 2096} (omega arith)))
-              (le-trans (le-of-eq (pow-add 2 52 2044)) (mul-le-mul (S .full (omega arith)) (pow-mono {i = 2044} {j = i} (omega arith)))))
+    abbrev o' : ℕ
+    o' = cond (S .neg) (S .q + 1) 0 * 2 ^ S .k
 
-      unit-small : 2 ^ i ≤ bound
-      unfolding bound
-      unit-small = pow-mono {i = i} {j = 2080} (omega (arith, room))
+    out-is : (j : ℕ) → 129 ≤ j → Is (outward w) o o' j
+    out-is j h =
+        unit-is (S .neg) (cond (S .neg) 0 (S .q + 1)) (cond (S .neg) (S .q + 1) 0) (S .q + 1) (S .k) j
+        (written S (toBits binary64 w + 1) (S .q + 1) (omega (arith, S .pattern)) (λ z. omega (arith, S .full z)) (omega (arith, S .top)) (omega (arith, S .top, room))) (alone (S .neg) (S .q + 1))
+        (le-trans (omega (arith, size-small, in-bound 1 0 (S .k) (omega arith) (omega (arith, room)))) (mul-le-mul-right bound h))
 
-      next-size : (u + 1) * 2 ^ i ≡ size + 2 ^ i
-      next-size = add-mul u 1 (2 ^ i) ∙ ap (λ (z : ℕ). size + z) (one-mul (2 ^ i))
+    out-pair : Signed (S .neg) o o' ((S .q + 1) * 2 ^ S .k)
+    out-pair = times (S .neg) (cond (S .neg) 0 (S .q + 1)) (cond (S .neg) (S .q + 1) 0) (S .q + 1) (2 ^ S .k) (alone (S .neg) (S .q + 1))
 
-      own-is : Is w (cond (S .neg) 0 size) (cond (S .neg) size 0) 32
-      own-is = value-is (S .neg) size 32 (value S) size-small
+    out-short : Short (dist o o')
+    out-short = alone-short (S .neg) (S .q + 1) (S .k) (omega (arith, S .top))
 
-      out-is : Is (outward w) (cond (S .neg) 0 (size + 2 ^ i)) (cond (S .neg) (size + 2 ^ i) 0) 200
-      out-is = value-is (S .neg) (size + 2 ^ i) 200 (recast (outward w) (2 ^ 1074) refl next-size (next-value S room)) (omega (arith, size-small, unit-small))
+    in-short : Short (dist (u + u + o') (u' + u' + o))
+    in-short = subst Short (go (S .neg) (pair-is S w-is) out-pair) (short-times (S .q) 1 (S .k) (omega (arith, S .top)))
+      where
+        go : (g : Bool) → Signed g u u' size → Signed g o o' ((S .q + 1) * 2 ^ S .k) → dist size (1 * 2 ^ S .k) ≡ dist (u + u + o') (u' + u' + o)
+        go true e h = omega arith
+        go false e h = omega arith
 
-      out-short : Short (dist (cond (S .neg) 0 (size + 2 ^ i)) (cond (S .neg) (size + 2 ^ i) 0))
-      out-short = subst Short (next-size ∙ sym (pair-size (S .neg) (size + 2 ^ i))) (short-unit (u + 1) (u + 1) 0 i (mul-one (u + 1)) (omega (arith, S .top)))
+    in-is : Is (inward w) (u + u + o') (u' + u' + o) 320
+    in-is = sub-exact (add-exact w-is w-is (u + u) (u' + u') refl (short-twice u u' (near-dist-short n m)) (omega arith)) (out-is 132 (omega arith)) (u + u + o') (u' + u' + o) refl in-short (omega arith)
 
-      abbrev inA : ℕ
-      inA = cond (S .neg) 0 size + cond (S .neg) 0 size + cond (S .neg) (size + 2 ^ i) 0
-
-      abbrev inB : ℕ
-      inB = cond (S .neg) size 0 + cond (S .neg) size 0 + cond (S .neg) 0 (size + 2 ^ i)
-
-      in-short : Short (dist inA inB)
-      in-short =
-          subst Short (dist-mul (u + u) (u + 1) (2 ^ i) ∙ ap (λ (z : ℕ). dist z ((u + 1) * 2 ^ i)) (add-mul u u (2 ^ i)) ∙ ap (λ (z : ℕ). dist (size + size) z) next-size ∙ go (S .neg) size (size + 2 ^ i))
-          (short-unit (dist (u + u) (u + 1)) (dist (u + u) (u + 1)) 0 i (mul-one (dist (u + u) (u + 1))) (omega (arith, S .top)))
-        where
-          go : (s : Bool) (v x : ℕ) → dist (v + v) x ≡ dist (cond s 0 v + cond s 0 v + cond s x 0) (cond s v 0 + cond s v 0 + cond s 0 x)
-          go true v x = omega arith
-          go false v x = omega arith
-
-      twice-is : Is (add binary64 w w) (cond (S .neg) 0 size + cond (S .neg) 0 size) (cond (S .neg) size 0 + cond (S .neg) size 0) 64
-      twice-is = add-exact own-is own-is (subst Short (add-mul u u (2 ^ i) ∙ go (S .neg) size) (short-of ((u + u) * 2 ^ i) (1 + i) (u, twice u i) (subst (λ (z : ℕ). (u + u) * 2 ^ i < 2 ^ z) (omega arith) (shl-lt 54 i (omega (arith, S .top)))))) (omega arith)
-        where
-          go : (s : Bool) (v : ℕ) → v + v ≡ dist (cond s 0 v + cond s 0 v) (cond s v 0 + cond s v 0)
-          go true v = omega arith
-          go false v = omega arith
-
-          twice : (u i : ℕ) → (u + u) * 2 ^ i ≡ u * 2 ^ (1 + i)
-          twice u i = ap (λ (z : ℕ). z * 2 ^ i) (omega arith) ∙ mul-assoc u 2 (2 ^ i) ∙ ap (λ (z : ℕ). u * z) (sym (pow-add 2 1 i))
-
-      near-out : Is (outward w) (cond (S .neg) 0 (size + 2 ^ i)) (cond (S .neg) (size + 2 ^ i) 0) 40
-      near-out = value-is (S .neg) (size + 2 ^ i) 40 (recast (outward w) (2 ^ 1074) refl next-size (next-value S room)) (omega (arith, size-small, unit-small))
-
-      in-is : Is (inward w) inA inB 200
-      in-is = let I = sub-exact twice-is near-out in-short (omega arith) in record { sign = I .sign; size = I .size; value = I .value; pair = I .pair; small = le-trans (I .small) (omega arith) }
-
-      certain-sum : add binary64 s (inward w) ≡ add binary64 s (outward w) → add binary64 s w ≡ f
-      certain-sum same = go (S .neg) refl
-        where
-          go : (g : Bool) → S .neg ≡ g → add binary64 s w ≡ f
-          go false e =
-              pinned inA inB (cond (S .neg) 0 (size + 2 ^ i)) (cond (S .neg) (size + 2 ^ i) 0) in-is out-is in-short out-short
-              (rw e (below (near (nw - mw)) (near (mw - nw)) size (2 ^ i) (pow-pos i) (rw e at w-pair))) (rw e (above (near (nw - mw)) (near (mw - nw)) size (2 ^ i) (pow-pos i) (rw e at w-pair))) same
-            where
-              below : (a b z o : ℕ) → 0 < o → a + 0 ≡ b + z → z + z + 0 + b < a + (0 + 0 + (z + o))
-              below a b z o p h = omega arith
-
-              above : (a b z o : ℕ) → 0 < o → a + 0 ≡ b + z → a + 0 < z + o + b
-              above a b z o p h = omega arith
-          go true e =
-              pinned (cond (S .neg) 0 (size + 2 ^ i)) (cond (S .neg) (size + 2 ^ i) 0) inA inB out-is in-is out-short in-short
-              (rw e (below (near (nw - mw)) (near (mw - nw)) size (2 ^ i) (pow-pos i) (rw e at w-pair))) (rw e (above (near (nw - mw)) (near (mw - nw)) size (2 ^ i) (pow-pos i) (rw e at w-pair))) (sym same)
-            where
-              below : (a b z o : ℕ) → 0 < o → a + z ≡ b + 0 → 0 + b < a + (z + o)
-              below a b z o p h = omega arith
-
-              above : (a b z o : ℕ) → 0 < o → a + z ≡ b + 0 → a + (z + z + 0) < 0 + 0 + (z + o) + b
-              above a b z o p h = omega arith
+    certain-sum : Certain s w → add binary64 s w ≡ f
+    certain-sum same = go (S .neg) (pair-is S w-is) out-pair
+      where
+        go : (g : Bool) → Signed g u u' size → Signed g o o' ((S .q + 1) * 2 ^ S .k) → add binary64 s w ≡ f
+        go false e h = pinned (u + u + o') (u' + u' + o) o o' in-is (out-is 320 (omega arith)) in-short out-short (omega (arith, pow-pos (S .k))) (omega (arith, pow-pos (S .k))) same
+        go true e h = pinned o o' (u + u + o') (u' + u' + o) (out-is 320 (omega arith)) in-is out-short in-short (omega (arith, pow-pos (S .k))) (omega (arith, pow-pos (S .k))) (sym same)
 
 -- ---- the operands
 module _ (x y z : Float) (FX : T (fits binary64 x)) (FY : T (fits binary64 y)) (FZ : T (fits binary64 z)) (RX : InRange x) (RY : InRange y) (small : toBits binary64 z % 2 ^ 63 < 0x7e00_0000_0000_0000) where
-  abbrev xk : ℕ
-  xk = toBits binary64 x % 2 ^ 63 / 2 ^ 52 - 1
+  X : Spelled x
+  X = spell x FX (omega (arith, RX .high))
 
-  abbrev xq : ℕ
-  xq = 2 ^ 52 + toBits binary64 x % 2 ^ 52
+  Y : Spelled y
+  Y = spell y FY (omega (arith, RY .high))
 
-  abbrev yk : ℕ
-  yk = toBits binary64 y % 2 ^ 63 / 2 ^ 52 - 1
+  Z : Spelled z
+  Z = spell z FZ (omega arith)
 
-  abbrev yq : ℕ
-  yq = 2 ^ 52 + toBits binary64 y % 2 ^ 52
+  XF : Cut x (roundedHigh x) (X .k) 26
+  XF =
+      let h = (X .q + 2 ^ 26) / 2 ^ 27 in
+      let r = in-range X RX in
+      factor X RX (roundedHigh x) h (X .q - h * 2 ^ 27) (h * 2 ^ 27 - X .q) 26 (omega arith) (omega arith) (omega arith) (written X ((toBits binary64 x + 2 ^ 26) / 2 ^ 27 * 2 ^ 27) (h * 2 ^ 27) (omega (arith, X .pattern)) (λ _. omega arith) (omega arith) (omega arith))
 
-  X : Spelled x xk xq
-  X = normal x FX (omega (arith, RX .low)) (omega (arith, RX .high))
-
-  Y : Spelled y yk yq
-  Y = normal y FY (omega (arith, RY .low)) (omega (arith, RY .high))
-
-  Z : (k : ℕ) × (q : ℕ) × (Spelled z k q × (k ≤ 2015))
-  Z = elim (eq-zero-or-pos (toBits binary64 z % 2 ^ 63 / 2 ^ 52)) [
-    | inl e ↦ (0, toBits binary64 z % 2 ^ 52, (low z FZ e, omega arith))
-    | inr p ↦ (toBits binary64 z % 2 ^ 63 / 2 ^ 52 - 1, 2 ^ 52 + toBits binary64 z % 2 ^ 52, (normal z FZ p (omega arith), omega arith))
-  ]
-
-  abbrev zs : Bool
-  zs = Z .2 .0 .neg
-
-  abbrev K : ℕ
-  K = Z .1 * 2 ^ Z .0
-
-  abbrev v : Bool
-  v = unlike (X .neg) (Y .neg)
+  YF : Cut y (cutHigh y) (Y .k) 27
+  YF =
+      let h = Y .q / 2 ^ 27 in
+      let r = in-range Y RY in
+      factor Y RY (cutHigh y) h (Y .q % 2 ^ 27) 0 27 (omega arith) (omega arith) (omega arith) (written Y (toBits binary64 y - toBits binary64 y % 2 ^ 27) (h * 2 ^ 27) (omega (arith, Y .pattern)) (λ _. omega arith) (omega arith) (omega arith))
 
   abbrev unit : ℕ
-  unit = xk + yk - 1074
+  unit = X .k + Y .k - 1074
 
-  units-is : xk + yk ≡ unit + 1074
-  units-is = omega (arith, RX .low, RY .low)
+  E : (X .k + Y .k ≡ unit + 1074) × (unit ≤ 1900)
+  E = let r = in-range X RX in let t = in-range Y RY in omega arith
 
-  units-top : unit ≤ 1900
-  units-top = omega (arith, RX .high, RY .high)
+  abbrev xy : ℕ
+  xy = two-product.z unit E (XF .4) (YF .4) * 2 ^ unit
 
-  x-room : xk ≤ 1278
-  x-room = omega (arith, RX .high)
+  abbrev xy' : ℕ
+  xy' = two-product.z' unit E (XF .4) (YF .4) * 2 ^ unit
 
-  y-room : yk ≤ 1278
-  y-room = omega (arith, RY .high)
+  abbrev k : ℕ
+  k = cond (Z .neg) 0 (Z .q) * 2 ^ Z .k
 
-  abbrev C : Cuts xq ((xq + 2 ^ 26) / 2 ^ 27) (xq - (xq + 2 ^ 26) / 2 ^ 27 * 2 ^ 27) ((xq + 2 ^ 26) / 2 ^ 27 * 2 ^ 27 - xq) (yq / 2 ^ 27) (yq % 2 ^ 27)
-  C = cuts xq yq (omega arith) (X .top) (omega arith) (Y .top)
+  abbrev k' : ℕ
+  k' = cond (Z .neg) (Z .q) 0 * 2 ^ Z .k
 
-  abbrev prod : ℕ
-  prod = xq * (yq / 2 ^ 27 * 2 ^ 27 + yq % 2 ^ 27) * 2 ^ unit
+  p-is : Is (x ⊗ y) (near (xy - xy')) (near (xy' - xy)) 2
+  p-is = two-product.rounded unit E (XF .4) (YF .4)
 
-  y-whole : yq ≡ yq / 2 ^ 27 * 2 ^ 27 + yq % 2 ^ 27
-  y-whole = parts yq
-    where
-      parts : (n : ℕ) → n ≡ n / 2 ^ 27 * 2 ^ 27 + n % 2 ^ 27
-      parts n = omega arith
+  e-is : Is (productError x y) (xy + near (xy' - xy)) (xy' + near (xy - xy')) 6
+  e-is = two-product.error-is unit E (XF .4) (YF .4)
 
-  y-is : Rel (Y .neg) y ((yq / 2 ^ 27 * 2 ^ 27 + yq % 2 ^ 27) * 2 ^ yk) 0 1
-  y-is = subst (λ (w : ℕ). Rel (Y .neg) y (w * 2 ^ yk) 0 1) y-whole (whole-is Y y-room (omega arith))
+  z-is : Is z k k' 1
+  z-is = unit-is (Z .neg) (cond (Z .neg) 0 (Z .q)) (cond (Z .neg) (Z .q) 0) (Z .q) (Z .k) 1 (value Z) (alone (Z .neg) (Z .q)) (in-bound (Z .q) 53 (Z .k) (le-of-lt (Z .top)) (omega (arith, Z .pattern, Z .room)))
 
-  p-is : Rel v (x ⊗ y) (near prod) 0 1
-  p-is = two-product.product-rounded _ _ _ _ _ _ C (X .neg) (Y .neg) xk yk unit units-is units-top (whole-is X x-room (omega arith)) (rounded-is X x-room (omega arith)) y-is (cut-is Y y-room (omega arith))
+  z-short : Short (dist k k')
+  z-short = alone-short (Z .neg) (Z .q) (Z .k) (le-of-lt (Z .top))
 
-  e-is : Rel v (productError x y) prod (near prod) 5
-  e-is = two-product.error-is _ _ _ _ _ _ C (X .neg) (Y .neg) xk yk unit units-is units-top (whole-is X x-room (omega arith)) (rounded-is X x-room (omega arith)) y-is (cut-is Y y-room (omega arith))
+  f-is : NearPair (fma binary64 x y z) (xy + k) (xy' + k')
+  f-is = two-product.fused unit E (XF .4) (YF .4) z-is
 
-  k-bound : K ≤ bound
-  k-bound = in-bound (Z .1) 53 (Z .0) (le-of-lt (Z .2 .0 .top)) (omega (arith, Z .2 .1))
-
-  prod-bound : prod ≤ bound
-  prod-bound = in-bound (xq * (yq / 2 ^ 27 * 2 ^ 27 + yq % 2 ^ 27)) 106 unit (le-of-lt (two-product.z-top _ _ _ _ _ _ C)) (omega (arith, units-top))
-
-  z-is : Rel zs z K 0 1
-  z-is = plain zs z K 1 (le-trans k-bound (le-of-eq (sym (one-mul bound)))) (value (Z .2 .0))
-
-  fma-rounds : NearPair (fma binary64 x y z) (cond v 0 prod + cond zs 0 K) (cond v prod 0 + cond zs K 0)
-  fma-rounds =
-      let U = 2 ^ 1074 in
-      let A = xq * 2 ^ xk in
-      let B = (yq / 2 ^ 27 * 2 ^ 27 + yq % 2 ^ 27) * 2 ^ yk in
-      subst (λ (f : Float). NearPair f (cond v 0 prod + cond zs 0 K) (cond v prod 0 + cond zs K 0))
-      (sym (fma-at binary64 x y z (X .neg) (Y .neg) zs A B K U 1 (pow-pos 1074) (zero-lt-suc 0) (value X) (recast y U refl (ap (λ (w : ℕ). w * 2 ^ yk) y-whole) (value Y)) (value (Z .2 .0))
-      ∙ sum-value binary64 (A * B * 1) (K * (1 * U)) (1 * (U * U)) prod K U (mul-pos (zero-lt-suc 0) (mul-pos (pow-pos 1074) (pow-pos 1074))) (pow-pos 1074) (first xq (yq / 2 ^ 27 * 2 ^ 27 + yq % 2 ^ 27)) (second K U) v zs))
-      (sum-is v zs prod K (cond v 0 prod) (cond v prod 0) (cond zs 0 K) (cond zs K 0) (pair-is v prod) (pair-is zs K))
-    where
-      rearrange : (a b p q u : ℕ) → a * p * (b * q) * 1 * u ≡ a * b * (p * q * u)
-      rearrange a b p q u = simp (mul-assoc, mul-comm, mul-left-comm, mul-one, one-mul)
-
-      rearrange' : (a p u : ℕ) → a * (p * u * u) ≡ a * p * (1 * (u * u))
-      rearrange' a p u = simp (mul-assoc, mul-comm, mul-left-comm, mul-one, one-mul)
-
-      first : (a b : ℕ) → a * 2 ^ xk * (b * 2 ^ yk) * 1 * 2 ^ 1074 ≡ a * b * 2 ^ unit * (1 * (2 ^ 1074 * 2 ^ 1074))
-      first a b = rearrange a b (2 ^ xk) (2 ^ yk) (2 ^ 1074) ∙ ap (λ (f : ℕ). a * b * (f * 2 ^ 1074)) (sym (pow-add 2 xk yk) ∙ ap (λ (f : ℕ). 2 ^ f) units-is ∙ pow-add 2 unit 1074) ∙ rearrange' (a * b) (2 ^ unit) (2 ^ 1074)
-
-      second : (k u : ℕ) → k * (1 * u) * u ≡ k * (1 * (u * u))
-      second k u = simp (mul-assoc, mul-comm, mul-left-comm, mul-one, one-mul)
-
-  rounded-fits : T (fits binary64 (fma binary64 x y z))
-  rounded-fits = subst (λ (w : Float). T (fits binary64 w)) (sym (fma-rounds .is)) (round-fits binary64 (fma-rounds .neg) _ (2 ^ 1074))
-
-  sum-small : dist (cond v 0 prod + cond zs 0 K) (cond v prod 0 + cond zs K 0) ≤ 2 ^ 2 * bound
-  sum-small = le-trans (dist-add (cond v 0 prod) (cond v prod 0) (cond zs 0 K) (cond zs K 0)) (le-trans (le-of-eq (ap (λ (w : ℕ). w + dist (cond zs 0 K) (cond zs K 0)) (pair-size v prod) ∙ ap (λ (w : ℕ). prod + w) (pair-size zs K))) (go prod K prod-bound k-bound))
-    where
-      go : (a b : ℕ) → a ≤ bound → b ≤ bound → a + b ≤ 2 ^ 2 * bound
-      go a b h k = omega arith
-
-  -- t is what rounding took off the sum
-  by-errors : {t : Float} → Is t (cond v 0 (near prod) + cond zs 0 K + near (cond v (near prod) 0 + cond zs K 0 - (cond v 0 (near prod) + cond zs 0 K))) (cond v (near prod) 0 + cond zs K 0 + near (cond v 0 (near prod) + cond zs 0 K - (cond v (near prod) 0 + cond zs K 0))) 12
-      → Certain (x ⊗ y ⊕ z) (t ⊕ productError x y) → x ⊗ y ⊕ z ⊕ (t ⊕ productError x y) ≡ fma binary64 x y z
-  by-errors {t} T-is same =
-      let s = x ⊗ y ⊕ z in
-      let w = t ⊕ productError x y in
-      let W = w-is v zs prod (near prod) K p-is (near-short prod) e-is z-is (digits-short (Z .2 .0)) T-is rounded-fits fma-rounds sum-small in
-      let S = any w (add-fits binary64 t (productError x y)) (finite-value w (W .sign) (W .size) (W .value)) in
-      certain-sum v zs prod (near prod) K p-is (near-short prod) e-is z-is (digits-short (Z .2 .0)) T-is rounded-fits fma-rounds sum-small (S .2) (same-bits (s ⊕ inward w) (s ⊕ outward w) (add-fits binary64 s (inward w)) (add-fits binary64 s (outward w)) same)
+  small-product : dist xy xy' ≤ 1 * bound
+  small-product = two-product.z-bound unit E (XF .4) (YF .4)
 
   pub fused-is : Certain (x ⊗ y ⊕ z) (sumError (x ⊗ y) z ⊕ productError x y) → x ⊗ y ⊕ z ⊕ (sumError (x ⊗ y) z ⊕ productError x y) ≡ fma binary64 x y z
-  fused-is = by-errors (knuth v zs prod (near prod) K p-is (near-short prod) e-is z-is (digits-short (Z .2 .0)))
+  fused-is = certain-sum xy xy' k k' p-is e-is z-is z-short small-product f-is (two-sum.error-is p-is z-is (near-dist-short xy xy') z-short)
 
   -- the product is not the smaller one
-  P : (k : ℕ) × (q : ℕ) × Spelled (x ⊗ y) k q
-  P = any (x ⊗ y) (mul-fits binary64 x y) (finite-value (x ⊗ y) (p-is .is .sign) (p-is .is .size) (p-is .is .value))
-
-  p-size : P .1 * 2 ^ P .0 ≡ near prod
-  p-size = sym (place-of binary64 (x ⊗ y) (P .2 .neg) (P .1 * 2 ^ P .0) (value (P .2))) ∙ place-of binary64 (x ⊗ y) (p-is .is .sign) (p-is .is .size) (p-is .is .value) ∙ go v (p-is .is .sign) (near prod) (p-is .is .size) (p-is .is .pair)
-    where
-      go : (n s : Bool) (a z : ℕ) → cond n 0 a + cond s z 0 ≡ cond n a 0 + cond s 0 z → z ≡ a
-      go true true a z e = omega arith
-      go true false a z e = omega arith
-      go false true a z e = omega arith
-      go false false a z e = omega arith
-
-  ordered : lt (bits (toBits binary64 (x ⊗ y) % 2 ^ 63)) (bits (toBits binary64 z % 2 ^ 63)) ≡ false → K ≤ near prod
+  ordered : lt (bits (toBits binary64 (x ⊗ y) % 2 ^ 63)) (bits (toBits binary64 z % 2 ^ 63)) ≡ false → dist k k' ≤ dist (near (xy - xy')) (near (xy' - xy))
   ordered h =
+      let P = spell-is (mul-fits binary64 x y) p-is in
       let p' = bits (toBits binary64 (x ⊗ y) % 2 ^ 63) in
       let z' = bits (toBits binary64 z % 2 ^ 63) in
-      let l = le-of-not-lt p' z' (finite-value p' false (P .1 * 2 ^ P .0) (size-value (P .2))) (finite-value z' false K (size-value (Z .2 .0))) h in
-      le-trans (le-of-mul-le-mul-right {k = 2 ^ 1074} (le→fractions false false K (P .1 * 2 ^ P .0) (2 ^ 1074) (2 ^ 1074) (pow-pos 1074) (pow-pos 1074) z' p' (size-value (Z .2 .0)) (size-value (P .2)) (rw l tt)) (pow-pos 1074)) (le-of-eq p-size)
+      let a = P .q * 2 ^ P .k in
+      let b = Z .q * 2 ^ Z .k in
+      let l = le-of-not-lt p' z' (finite-value p' false a (size-value P)) (finite-value z' false b (size-value Z)) h in
+      let g = le-of-mul-le-mul-right {k = 2 ^ 1074} (le→fractions false false b a (2 ^ 1074) (2 ^ 1074) (pow-pos 1074) (pow-pos 1074) z' p' (size-value Z) (size-value P) (rw l tt)) (pow-pos 1074) in
+      le-trans (le-of-eq (sym (size-is Z z-is))) (le-trans g (le-of-eq (size-is P p-is)))
 
   pub ordered-fused-is : lt (bits (toBits binary64 (x ⊗ y) % 2 ^ 63)) (bits (toBits binary64 z % 2 ^ 63)) ≡ false
       → Certain (x ⊗ y ⊕ z) (orderedSumError (x ⊗ y) z ⊕ productError x y) → x ⊗ y ⊕ z ⊕ (orderedSumError (x ⊗ y) z ⊕ productError x y) ≡ fma binary64 x y z
-  ordered-fused-is h = by-errors (dekker v zs prod (near prod) K p-is (near-short prod) e-is z-is (digits-short (Z .2 .0)) (ordered h))
+  ordered-fused-is h = certain-sum xy xy' k k' p-is e-is z-is z-short small-product f-is (two-sum.ordered-error-is p-is z-is (near-dist-short xy xy') z-short (ordered h))

@@ -1,242 +1,227 @@
--- Floats by their values as differences of two whole numbers of units, 2 ^ -1074: sums and differences need no cases of signs. Assumes nothing.
+-- Floats by their values as differences of two whole numbers of units, 2 ^ -1074: sums, differences and products need no cases of signs. Assumes nothing.
 use mathlib.Core.Path.{_≡_, refl, sym, ap, _∙_, subst}
-use mathlib.Core.Bool.{Bool, true, false, not, _&&_, cond, true≢false, false≢true}
+use mathlib.Core.Bool.{Bool, true, false, not, cond}
 use Prim.Native.Nat.{ℕ, _+_, _-_, _*_, _^_, _≤_, _<_}
-use native.Mathlib.Nat.{le-trans, le-of-eq, lt-of-le-of-lt, lt-of-not-le, mul-assoc, mul-div-cancel, mul-pos, mul-le-mul-right, one-mul, add-mul, le-of-lt}
+use native.Mathlib.Nat.{le-trans, le-of-eq, lt-of-le-of-lt, mul-assoc, mul-comm, mul-left-comm, mul-div-cancel, mul-pos, mul-le-mul-right, le-of-mul-le-mul-right, one-mul, add-mul, zero-lt-suc}
 use native.Mathlib.Decide.{decLe}
 use native.Mathlib.Omega.{arith}
-use lib.Dec.{T, ltb, nltb→le}
+use lib.Dec.{T}
 use lib.Pow.{pow-add, pow-pos, pow-mono, pow-lt}
-use lib.Ieee.{Float, binary64, size, units, round, sum, add, sub, neg, fits}
-use lib.Ieee.Fits.{round-is}
+use lib.Ieee.{Float, nan, inf, fin, binary64, size, units, unlike, up, down, round, sum, add, sub, mul, neg, fits}
+use lib.Ieee.Fits.{round-is, down-pos}
 use lib.Ieee.Nearest.{closest, closest-same}
 use lib.Ieee.Exact.{HasValue, units-val}
+use lib.Ieee.Scale.{round-same}
+use borrow.Author.Tests.{le-ltb}
+use Rattle.elementary.specs.MulAdd.{fma}
 use Rattle.elementary.proofs.Laws.Places.{place-of, sign-of}
 use Rattle.elementary.proofs.Laws.Values.{recast, value-unique}
-use Rattle.elementary.proofs.Laws.Adding.{add-at, neg-value}
-use Rattle.elementary.proofs.mul_add.Sums.{sum-same, sum-more, sum-less}
-use Rattle.elementary.proofs.Laws.Errors.Digits.{ex, dist, Short, short-of, near, near-exact, near-mono}
-
--- ---- a whole number of units rounded
-pub round-units : (s : Bool) (n : ℕ) → round binary64 s n (2 ^ 1074) ≡ units binary64 s (closest n (2 ^ ex n)) (ex n)
-round-units s n =
-    let u = 2 ^ 1074 in
-    round-is binary64 s n u
-    ∙ ap (λ (z : ℕ). units binary64 s (closest (n * u) (u * 2 ^ (size z - 53))) (size z - 53)) (mul-div-cancel n (pow-pos 1074))
-    ∙ ap (λ (z : ℕ). units binary64 s z (ex n)) (closest-same (n * u) (u * 2 ^ ex n) n (2 ^ ex n) (mul-pos (pow-pos 1074) (pow-pos (ex n))) (pow-pos (ex n)) (mul-assoc n u (2 ^ ex n)))
-
-pub round-value : (s : Bool) (n : ℕ) → near n < 2 ^ 2098 → HasValue (round binary64 s n (2 ^ 1074)) s (near n) (2 ^ 1074)
-unfolding near
-round-value s n h = subst (λ (z : Float). HasValue z s (near n) (2 ^ 1074)) (sym (round-units s n)) (units-val binary64 s (closest n (2 ^ ex n)) (ex n) h)
-
-pub near-zero : near 0 ≡ 0
-near-zero = near-exact 0 (short-of 0 0 (0, refl) (pow-pos 53))
+use Rattle.elementary.proofs.Laws.Adding.{sum-value, add-at, neg-value}
+use Rattle.elementary.proofs.mul_add.Sums.{sum-same, sum-more, sum-comm}
+use Rattle.elementary.proofs.mul_add.Exactly.{fma-at}
+use Rattle.elementary.proofs.Laws.Errors.Digits.{ex, dist, dist-mul, Short, short-zero, near, near-best, near-sides, near-dist, near-part}
 
 -- ---- values are at most some times this
 unfoldable pub bound : ℕ
 bound = 2 ^ 2080
 
-bound-short : (j : ℕ) → near (2 ^ j * bound) ≡ 2 ^ j * bound
+pub in-bound : (x k g : ℕ) → x ≤ 2 ^ k → k + g ≤ 2080 → x * 2 ^ g ≤ 1 * bound
 unfolding bound
-bound-short j = near-exact (2 ^ j * bound) (short-of (2 ^ j * bound) (j + 2080) (1, sym (ap (λ (z : ℕ). 1 * z) (pow-add 2 j 2080) ∙ one-mul (2 ^ j * 2 ^ 2080))) (subst (λ (z : ℕ). z < 2 ^ (53 + (j + 2080))) (pow-add 2 j 2080) (pow-lt {i = j + 2080} {j = 53 + (j + 2080)} (omega arith))))
+in-bound x k g h l = le-trans (mul-le-mul-right (2 ^ g) h) (le-trans (le-of-eq (sym (pow-add 2 k g))) (le-trans (pow-mono {i = k + g} {j = 2080} l) (le-of-eq (sym (one-mul (2 ^ 2080))))))
 
-pub near-in : (n j : ℕ) → n ≤ 2 ^ j * bound → near n ≤ 2 ^ j * bound
-near-in n j h = le-trans (near-mono n (2 ^ j * bound) h) (le-of-eq (bound-short j))
+-- a whole number of units rounded
+round-value : (s : Bool) (n : ℕ) → near n ≤ 2 ^ 16 * bound → HasValue (round binary64 s n (2 ^ 1074)) s (near n) (2 ^ 1074)
+unfolding near bound
+round-value s n h =
+    let u = 2 ^ 1074 in
+    let e : round binary64 s n u ≡ units binary64 s (closest n (2 ^ ex n)) (ex n) =
+    round-is binary64 s n u
+    ∙ ap (λ (z : ℕ). units binary64 s (closest (n * u) (u * 2 ^ (size z - 53))) (size z - 53)) (mul-div-cancel n (pow-pos 1074))
+    ∙ ap (λ (z : ℕ). units binary64 s z (ex n)) (closest-same (n * u) (u * 2 ^ ex n) n (2 ^ ex n) (mul-pos (pow-pos 1074) (pow-pos (ex n))) (pow-pos (ex n)) (mul-assoc n u (2 ^ ex n))) in
+    rw e (units-val binary64 s (closest n (2 ^ ex n)) (ex n) (lt-of-le-of-lt (le-trans h (le-of-eq (sym (pow-add 2 16 2080)))) (pow-lt {i = 2096} {j = 2098} (omega arith))))
 
-in-range : (n : ℕ) → n ≤ 2 ^ 16 * bound → n < 2 ^ 2098
-unfolding bound
-in-range n h = lt-of-le-of-lt (le-trans h (le-of-eq (sym (pow-add 2 16 2080)))) (pow-lt {i = 2096} {j = 2098} (omega arith))
+-- ---- a - b has the sign s, where it is not 0, and the size v
+abbrev pub Signed : Bool → ℕ → ℕ → ℕ → Type 0
+Signed s a b v = a + cond s v 0 ≡ b + cond s 0 v
 
-pub value-range : (n : ℕ) → n ≤ bound → n < 2 ^ 2098
-unfolding bound
-value-range n h = lt-of-le-of-lt h (pow-lt {i = 2080} {j = 2098} (omega arith))
+pub signed-size : (s : Bool) (a b v : ℕ) → Signed s a b v → v ≡ dist a b
+signed-size true a b v e = omega arith
+signed-size false a b v e = omega arith
 
 -- x is (a - b) * 2 ^ -1074, and at most k times the bound
 pub record Is (x : Float) (a b k : ℕ) : Type 0 where
   pub sign : Bool
   pub size : ℕ
   pub value : HasValue x sign size (2 ^ 1074)
-  pub pair : a + cond sign size 0 ≡ b + cond sign 0 size
+  pub pair : Signed sign a b size
   pub small : dist a b ≤ k * bound
 
-pub dist-add : (a b c d : ℕ) → dist (a + c) (b + d) ≤ dist a b + dist c d
-dist-add a b c d = omega arith
+pub widen : {x : Float} {a b k : ℕ} (l : ℕ) → k ≤ l → Is x a b k → Is x a b l
+widen l h X = record { sign = X .sign; size = X .size; value = X .value; pair = X .pair; small = le-trans (X .small) (mul-le-mul-right bound h) }
 
-pub neg-is : {x : Float} {a b k : ℕ} → Is x a b k → Is (neg x) b a k
-neg-is {x} {a} {b} {k} X = record {
-  sign = not (X .sign);
-  size = X .size;
-  value = neg-value x (X .sign) (X .size) (2 ^ 1074) (X .value);
-  pair = go (X .sign) (X .pair);
-  small = le-trans (le-of-eq rearrange) (X .small);
-}
-  where
-    go : (s : Bool) → a + cond s (X .size) 0 ≡ b + cond s 0 (X .size) → b + cond (not s) (X .size) 0 ≡ a + cond (not s) 0 (X .size)
-    go true e = sym e
-    go false e = sym e
+turn : (s : Bool) (a b v : ℕ) → Signed s a b v → Signed (not s) b a v
+turn true a b v e = sym e
+turn false a b v e = sym e
 
-    rearrange : dist b a ≡ dist a b
-    rearrange = omega arith
+neg-is : {x : Float} {a b k : ℕ} → Is x a b k → Is (neg x) b a k
+neg-is {x} {a} {b} X = record { sign = not (X .sign); size = X .size; value = neg-value x (X .sign) (X .size) (2 ^ 1074) (X .value); pair = turn (X .sign) a b (X .size) (X .pair); small = omega (arith, X .small) }
 
-pub relabel : {x : Float} {a b k : ℕ} (c d : ℕ) → a + d ≡ c + b → Is x a b k → Is x c d k
-relabel {x} {a} {b} {k} c d e X = record {
-  sign = X .sign;
-  size = X .size;
-  value = X .value;
-  pair = go (cond (X .sign) (X .size) 0) (cond (X .sign) 0 (X .size)) (X .pair);
-  small = le-trans (le-of-eq same) (X .small);
-}
-  where
-    go : (p q : ℕ) → a + p ≡ b + q → c + p ≡ d + q
-    go p q h = omega arith
-
-    same : dist c d ≡ dist a b
-    same = omega arith
-
--- ---- a sum of two fractions, as one rounding: r is n - m of the smallest values, rounded
+-- ---- r is n - m of the units, rounded
 pub record NearPair (r : Float) (n m : ℕ) : Type 0 where
   pub neg : Bool
-  pub is : r ≡ round binary64 neg (dist n m) (2 ^ 1074)
-  pub up : neg ≡ false → m ≤ n
-  pub down : neg ≡ true → n ≤ m
+  pub size : ℕ
+  pub is : r ≡ round binary64 neg size (2 ^ 1074)
+  pub pair : Signed neg n m size
 
-zero-of : (a : ℕ) → ltb 0 a ≡ false → a ≤ 0
-zero-of a h = nltb→le 0 a (subst (λ (z : Bool). T (not z)) (sym h) tt)
+pub minus-more : (a b c : ℕ) → b ≤ a → sum binary64 false a true b c ≡ round binary64 false (a - b) c
+unfolding sum
+minus-more a b c h = rw (le-ltb a b h)
 
-pub sum-is : (s t : Bool) (p q a b c d : ℕ) → a + cond s p 0 ≡ b + cond s 0 p → c + cond t q 0 ≡ d + cond t 0 q → NearPair (sum binary64 s p t q (2 ^ 1074)) (a + c) (b + d)
-sum-is false false p q a b c d e f = record {
-  neg = false;
-  is = sum-same binary64 false false p q (2 ^ 1074) refl ∙ ap (λ (z : ℕ). round binary64 false z (2 ^ 1074)) (omega arith);
-  up = λ _. omega arith;
-  down = λ h. absurd (false≢true h);
-}
-sum-is true true p q a b c d e f = record {
-  neg = true;
-  is = sum-same binary64 true true p q (2 ^ 1074) refl ∙ ap (λ (z : ℕ). round binary64 true z (2 ^ 1074)) (omega arith);
-  up = λ h. absurd (true≢false h);
-  down = λ _. omega arith;
-}
-sum-is false true p q a b c d e f = go (decLe p q)
-  where
-    go : Dec (p ≤ q) → NearPair (sum binary64 false p true q (2 ^ 1074)) (a + c) (b + d)
-    go (yes h) = record {
-      neg = true && ltb 0 (q - p);
-      is = sum-less binary64 false true p q (2 ^ 1074) refl h ∙ ap (λ (z : ℕ). round binary64 (true && ltb 0 (q - p)) z (2 ^ 1074)) (omega arith);
-      up = λ l. let z = zero-of (q - p) l in omega arith;
-      down = λ _. omega arith;
-    }
-    go (no h) = record {
-      neg = false;
-      is = sum-more binary64 false true p q (2 ^ 1074) refl (lt-of-not-le h) ∙ ap (λ (z : ℕ). round binary64 false z (2 ^ 1074)) (let l = lt-of-not-le h in omega arith);
-      up = λ _. let l = lt-of-not-le h in omega arith;
-      down = λ l. absurd (false≢true l);
-    }
-sum-is true false p q a b c d e f = go (decLe p q)
-  where
-    go : Dec (p ≤ q) → NearPair (sum binary64 true p false q (2 ^ 1074)) (a + c) (b + d)
-    go (yes h) = record {
-      neg = false;
-      is = sum-less binary64 true false p q (2 ^ 1074) refl h ∙ ap (λ (z : ℕ). round binary64 false z (2 ^ 1074)) (omega arith);
-      up = λ _. omega arith;
-      down = λ l. absurd (false≢true l);
-    }
-    go (no h) = record {
-      neg = true;
-      is = sum-more binary64 true false p q (2 ^ 1074) refl (lt-of-not-le h) ∙ ap (λ (z : ℕ). round binary64 true z (2 ^ 1074)) (let l = lt-of-not-le h in omega arith);
-      up = λ l. absurd (true≢false l);
-      down = λ _. let l = lt-of-not-le h in omega arith;
-    }
+pub minus-less : (a b c : ℕ) → a < b → sum binary64 false a true b c ≡ round binary64 true (b - a) c
+minus-less a b c h = sum-comm binary64 false true a b c ∙ sum-more binary64 true false b a c refl h
 
--- the sign of a difference, and its size
-as-pair : (n m : ℕ) (s : Bool) → (s ≡ false → m ≤ n) → (s ≡ true → n ≤ m) → n + cond s (dist n m) 0 ≡ m + cond s 0 (dist n m)
-as-pair n m true u v = let h = v refl in omega arith
-as-pair n m false u v = let h = u refl in omega arith
+minus-is : (p q a b c d n m : ℕ) → Signed false a b p → Signed true c d q → a + c + m ≡ n + (b + d) → NearPair (sum binary64 false p true q (2 ^ 1074)) n m
+minus-is p q a b c d n m e f g = elim (decLe q p) [
+  | yes h ↦ record { neg = false; size = p - q; is = minus-more p q (2 ^ 1074) h; pair = omega arith }
+  | no h ↦ record { neg = true; size = q - p; is = minus-less p q (2 ^ 1074) (omega arith); pair = omega arith }
+]
 
-pub no-rest : (n m : ℕ) → n ≤ m → near (n - m) ≡ 0
-no-rest n m h = ap near none ∙ near-zero
-  where
-    none : n - m ≡ 0
-    none = omega arith
-
-near-pair : (n m : ℕ) (s : Bool) → (s ≡ false → m ≤ n) → (s ≡ true → n ≤ m) → near (n - m) + cond s (near (dist n m)) 0 ≡ near (m - n) + cond s 0 (near (dist n m))
-near-pair n m true u v = let z = no-rest n m (v refl) in let e : near (dist n m) ≡ near (m - n) = ap near (let h = v refl in omega arith) in omega arith
-near-pair n m false u v = let z = no-rest m n (u refl) in let e : near (dist n m) ≡ near (n - m) = ap near (let h = u refl in omega arith) in omega arith
-
-pub near-dist : (n m : ℕ) → dist (near (n - m)) (near (m - n)) ≡ near (dist n m)
-near-dist n m = go (decLe n m)
-  where
-    go : Dec (n ≤ m) → dist (near (n - m)) (near (m - n)) ≡ near (dist n m)
-    go (yes h) = let z = no-rest n m h in let e : near (dist n m) ≡ near (m - n) = ap near (omega arith) in omega arith
-    go (no h) = let l = lt-of-not-le h in let z = no-rest m n (le-of-lt l) in let e : near (dist n m) ≡ near (n - m) = ap near (omega arith) in omega arith
+sum-is : (s t : Bool) (p q a b c d n m : ℕ) → Signed s a b p → Signed t c d q → a + c + m ≡ n + (b + d) → NearPair (sum binary64 s p t q (2 ^ 1074)) n m
+sum-is false false p q a b c d n m e f g = record { neg = false; size = p + q; is = sum-same binary64 false false p q (2 ^ 1074) refl; pair = omega arith }
+sum-is true true p q a b c d n m e f g = record { neg = true; size = p + q; is = sum-same binary64 true true p q (2 ^ 1074) refl; pair = omega arith }
+sum-is false true p q a b c d n m e f g = minus-is p q a b c d n m e f g
+sum-is true false p q a b c d n m e f g = rw (sum-comm binary64 true false p q (2 ^ 1074)) (minus-is q p c d a b n m f e (omega arith))
 
 -- what is rounded, by its value
-pub near-is : {r : Float} {n m : ℕ} → NearPair r n m → (l : ℕ) → dist n m ≤ 2 ^ l * bound → l ≤ 16 → Is r (near (n - m)) (near (m - n)) (2 ^ l)
-near-is {r} {n} {m} R l h k = record {
-  sign = R .neg;
-  size = near (dist n m);
-  value = subst (λ (z : Float). HasValue z (R .neg) (near (dist n m)) (2 ^ 1074)) (sym (R .is)) (round-value (R .neg) (dist n m) (in-range (near (dist n m)) (le-trans top (mul-le-mul-right bound (pow-mono {i = l} {j = 16} k)))));
-  pair = near-pair n m (R .neg) (R .up) (R .down);
-  small = le-trans (le-of-eq (near-dist n m)) top;
-}
-  where
-    top : near (dist n m) ≤ 2 ^ l * bound
-    top = near-in (dist n m) l h
+module _ {r : Float} {n m : ℕ} (R : NearPair r n m) where
+  is-size : R .size ≡ dist n m
+  is-size = signed-size (R .neg) n m (R .size) (R .pair)
 
-module _ {x y : Float} {a b c d i j : ℕ} (X : Is x a b i) (Y : Is y c d j) where
-  pub add-rounds : NearPair (add binary64 x y) (a + c) (b + d)
-  add-rounds =
-      subst (λ (z : Float). NearPair z (a + c) (b + d)) (sym (add-at x y (X .sign) (Y .sign) (X .size) (Y .size) (2 ^ 1074) (pow-pos 1074) (X .value) (Y .value)))
-      (sum-is (X .sign) (Y .sign) (X .size) (Y .size) a b c d (X .pair) (Y .pair))
-
-  both-small : dist (a + c) (b + d) ≤ (i + j) * bound
-  both-small = le-trans (dist-add a b c d) (omega (arith, X .small, Y .small, add-mul i j bound))
-
-  pub add-exact : Short (dist (a + c) (b + d)) → i + j ≤ 2 ^ 16 → Is (add binary64 x y) (a + c) (b + d) (i + j)
-  add-exact S h = record {
-    sign = R .neg;
-    size = dist (a + c) (b + d);
-    value = subst (λ (z : Float). HasValue z (R .neg) (dist (a + c) (b + d)) (2 ^ 1074)) (sym (R .is))
-        (recast (round binary64 (R .neg) (dist (a + c) (b + d)) (2 ^ 1074)) (2 ^ 1074) refl e (round-value (R .neg) (dist (a + c) (b + d)) (subst (λ (z : ℕ). z < 2 ^ 2098) (sym e) (in-range (dist (a + c) (b + d)) (le-trans both-small (mul-le-mul-right bound h))))));
-    pair = as-pair (a + c) (b + d) (R .neg) (R .up) (R .down);
-    small = both-small;
-  }
+  -- it is at most doubled
+  pub near-is : (l : ℕ) → dist n m ≤ l * bound → l * 2 ≤ 2 ^ 16 → Is r (near (n - m)) (near (m - n)) (l * 2)
+  near-is l h k =
+      let top : near (R .size) ≤ l * 2 * bound = omega (arith, near-best (R .size) 0 short-zero, is-size) in
+      record {
+        sign = R .neg;
+        size = near (R .size);
+        value = subst (λ (z : Float). HasValue z (R .neg) (near (R .size)) (2 ^ 1074)) (sym (R .is)) (round-value (R .neg) (R .size) (le-trans top (mul-le-mul-right bound k)));
+        pair = go (R .neg) (R .size) (R .pair);
+        small = le-trans (le-of-eq (near-dist n m .0 ∙ ap near (sym is-size))) top;
+      }
     where
-      R : NearPair (add binary64 x y) (a + c) (b + d)
-      R = add-rounds
+      go : (s : Bool) (v : ℕ) → Signed s n m v → Signed s (near (n - m)) (near (m - n)) (near v)
+      go true v e = let z = near-sides n m v (omega arith) in omega arith
+      go false v e = let z = near-sides m n v (omega arith) in omega arith
 
-      e : near (dist (a + c) (b + d)) ≡ dist (a + c) (b + d)
-      e = near-exact (dist (a + c) (b + d)) S
+  pub exact-is : Short (dist n m) → (l : ℕ) → dist n m ≤ l * bound → l * 2 ≤ 2 ^ 16 → Is r n m l
+  exact-is S l h k =
+      let N = near-is l h k in
+      record { sign = N .sign; size = N .size; value = N .value; pair = omega (arith, N .pair, near-part n m S); small = h }
 
-  pub add-near : (l : ℕ) → dist (a + c) (b + d) ≤ 2 ^ l * bound → l ≤ 16 → Is (add binary64 x y) (near (a + c - (b + d))) (near (b + d - (a + c))) (2 ^ l)
-  add-near l h k = near-is add-rounds l h k
+-- ---- x + y is n - m
+pub dist-add : (a b c d n m : ℕ) → a + c + m ≡ n + (b + d) → dist n m ≤ dist a b + dist c d
+dist-add a b c d n m e = omega arith
 
-module _ {x y : Float} {a b c d i j : ℕ} (X : Is x a b i) (Y : Is y c d j) where
-  pub sub-exact : Short (dist (a + d) (b + c)) → i + j ≤ 2 ^ 16 → Is (sub binary64 x y) (a + d) (b + c) (i + j)
+module _ {x y : Float} {a b c d i j : ℕ} (X : Is x a b i) (Y : Is y c d j) (n m : ℕ) (E : a + c + m ≡ n + (b + d)) where
+  add-rounds : NearPair (add binary64 x y) n m
+  add-rounds =
+      subst (λ (z : Float). NearPair z n m) (sym (add-at x y (X .sign) (Y .sign) (X .size) (Y .size) (2 ^ 1074) (pow-pos 1074) (X .value) (Y .value)))
+      (sum-is (X .sign) (Y .sign) (X .size) (Y .size) a b c d n m (X .pair) (Y .pair) E)
+
+  both-small : dist n m ≤ (i + j) * bound
+  both-small = le-trans (dist-add a b c d n m E) (omega (arith, X .small, Y .small, add-mul i j bound))
+
+  pub add-exact : Short (dist n m) → (i + j) * 2 ≤ 2 ^ 16 → Is (add binary64 x y) n m (i + j)
+  add-exact S h = exact-is add-rounds S (i + j) both-small h
+
+  pub add-near : (i + j) * 2 ≤ 2 ^ 16 → Is (add binary64 x y) (near (n - m)) (near (m - n)) ((i + j) * 2)
+  add-near h = near-is add-rounds (i + j) both-small h
+
+-- ---- x - y is n - m
+module _ {x y : Float} {a b c d i j : ℕ} (X : Is x a b i) (Y : Is y c d j) (n m : ℕ) (E : a + d + m ≡ n + (b + c)) where
+  pub sub-exact : Short (dist n m) → (i + j) * 2 ≤ 2 ^ 16 → Is (sub binary64 x y) n m (i + j)
   unfolding sub
-  sub-exact S h = add-exact X (neg-is Y) S h
+  sub-exact S h = add-exact X (neg-is Y) n m E S h
 
-  pub sub-near : (l : ℕ) → dist (a + d) (b + c) ≤ 2 ^ l * bound → l ≤ 16 → Is (sub binary64 x y) (near (a + d - (b + c))) (near (b + c - (a + d))) (2 ^ l)
+  pub sub-near : (i + j) * 2 ≤ 2 ^ 16 → Is (sub binary64 x y) (near (n - m)) (near (m - n)) ((i + j) * 2)
   unfolding sub
-  sub-near l h k = add-near X (neg-is Y) l h k
+  sub-near h = add-near X (neg-is Y) n m E h
+
+-- ---- x * y is n - m
+pub mul-value : (x y : Float) (s t : Bool) (a b c d : ℕ) → 0 < c → 0 < d → HasValue x s a c → HasValue y t b d → mul binary64 x y ≡ round binary64 (unlike s t) (a * b) (c * d)
+unfolding mul
+mul-value nan y s t a b c d C D p q = absurd p
+mul-value (inf _) y s t a b c d C D p q = absurd p
+mul-value (fin _ m e) nan s t a b c d C D p q = absurd q
+mul-value (fin _ m e) (inf _) s t a b c d C D p q = absurd q
+mul-value (fin _ m e) (fin _ n g) s t a b c d C D p q =
+    let l : m * up e * (n * up g) * (c * d) ≡ m * up e * c * (n * up g * d) = simp (mul-assoc, mul-comm, mul-left-comm) in
+    let r : a * b * (down e * down g) ≡ a * down e * (b * down g) = simp (mul-assoc, mul-left-comm) in
+    rw (p .0, q .0) (round-same binary64 (unlike s t) (m * up e * (n * up g)) (down e * down g) (a * b) (c * d) (mul-pos (down-pos e) (down-pos g)) (mul-pos C D) (l ∙ rw (p .1, q .1) (sym r)))
+
+pub fma-value : (x y z : Float) (s t r : Bool) (a b c d n : ℕ) → 0 < d → HasValue x s a d → HasValue y t b d → HasValue z r c d → a * b ≡ n * d → fma binary64 x y z ≡ sum binary64 (unlike s t) n r c d
+fma-value x y z s t r a b c d n D X Y Z e =
+    fma-at binary64 x y z s t r a b c d 1 D (zero-lt-suc 0) X Y Z
+    ∙ sum-value binary64 (a * b * 1) (c * (1 * d)) (1 * (d * d)) n c d (mul-pos (zero-lt-suc 0) (mul-pos D D)) D (omega (arith, ap (λ (w : ℕ). w * d) e)) (omega arith) (unlike s t) r
+
+-- the sign and the size of a product of differences
+multiply : (a b c d p q r u : ℕ) → a + p ≡ b + q → c + r ≡ d + u → a * c + b * d + (p * u + q * r) ≡ a * d + b * c + (p * r + q * u)
+multiply a b c d p q r u e f = omega (arith, ap (λ (z : ℕ). z * c) e, ap (λ (z : ℕ). z * d) e, ap (λ (z : ℕ). p * z) f, ap (λ (z : ℕ). q * z) f)
+
+signed-mul : (s t : Bool) (a b c d v w : ℕ) → Signed s a b v → Signed t c d w → Signed (unlike s t) (a * c + b * d) (a * d + b * c) (v * w)
+signed-mul true true a b c d v w e f = omega (arith, multiply a b c d v 0 w 0 e f)
+signed-mul true false a b c d v w e f = omega (arith, multiply a b c d v 0 0 w e f)
+signed-mul false true a b c d v w e f = omega (arith, multiply a b c d 0 v w 0 e f)
+signed-mul false false a b c d v w e f = omega (arith, multiply a b c d 0 v 0 w e f)
+
+signed-of : (a b : ℕ) → (s : Bool) × Signed s a b (dist a b)
+signed-of a b = elim (decLe b a) [ yes h ↦ (false, omega arith) | no h ↦ (true, omega arith) ]
+
+pub dist-product : (a b c d : ℕ) → dist a b * dist c d ≡ dist (a * c + b * d) (a * d + b * c)
+dist-product a b c d =
+    let s = signed-of a b in
+    let t = signed-of c d in
+    signed-size (unlike (s .0) (t .0)) _ _ _ (signed-mul (s .0) (t .0) a b c d (dist a b) (dist c d) (s .1) (t .1))
+
+module _ {x y : Float} {a b c d i j : ℕ} (X : Is x a b i) (Y : Is y c d j) (n m : ℕ) (E : a * c + b * d ≡ n * 2 ^ 1074) (F : a * d + b * c ≡ m * 2 ^ 1074) where
+  product : (X .size * Y .size ≡ dist n m * 2 ^ 1074) × Signed (unlike (X .sign) (Y .sign)) n m (dist n m)
+  product = go (2 ^ 1074) (pow-pos 1074) (unlike (X .sign) (Y .sign)) (X .size * Y .size) (rw (E, F) at (signed-mul (X .sign) (Y .sign) a b c d (X .size) (Y .size) (X .pair) (Y .pair)))
+    where
+      go : (u : ℕ) → 0 < u → (s : Bool) (v : ℕ) → Signed s (n * u) (m * u) v → (v ≡ dist n m * u) × Signed s n m (dist n m)
+      go u P true v h = let l : n ≤ m = le-of-mul-le-mul-right {k = u} (omega arith) P in (omega (arith, dist-mul n m u), omega arith)
+      go u P false v h = let l : m ≤ n = le-of-mul-le-mul-right {k = u} (omega arith) P in (omega (arith, dist-mul n m u), omega arith)
+
+  pub mul-rounds : NearPair (mul binary64 x y) n m
+  mul-rounds =
+      let U = 2 ^ 1074 in
+      let P = pow-pos 1074 in
+      record {
+        neg = unlike (X .sign) (Y .sign);
+        size = dist n m;
+        is = mul-value x y (X .sign) (Y .sign) (X .size) (Y .size) U U P P (X .value) (Y .value) ∙ round-same binary64 (unlike (X .sign) (Y .sign)) (X .size * Y .size) (U * U) (dist n m) U (mul-pos P P) P (ap (λ (w : ℕ). w * U) (product .0) ∙ mul-assoc (dist n m) U U);
+        pair = product .1;
+      }
+
+  -- and with an addend
+  pub fma-rounds : {w : Float} {k l h : ℕ} → Is w k l h → NearPair (fma binary64 x y w) (n + k) (m + l)
+  fma-rounds {w} {k} {l} W =
+      subst (λ (f : Float). NearPair f (n + k) (m + l)) (sym (fma-value x y w (X .sign) (Y .sign) (W .sign) (X .size) (Y .size) (W .size) (2 ^ 1074) (dist n m) (pow-pos 1074) (X .value) (Y .value) (W .value) (product .0)))
+      (sum-is (unlike (X .sign) (Y .sign)) (W .sign) (dist n m) (W .size) n m k l (n + k) (m + l) (product .1) (W .pair) refl)
 
 -- ---- a float has one value, and a value that is not 0 one float
-pub one-value : {x : Float} {a b c d i j : ℕ} → Is x a b i → Is x c d j → a + d ≡ c + b
-one-value {x} {a} {b} {c} {d} X Y = go (X .sign) (Y .sign) (X .size) (Y .size) (sym (sign-of x (X .sign) _ _ (X .value)) ∙ sign-of x (Y .sign) _ _ (Y .value)) (sym (place-of binary64 x (X .sign) (X .size) (X .value)) ∙ place-of binary64 x (Y .sign) (Y .size) (Y .value)) (X .pair) (Y .pair)
-  where
-    go : (s t : Bool) (v u : ℕ) → s ≡ t → v ≡ u → a + cond s v 0 ≡ b + cond s 0 v → c + cond t u 0 ≡ d + cond t 0 u → a + d ≡ c + b
-    go true true v u e f p q = omega arith
-    go true false v u e f p q = absurd (true≢false e)
-    go false true v u e f p q = absurd (true≢false (sym e))
-    go false false v u e f p q = omega arith
+pub signed-by : {x : Float} {a b i : ℕ} (s : Bool) (v : ℕ) → HasValue x s v (2 ^ 1074) → Is x a b i → Signed s a b v
+signed-by {x} s v p X = rw (sym (sign-of x (X .sign) _ _ (X .value)) ∙ sign-of x s _ _ p, sym (place-of binary64 x (X .sign) (X .size) (X .value)) ∙ place-of binary64 x s v p) at (X .pair)
 
-pub one-float : {x y : Float} {a b i j : ℕ} → T (fits binary64 x) → T (fits binary64 y) → Is x a b i → Is y a b j → (a ≡ b → ⊥) → x ≡ y
-one-float {x} {y} {a} {b} F G X Y some = value-unique x y (X .sign) (X .size) F G (X .value) (recast y (2 ^ 1074) (sym (level .0)) (sym (level .1)) (Y .value))
+pub one-value : {x : Float} {a b c d i j : ℕ} → Is x a b i → Is x c d j → a + d ≡ c + b
+one-value X Y = omega (arith, X .pair, signed-by (X .sign) (X .size) (X .value) Y)
+
+pub one-float : {x y : Float} {a b c d i j : ℕ} → T (fits binary64 x) → T (fits binary64 y) → Is x a b i → Is y c d j → a + d ≡ c + b → (a ≡ b → ⊥) → x ≡ y
+one-float {x} {y} {a} {b} {c} {d} F G X Y e some =
+    let l = go (X .sign) (Y .sign) (X .size) (Y .size) (X .pair) (Y .pair) in
+    value-unique x y (X .sign) (X .size) F G (X .value) (recast y (2 ^ 1074) (sym (l .0)) (sym (l .1)) (Y .value))
   where
-    go : (s t : Bool) (v u : ℕ) → a + cond s v 0 ≡ b + cond s 0 v → a + cond t u 0 ≡ b + cond t 0 u → (s ≡ t) × (v ≡ u)
+    go : (s t : Bool) (v u : ℕ) → Signed s a b v → Signed t c d u → (s ≡ t) × (v ≡ u)
     go true true v u p q = (refl, omega arith)
     go true false v u p q = absurd (some (omega arith))
     go false true v u p q = absurd (some (omega arith))
     go false false v u p q = (refl, omega arith)
-
-    level : (X .sign ≡ Y .sign) × (X .size ≡ Y .size)
-    level = go (X .sign) (Y .sign) (X .size) (Y .size) (X .pair) (Y .pair)

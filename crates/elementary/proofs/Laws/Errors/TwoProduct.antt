@@ -1,411 +1,170 @@
 -- A product's rounding error as a float: four exact products and their exact sums. Assumes nothing.
 use mathlib.Core.Path.{_≡_, refl, sym, ap, _∙_, subst}
-use mathlib.Core.Logic.{_⊎_, inl, inr}
-use mathlib.Core.Bool.{Bool, true, false, not, cond, true≢false}
-use Prim.Native.Nat.{ℕ, _+_, _-_, _*_, _/_, _^_, _≤_, _<_}
-use native.Mathlib.Nat.{le-trans, le-of-eq, le-of-lt, lt-of-lt-of-le, lt-of-not-le, le-of-mul-le-mul-right, mul-le-mul, mul-le-mul-right, mul-assoc, mul-comm, mul-left-comm, mul-right-comm, mul-pos, add-mul, zero-mul, mul-zero, add-assoc, one-mul, mul-one, mul-add, mul-mul-mul-comm, not-le-of-lt}
+use Prim.Native.Nat.{ℕ, _+_, _-_, _*_, _^_, _≤_, _<_}
+use native.Mathlib.Nat.{le-trans, le-of-eq, le-of-lt, lt-of-lt-of-le, lt-of-le-of-lt, not-le-of-lt, le-of-mul-le-mul-right, mul-le-mul, mul-le-mul-right, mul-assoc, add-mul}
+use native.Mathlib.Decide.{decLe}
 use native.Mathlib.Omega.{arith}
-use lib.Pow.{pow-add, pow-pos, pow-mono}
-use lib.Ieee.{Float, nan, inf, fin, binary64, unlike, up, down, round, mul, add, sub}
-use lib.Ieee.Fits.{down-pos}
-use lib.Ieee.Exact.{HasValue}
-use lib.Ieee.Scale.{round-same}
-use Rattle.elementary.proofs.Laws.Values.{recast}
-use Rattle.elementary.proofs.Laws.Leaf.{zero-of-mul}
-use Rattle.elementary.proofs.Laws.Adding.{sub-mul}
-use Rattle.elementary.proofs.Laws.Errors.Digits.{ex, ex-lt, dist, Mult, mult-down, Short, short-top, near, near-mult, near-exact, near-best}
-use Rattle.elementary.proofs.Laws.Errors.Pairs.{bound, near-in, near-zero, Is, add-exact, sub-exact, relabel, round-value, value-range}
-use Rattle.elementary.proofs.Laws.Errors.TwoSum.{dist-comm, same-dist}
+use lib.Pow.{pow-add, pow-pos, pow-mono, shl-lt}
+use lib.Ieee.{Float, binary64, mul, add, sub}
+use lib.Ieee.Digits.{size-le}
+use Rattle.elementary.specs.MulAdd.{fma}
+use Rattle.elementary.proofs.Laws.Decode.{split-power}
+use Rattle.elementary.proofs.Laws.Errors.Digits.{ex, ex-lt, dist, dist-mul, Mult, mult-down, Short, turned, short-times, near, near-mult, near-half, near-sides, near-dist}
+use Rattle.elementary.proofs.Laws.Errors.Pairs.{bound, in-bound, Is, NearPair, near-is, exact-is, add-exact, sub-exact, mul-rounds, fma-rounds, dist-product}
 use Rattle.elementary.proofs.mul_add.Carry.{mul-lt}
 
--- ---- products by the values of the factors
-pub mul-value : (x y : Float) (s t : Bool) (a b c d : ℕ) → 0 < c → 0 < d → HasValue x s a c → HasValue y t b d → mul binary64 x y ≡ round binary64 (unlike s t) (a * b) (c * d)
-unfolding mul
-mul-value nan y s t a b c d C D p q = absurd p
-mul-value (inf _) y s t a b c d C D p q = absurd p
-mul-value (fin _ m e) nan s t a b c d C D p q = absurd q
-mul-value (fin _ m e) (inf _) s t a b c d C D p q = absurd q
-mul-value (fin _ m e) (fin _ n g) s t a b c d C D p q =
-    let l : m * up e * (n * up g) * (c * d) ≡ m * up e * c * (n * up g * d) = simp (mul-assoc, mul-comm, mul-left-comm) in
-    let r : a * b * (down e * down g) ≡ a * down e * (b * down g) = simp (mul-assoc, mul-comm, mul-left-comm) in
-    rw (p .0, q .0) (round-same binary64 (unlike s t) (m * up e * (n * up g)) (down e * down g) (a * b) (c * d) (mul-pos (down-pos e) (down-pos g)) (mul-pos C D) (l ∙ rw (p .1, q .1) (sym r)))
+-- ---- differences by the unit 2 ^ (k + g)
+unit-dist : (u v k g : ℕ) → dist (u * 2 ^ k * 2 ^ g) (v * 2 ^ k * 2 ^ g) ≡ dist u v * 2 ^ (k + g)
+unit-dist u v k g = sym (dist-mul u v (2 ^ (k + g)) ∙ rw (split-power u (k + g) k g refl, split-power v (k + g) k g refl))
 
-pub mul-units : (x y : Float) (s t : Bool) (a b i j g : ℕ) → i + j ≡ g + 1074 → HasValue x s (a * 2 ^ i) (2 ^ 1074) → HasValue y t (b * 2 ^ j) (2 ^ 1074) → mul binary64 x y ≡ round binary64 (unlike s t) (a * b * 2 ^ g) (2 ^ 1074)
-mul-units x y s t a b i j g e p q =
-    mul-value x y s t (a * 2 ^ i) (b * 2 ^ j) (2 ^ 1074) (2 ^ 1074) (pow-pos 1074) (pow-pos 1074) p q
-    ∙ round-same binary64 (unlike s t) (a * 2 ^ i * (b * 2 ^ j)) (2 ^ 1074 * 2 ^ 1074) (a * b * 2 ^ g) (2 ^ 1074) (mul-pos (pow-pos 1074) (pow-pos 1074)) (pow-pos 1074)
-    (rearrange a b (2 ^ i) (2 ^ j) (2 ^ 1074) ∙ ap (λ (z : ℕ). a * b * (z * 2 ^ 1074)) (sym (pow-add 2 i j) ∙ ap (λ (z : ℕ). 2 ^ z) e ∙ pow-add 2 g 1074) ∙ rearrange' (a * b) (2 ^ g) (2 ^ 1074))
-  where
-    rearrange : (a b x y u : ℕ) → a * x * (b * y) * u ≡ a * b * (x * y * u)
-    rearrange a b x y u = simp (mul-assoc, mul-comm, mul-left-comm)
+short-unit : (u v k g : ℕ) → dist u v ≤ 2 ^ 53 → Short (dist (u * 2 ^ k * 2 ^ g) (v * 2 ^ k * 2 ^ g))
+short-unit u v k g h = rw (← split-power u (k + g) k g refl, ← split-power v (k + g) k g refl) (short-times u v (k + g) h)
 
-    rearrange' : (p x u : ℕ) → p * (x * u * u) ≡ p * x * (u * u)
-    rearrange' p x u = simp (mul-assoc, mul-comm, mul-left-comm)
+-- ---- products by the units of the factors
+module _ {x y : Float} {k l : ℕ} (a b c d i j g : ℕ) (E : i + j ≡ g + 1074) (X : Is x (a * 2 ^ i) (b * 2 ^ i) k) (Y : Is y (c * 2 ^ j) (d * 2 ^ j) l) where
+  scale : (a c b d : ℕ) → a * 2 ^ i * (c * 2 ^ j) + b * 2 ^ i * (d * 2 ^ j) ≡ (a * c + b * d) * 2 ^ g * 2 ^ 1074
+  scale a c b d =
+      omega arith
+      ∙ ap (λ (z : ℕ). (a * c + b * d) * z) (sym (pow-add 2 i j) ∙ ap (λ (z : ℕ). 2 ^ z) E ∙ pow-add 2 g 1074)
+      ∙ sym (mul-assoc (a * c + b * d) (2 ^ g) (2 ^ 1074))
 
--- ---- differences with a sign: x is a - b, or b - a where n holds
-pub record Rel (n : Bool) (x : Float) (a b k : ℕ) : Type 0 where
-  pub is : Is x (cond n b a) (cond n a b) k
+  product-rounds : NearPair (mul binary64 x y) ((a * c + b * d) * 2 ^ g) ((a * d + b * c) * 2 ^ g)
+  product-rounds = mul-rounds X Y ((a * c + b * d) * 2 ^ g) ((a * d + b * c) * 2 ^ g) (scale a c b d) (scale a d b c)
 
-pub rel-add : (n : Bool) {x y : Float} {a b c d i j : ℕ} → Rel n x a b i → Rel n y c d j → Short (dist (a + c) (b + d)) → i + j ≤ 2 ^ 16 → Rel n (add binary64 x y) (a + c) (b + d) (i + j)
-rel-add false X Y S h = record { is = add-exact (X .is) (Y .is) S h }
-rel-add true {a = a} {b = b} {c = c} {d = d} X Y S h = record { is = add-exact (X .is) (Y .is) (subst Short (dist-comm (a + c) (b + d)) S) h }
+  fused-rounds : {w : Float} {m n h : ℕ} → Is w m n h → NearPair (fma binary64 x y w) ((a * c + b * d) * 2 ^ g + m) ((a * d + b * c) * 2 ^ g + n)
+  fused-rounds W = fma-rounds X Y ((a * c + b * d) * 2 ^ g) ((a * d + b * c) * 2 ^ g) (scale a c b d) (scale a d b c) W
 
-pub rel-sub : (n : Bool) {x y : Float} {a b c d i j : ℕ} → Rel n x a b i → Rel n y c d j → Short (dist (a + d) (b + c)) → i + j ≤ 2 ^ 16 → Rel n (sub binary64 x y) (a + d) (b + c) (i + j)
-rel-sub false X Y S h = record { is = sub-exact (X .is) (Y .is) S h }
-rel-sub true {a = a} {b = b} {c = c} {d = d} X Y S h = record { is = sub-exact (X .is) (Y .is) (subst Short (dist-comm (a + d) (b + c)) S) h }
+  product-exact : (u v e : ℕ) → a * c + b * d ≡ u * 2 ^ e → a * d + b * c ≡ v * 2 ^ e → dist u v ≤ 2 ^ 53 → e + g ≤ 2000 → Is (mul binary64 x y) (u * 2 ^ e * 2 ^ g) (v * 2 ^ e * 2 ^ g) 1
+  product-exact u v e p q h r =
+      exact-is (rw (p, q) at product-rounds) (short-unit u v e g h) 1
+      (le-trans (le-of-eq (unit-dist u v e g)) (in-bound (dist u v) 53 (e + g) h (omega arith))) (omega arith)
 
-pub rel-as : (n : Bool) {x : Float} {a b k : ℕ} (c d : ℕ) → a + d ≡ c + b → Rel n x a b k → Rel n x c d k
-rel-as false c d e X = record { is = relabel c d e (X .is) }
-rel-as true {a = a} {b = b} c d e X = record { is = relabel d c (rearrange e) (X .is) }
-  where
-    rearrange : a + d ≡ c + b → b + c ≡ d + a
-    rearrange e = omega arith
-
--- a value of known size, whose sign is n or which is zero
-rel-of-value : (n : Bool) (x : Float) (v k : ℕ) → v ≤ k * bound → (s : Bool) → (s ≡ n) ⊎ (v ≡ 0) → HasValue x s v (2 ^ 1074) → Rel n x v 0 k
-rel-of-value n x v k h s c p = record { is = record { sign = s; size = v; value = p; pair = go n s c; small = le-trans (le-of-eq (only n)) h } }
-  where
-    go : (n s : Bool) → (s ≡ n) ⊎ (v ≡ 0) → cond n 0 v + cond s v 0 ≡ cond n v 0 + cond s 0 v
-    go true true c = omega arith
-    go true false (inl e) = absurd (true≢false (sym e))
-    go true false (inr e) = omega arith
-    go false true (inl e) = absurd (true≢false e)
-    go false true (inr e) = omega arith
-    go false false c = omega arith
-
-    only : (n : Bool) → dist (cond n 0 v) (cond n v 0) ≡ v
-    only true = omega arith
-    only false = omega arith
-
-pub plain : (n : Bool) (x : Float) (v k : ℕ) → v ≤ k * bound → HasValue x n v (2 ^ 1074) → Rel n x v 0 k
-plain n x v k h p = rel-of-value n x v k h n (inl refl) p
-
--- and back
-sign-or : (n s : Bool) (v z : ℕ) → cond n 0 v + cond s z 0 ≡ cond n v 0 + cond s 0 z → (z ≡ v) × ((s ≡ n) ⊎ (v ≡ 0))
-sign-or true true v z e = (omega arith, inl refl)
-sign-or true false v z e = (omega arith, inr (omega arith))
-sign-or false true v z e = (omega arith, inr (omega arith))
-sign-or false false v z e = (omega arith, inl refl)
-
--- ---- a product that is exact
-module _ (n t : Bool) {x y : Float} (a b i j g k l : ℕ) (E : i + j ≡ g + 1074) (X : Rel n x (a * 2 ^ i) 0 k) (Y : Rel t y (b * 2 ^ j) 0 l) where
-  own-x : (X .is .size ≡ a * 2 ^ i) × ((X .is .sign ≡ n) ⊎ (a * 2 ^ i ≡ 0))
-  own-x = sign-or n (X .is .sign) (a * 2 ^ i) (X .is .size) (X .is .pair)
-
-  own-y : (Y .is .size ≡ b * 2 ^ j) × ((Y .is .sign ≡ t) ⊎ (b * 2 ^ j ≡ 0))
-  own-y = sign-or t (Y .is .sign) (b * 2 ^ j) (Y .is .size) (Y .is .pair)
-
-  product-is : mul binary64 x y ≡ round binary64 (unlike (X .is .sign) (Y .is .sign)) (a * b * 2 ^ g) (2 ^ 1074)
-  product-is = mul-units x y (X .is .sign) (Y .is .sign) a b i j g E (recast x (2 ^ 1074) refl (own-x .0) (X .is .value)) (recast y (2 ^ 1074) refl (own-y .0) (Y .is .value))
-
-  product-sign : (unlike (X .is .sign) (Y .is .sign) ≡ unlike n t) ⊎ (a * b * 2 ^ g ≡ 0)
-  product-sign = go (own-x .1) (own-y .1)
-    where
-      go : (X .is .sign ≡ n) ⊎ (a * 2 ^ i ≡ 0) → (Y .is .sign ≡ t) ⊎ (b * 2 ^ j ≡ 0) → (unlike (X .is .sign) (Y .is .sign) ≡ unlike n t) ⊎ (a * b * 2 ^ g ≡ 0)
-      go (inl e) (inl f) = inl (rw (e, f) refl)
-      go (inr z) w = inr (ap (λ (u : ℕ). u * b * 2 ^ g) (zero-of-mul a (2 ^ i) (pow-pos i) z) ∙ ap (λ (u : ℕ). u * 2 ^ g) (zero-mul b) ∙ zero-mul (2 ^ g))
-      go (inl e) (inr z) = inr (ap (λ (u : ℕ). a * u * 2 ^ g) (zero-of-mul b (2 ^ j) (pow-pos j) z) ∙ ap (λ (u : ℕ). u * 2 ^ g) (mul-zero a) ∙ zero-mul (2 ^ g))
-
-  pub product-exact : a * b ≤ 2 ^ 53 → a * b * 2 ^ g ≤ bound → Rel (unlike n t) (mul binary64 x y) (a * b * 2 ^ g) 0 1
-  product-exact h m =
-      let r = round binary64 (unlike (X .is .sign) (Y .is .sign)) (a * b * 2 ^ g) (2 ^ 1074) in
-      let e = near-exact (a * b * 2 ^ g) (short-top (a * b * 2 ^ g) g (a * b, refl) (le-trans (mul-le-mul-right (2 ^ g) h) (le-of-eq (sym (pow-add 2 53 g))))) in
-      rel-of-value (unlike n t) (mul binary64 x y) (a * b * 2 ^ g) 1 (le-trans m (le-of-eq (sym (one-mul bound)))) (unlike (X .is .sign) (Y .is .sign)) product-sign
-      (subst (λ (z : Float). HasValue z (unlike (X .is .sign) (Y .is .sign)) (a * b * 2 ^ g) (2 ^ 1074)) (sym product-is)
-      (recast r (2 ^ 1074) refl e (round-value (unlike (X .is .sign) (Y .is .sign)) (a * b * 2 ^ g) (subst (λ (z : ℕ). z < 2 ^ 2098) (sym e) (value-range (a * b * 2 ^ g) m)))))
-
-  pub product-near : a * b * 2 ^ g ≤ bound → Rel (unlike n t) (mul binary64 x y) (near (a * b * 2 ^ g)) 0 1
-  product-near m =
-      let top : near (a * b * 2 ^ g) ≤ 2 ^ 0 * bound = near-in (a * b * 2 ^ g) 0 (le-trans m (le-of-eq (sym (one-mul bound)))) in
-      rel-of-value (unlike n t) (mul binary64 x y) (near (a * b * 2 ^ g)) 1 top (unlike (X .is .sign) (Y .is .sign)) (near-sign product-sign)
-      (subst (λ (z : Float). HasValue z (unlike (X .is .sign) (Y .is .sign)) (near (a * b * 2 ^ g)) (2 ^ 1074)) (sym product-is)
-      (round-value (unlike (X .is .sign) (Y .is .sign)) (a * b * 2 ^ g) (value-range (near (a * b * 2 ^ g)) (le-trans top (le-of-eq (one-mul bound))))))
-    where
-      near-sign : (unlike (X .is .sign) (Y .is .sign) ≡ unlike n t) ⊎ (a * b * 2 ^ g ≡ 0) → (unlike (X .is .sign) (Y .is .sign) ≡ unlike n t) ⊎ (near (a * b * 2 ^ g) ≡ 0)
-      near-sign (inl e) = inl e
-      near-sign (inr e) = inr (ap near e ∙ near-zero)
-
--- ---- sums by a unit
-rel-eq : {n : Bool} {x : Float} {v w k : ℕ} → v ≡ w → Rel n x v 0 k → Rel n x w 0 k
-rel-eq {n} {x} {k = k} e X = subst (λ (z : ℕ). Rel n x z 0 k) e X
-
-pub short-unit : (d v k g : ℕ) → v * 2 ^ k ≡ d → v ≤ 2 ^ 53 → Short (d * 2 ^ g)
-short-unit d v k g e h =
-    let f : d * 2 ^ g ≡ v * 2 ^ (k + g) = ap (λ (z : ℕ). z * 2 ^ g) (sym e) ∙ mul-assoc v (2 ^ k) (2 ^ g) ∙ ap (λ (z : ℕ). v * z) (sym (pow-add 2 k g)) in
-    short-top (d * 2 ^ g) (k + g) (v, f) (le-trans (le-of-eq f) (le-trans (mul-le-mul-right (2 ^ (k + g)) h) (le-of-eq (sym (pow-add 2 53 (k + g))))))
-
-pub dist-mul : (a b u : ℕ) → dist a b * u ≡ dist (a * u) (b * u)
-dist-mul a b u = add-mul (a - b) (b - a) u ∙ ap (λ (z : ℕ). z + (b - a) * u) (sub-mul a b u) ∙ ap (λ (z : ℕ). a * u - b * u + z) (sub-mul b a u)
-
-module _ (n : Bool) {x y : Float} (g a b c v k : ℕ) where
-  minus-step : Rel n x (a * 2 ^ g) 0 1 → Rel n y (b * 2 ^ g) 0 1 → v * 2 ^ k ≡ dist a b → v ≤ 2 ^ 53 → Rel n (sub binary64 x y) (a * 2 ^ g) (b * 2 ^ g) 2
-  minus-step X Y e h =
-      rel-as n (a * 2 ^ g) (b * 2 ^ g) (omega arith)
-      (rel-sub n X Y (subst Short (dist-mul a b (2 ^ g) ∙ same-dist (a * 2 ^ g) (b * 2 ^ g) (a * 2 ^ g + 0) (0 + b * 2 ^ g) (omega arith)) (short-unit (dist a b) v k g e h)) (omega arith))
-
-  plus-step : (d i : ℕ) → i < 100 → Rel n x (a * 2 ^ g) (b * 2 ^ g) i → Rel n y (c * 2 ^ g) (d * 2 ^ g) 1 → v * 2 ^ k ≡ dist (a + c) (b + d) → v ≤ 2 ^ 53 → Rel n (add binary64 x y) ((a + c) * 2 ^ g) ((b + d) * 2 ^ g) (i + 1)
-  plus-step d i l X Y e h =
-      let f : (a + c) * 2 ^ g ≡ a * 2 ^ g + c * 2 ^ g = add-mul a c (2 ^ g) in
-      let f' : (b + d) * 2 ^ g ≡ b * 2 ^ g + d * 2 ^ g = add-mul b d (2 ^ g) in
-      rel-as n ((a + c) * 2 ^ g) ((b + d) * 2 ^ g) (omega arith)
-      (rel-add n X Y (subst Short (dist-mul (a + c) (b + d) (2 ^ g) ∙ same-dist ((a + c) * 2 ^ g) ((b + d) * 2 ^ g) (a * 2 ^ g + c * 2 ^ g) (b * 2 ^ g + d * 2 ^ g) (omega arith)) (short-unit (dist (a + c) (b + d)) v k g e h)) (omega arith))
-
-pub in-bound : (x k g : ℕ) → x ≤ 2 ^ k → k + g ≤ 2080 → x * 2 ^ g ≤ bound
-unfolding bound
-in-bound x k g h l = le-trans (mul-le-mul-right (2 ^ g) h) (le-trans (le-of-eq (sym (pow-add 2 k g))) (pow-mono {i = k + g} {j = 2080} l))
-
--- ---- a float less one near it
-apart : (n : Bool) {x y : Float} (u v p m i : ℕ) → u + m ≡ v + p → p ≤ 2 ^ 53 → m ≤ 2 ^ 53 → (p ≡ 0) ⊎ (m ≡ 0) → Rel n x (u * 2 ^ i) 0 1 → Rel n y (v * 2 ^ i) 0 1 → Rel n (sub binary64 x y) (p * 2 ^ i) (m * 2 ^ i) 2
-apart n u v p m i e P M Z X Y =
-    let f : u * 2 ^ i + m * 2 ^ i ≡ v * 2 ^ i + p * 2 ^ i = sym (add-mul u m (2 ^ i)) ∙ ap (λ (z : ℕ). z * 2 ^ i) e ∙ add-mul v p (2 ^ i) in
-    rel-as n (p * 2 ^ i) (m * 2 ^ i) (omega arith)
-    (rel-sub n X Y (subst Short (dist-mul p m (2 ^ i) ∙ level (u * 2 ^ i) (v * 2 ^ i) (p * 2 ^ i) (m * 2 ^ i) f) (short-unit (dist p m) (dist p m) 0 i (mul-one (dist p m)) (less Z))) (omega arith))
-  where
-    level : (x y z w : ℕ) → x + w ≡ y + z → dist z w ≡ dist (x + 0) (0 + y)
-    level x y z w e = omega arith
-
-    less : (p ≡ 0) ⊎ (m ≡ 0) → dist p m ≤ 2 ^ 53
-    less (inl z) = omega arith
-    less (inr z) = omega arith
-
--- ---- an exact product whose first factor has either sign
-rel-flip : (n : Bool) {x : Float} {a b k : ℕ} → Rel (not n) x a b k → Rel n x b a k
-rel-flip true X = record { is = X .is }
-rel-flip false X = record { is = X .is }
-
-rel-unflip : (n : Bool) {x : Float} {a b k : ℕ} → Rel n x a b k → Rel (not n) x b a k
-rel-unflip true X = record { is = X .is }
-rel-unflip false X = record { is = X .is }
-
-unlike-not : (n t : Bool) → unlike (not n) t ≡ not (unlike n t)
-unlike-not true true = refl
-unlike-not true false = refl
-unlike-not false true = refl
-unlike-not false false = refl
-
-product-either : (n t : Bool) {x y : Float} (p m b i j g k l : ℕ) → i + j ≡ g + 1074 → (p ≡ 0) ⊎ (m ≡ 0) → Rel n x (p * 2 ^ i) (m * 2 ^ i) k → Rel t y (b * 2 ^ j) 0 l → p * b ≤ 2 ^ 53 → m * b ≤ 2 ^ 53 → 53 + g ≤ 2080
-    → Rel (unlike n t) (mul binary64 x y) (p * b * 2 ^ g) (m * b * 2 ^ g) 1
-product-either n t {x} {y} p m b i j g k l E (inr z) X Y P M G =
-    subst (λ (w : ℕ). Rel (unlike n t) (mul binary64 x y) (p * b * 2 ^ g) w 1) (sym (none m z b g))
-    (product-exact n t p b i j g k l E (subst (λ (w : ℕ). Rel n x (p * 2 ^ i) w k) (ap (λ (w : ℕ). w * 2 ^ i) z ∙ zero-mul (2 ^ i)) X) Y P (in-bound (p * b) 53 g P G))
-  where
-    none : (m : ℕ) → m ≡ 0 → (b g : ℕ) → m * b * 2 ^ g ≡ 0
-    none m z b g = ap (λ (w : ℕ). w * b * 2 ^ g) z ∙ ap (λ (w : ℕ). w * 2 ^ g) (zero-mul b) ∙ zero-mul (2 ^ g)
-product-either n t {x} {y} p m b i j g k l E (inl z) X Y P M G =
-    subst (λ (w : ℕ). Rel (unlike n t) (mul binary64 x y) w (m * b * 2 ^ g) 1) (sym (none p z b g))
-    (rel-flip (unlike n t) (subst (λ (w : Bool). Rel w (mul binary64 x y) (m * b * 2 ^ g) 0 1) (unlike-not n t)
-    (product-exact (not n) t m b i j g k l E (rel-unflip n (subst (λ (w : ℕ). Rel n x w (m * 2 ^ i) k) (ap (λ (w : ℕ). w * 2 ^ i) z ∙ zero-mul (2 ^ i)) X)) Y M (in-bound (m * b) 53 g M G))))
-  where
-    none : (m : ℕ) → m ≡ 0 → (b g : ℕ) → m * b * 2 ^ g ≡ 0
-    none m z b g = ap (λ (w : ℕ). w * b * 2 ^ g) z ∙ ap (λ (w : ℕ). w * 2 ^ g) (zero-mul b) ∙ zero-mul (2 ^ g)
-
--- ---- the products of the parts and the rounded product q * 2 ^ 52
-pub record Parts (hs hk ps ms pk mk q : ℕ) : Type 0 where
-  pub hk-top : hk ≤ 2 ^ 53
-  pub ps-top : ps ≤ 2 ^ 52
-  pub ms-top : ms ≤ 2 ^ 52
-  pub pk-top : pk ≤ 2 ^ 53
-  pub mk-top : mk ≤ 2 ^ 53
-  pub over : q * 2 ^ 52 + (ms * 2 ^ 27 + mk) ≤ hs * 2 ^ 54 + hk * 2 ^ 27 + ps * 2 ^ 27 + pk + 2 ^ 53
-  pub under : hs * 2 ^ 54 + hk * 2 ^ 27 + ps * 2 ^ 27 + pk ≤ q * 2 ^ 52 + (ms * 2 ^ 27 + mk) + 2 ^ 53
-
-module _ (n : Bool) {a b c d p : Float} (g hs hk ps ms pk mk q : ℕ) (P : Parts hs hk ps ms pk mk q)
-    (A : Rel n a (hs * 2 ^ 54 * 2 ^ g) 0 1) (B : Rel n b (hk * 2 ^ 27 * 2 ^ g) 0 1) (C : Rel n c (ps * 2 ^ 27 * 2 ^ g) (ms * 2 ^ 27 * 2 ^ g) 1) (D : Rel n d (pk * 2 ^ g) (mk * 2 ^ g) 1)
-    (R : Rel n p (q * 2 ^ 52 * 2 ^ g) 0 1) where
-  pub error-of-parts : Rel n (add binary64 (add binary64 (add binary64 (sub binary64 a p) b) c) d) ((hs * 2 ^ 54 + hk * 2 ^ 27 + ps * 2 ^ 27 + pk) * 2 ^ g) ((q * 2 ^ 52 + ms * 2 ^ 27 + mk) * 2 ^ g) 5
-  error-of-parts =
-      let x1 = hs * 2 ^ 54 in
-      let x2 = x1 + hk * 2 ^ 27 in
-      let x3 = x2 + ps * 2 ^ 27 in
-      let y = q * 2 ^ 52 in
-      let y3 = y + ms * 2 ^ 27 in
-      let s1 = minus-step n g x1 y 0 (dist (hs * 4) q) 52 A R (one hs q) (one-top hs hk ps ms pk mk q (P .hk-top) (P .ps-top) (P .ms-top) (P .pk-top) (P .mk-top) (P .over) (P .under)) in
-      let s2 = rel-right (ap (λ (z : ℕ). z * 2 ^ g) (none y)) (plus-step n g x1 y (hk * 2 ^ 27) (dist (hs * 2 ^ 27 + hk) (q * 2 ^ 25)) 27 0 2 (omega arith) s1 (rel-right (zero-mul (2 ^ g)) B) (two hs hk q) (two-top hs hk ps ms pk mk q (P .ps-top) (P .ms-top) (P .pk-top) (P .mk-top) (P .over) (P .under))) in
-      let s3 = plus-step n g x2 y (ps * 2 ^ 27) (dist (hs * 2 ^ 27 + hk + ps) (q * 2 ^ 25 + ms)) 27 (ms * 2 ^ 27) 3 (omega arith) s2 C (three hs hk ps ms q) (three-top hs hk ps ms pk mk q (P .pk-top) (P .mk-top) (P .over) (P .under)) in
-      plus-step n g x3 y3 pk (dist (x3 + pk) (y3 + mk)) 0 mk 4 (omega arith) s3 D (mul-one (dist (x3 + pk) (y3 + mk))) (four x3 pk y (ms * 2 ^ 27) mk (P .over) (P .under))
-    where
-      rel-right : {x : Float} {a b c k : ℕ} → c ≡ b → Rel n x a b k → Rel n x a c k
-      rel-right {x} {a} {k = k} e X = subst (λ (z : ℕ). Rel n x a z k) (sym e) X
-
-      none : (y : ℕ) → y ≡ y + 0
-      none y = omega arith
-
-      one : (hs q : ℕ) → dist (hs * 4) q * 2 ^ 52 ≡ dist (hs * 2 ^ 54) (q * 2 ^ 52)
-      one hs q = dist-mul (hs * 4) q (2 ^ 52) ∙ ap (λ (z : ℕ). dist z (q * 2 ^ 52)) (omega arith)
-
-      two : (hs hk q : ℕ) → dist (hs * 2 ^ 27 + hk) (q * 2 ^ 25) * 2 ^ 27 ≡ dist (hs * 2 ^ 54 + hk * 2 ^ 27) (q * 2 ^ 52 + 0)
-      two hs hk q = dist-mul (hs * 2 ^ 27 + hk) (q * 2 ^ 25) (2 ^ 27) ∙ ap (λ (z : ℕ). dist z (q * 2 ^ 25 * 2 ^ 27)) (omega arith) ∙ ap (λ (z : ℕ). dist (hs * 2 ^ 54 + hk * 2 ^ 27) z) (omega arith)
-
-      three : (hs hk ps ms q : ℕ) → dist (hs * 2 ^ 27 + hk + ps) (q * 2 ^ 25 + ms) * 2 ^ 27 ≡ dist (hs * 2 ^ 54 + hk * 2 ^ 27 + ps * 2 ^ 27) (q * 2 ^ 52 + ms * 2 ^ 27)
-      three hs hk ps ms q = dist-mul (hs * 2 ^ 27 + hk + ps) (q * 2 ^ 25 + ms) (2 ^ 27) ∙ ap (λ (z : ℕ). dist z ((q * 2 ^ 25 + ms) * 2 ^ 27)) (omega arith) ∙ ap (λ (z : ℕ). dist (hs * 2 ^ 54 + hk * 2 ^ 27 + ps * 2 ^ 27) z) (omega arith)
-
-      one-top : (hs hk ps ms pk mk q : ℕ) → hk ≤ 2 ^ 53 → ps ≤ 2 ^ 52 → ms ≤ 2 ^ 52 → pk ≤ 2 ^ 53 → mk ≤ 2 ^ 53 → q * 2 ^ 52 + (ms * 2 ^ 27 + mk) ≤ hs * 2 ^ 54 + hk * 2 ^ 27 + ps * 2 ^ 27 + pk + 2 ^ 53 → hs * 2 ^ 54 + hk * 2 ^ 27 + ps * 2 ^ 27 + pk ≤ q * 2 ^ 52 + (ms * 2 ^ 27 + mk) + 2 ^ 53 → dist (hs * 4) q ≤ 2 ^ 53
-      one-top hs hk ps ms pk mk q h i j k l d e = omega arith
-
-      two-top : (hs hk ps ms pk mk q : ℕ) → ps ≤ 2 ^ 52 → ms ≤ 2 ^ 52 → pk ≤ 2 ^ 53 → mk ≤ 2 ^ 53 → q * 2 ^ 52 + (ms * 2 ^ 27 + mk) ≤ hs * 2 ^ 54 + hk * 2 ^ 27 + ps * 2 ^ 27 + pk + 2 ^ 53 → hs * 2 ^ 54 + hk * 2 ^ 27 + ps * 2 ^ 27 + pk ≤ q * 2 ^ 52 + (ms * 2 ^ 27 + mk) + 2 ^ 53 → dist (hs * 2 ^ 27 + hk) (q * 2 ^ 25) ≤ 2 ^ 53
-      two-top hs hk ps ms pk mk q i j k l d e = omega arith
-
-      three-top : (hs hk ps ms pk mk q : ℕ) → pk ≤ 2 ^ 53 → mk ≤ 2 ^ 53 → q * 2 ^ 52 + (ms * 2 ^ 27 + mk) ≤ hs * 2 ^ 54 + hk * 2 ^ 27 + ps * 2 ^ 27 + pk + 2 ^ 53 → hs * 2 ^ 54 + hk * 2 ^ 27 + ps * 2 ^ 27 + pk ≤ q * 2 ^ 52 + (ms * 2 ^ 27 + mk) + 2 ^ 53 → dist (hs * 2 ^ 27 + hk + ps) (q * 2 ^ 25 + ms) ≤ 2 ^ 53
-      three-top hs hk ps ms pk mk q k l d e = omega arith
-
-      four : (x r y m s : ℕ) → y + (m + s) ≤ x + r + 2 ^ 53 → x + r ≤ y + (m + s) + 2 ^ 53 → dist (x + r) (y + m + s) ≤ 2 ^ 53
-      four x r y m s a b = omega arith
-
-ex-ge : (n j : ℕ) → 2 ^ (53 + j) ≤ n → j < ex n
-ex-ge n j h = lt-of-not-le (λ (l : ex n ≤ j). not-le-of-lt (lt-of-lt-of-le (ex-lt n) (pow-mono {i = 53 + ex n} {j = 53 + j} (omega arith))) h)
+product-top : (i j a b c d : ℕ) → dist a b ≤ 2 ^ i → dist c d ≤ 2 ^ j → dist (a * c + b * d) (a * d + b * c) ≤ 2 ^ (i + j)
+product-top i j a b c d h k = le-trans (le-of-eq (sym (dist-product a b c d))) (le-trans (mul-le-mul h k) (le-of-eq (sym (pow-add 2 i j))))
 
 -- ---- a rounded product of 105 or 106 digits
-module _ (x g : ℕ) (lo : 2 ^ 104 ≤ x) (hi : x < 2 ^ 106) where
-  product-mult : Mult (near (x * 2 ^ g)) (52 + g)
-  product-mult = mult-down (near (x * 2 ^ g)) (52 + g) (ex (x * 2 ^ g)) (omega (arith, ex-ge (x * 2 ^ g) (51 + g) (le-trans (le-of-eq (ap (λ (z : ℕ). 2 ^ z) (omega arith) ∙ pow-add 2 104 g)) (mul-le-mul-right (2 ^ g) lo)))) (near-mult (x * 2 ^ g))
+module _ (z z' g : ℕ) (Z : (2 ^ 104 ≤ dist z z') × (dist z z' < 2 ^ 106)) where
+  abbrev n : ℕ
+  n = z * 2 ^ g
 
-  abbrev q : ℕ
-  q = product-mult .0
+  abbrev m : ℕ
+  m = z' * 2 ^ g
 
-  nearest-is : near (x * 2 ^ g) ≡ q * 2 ^ 52 * 2 ^ g
-  nearest-is = product-mult .1 ∙ ap (λ (z : ℕ). q * z) (pow-add 2 52 g) ∙ sym (mul-assoc q (2 ^ 52) (2 ^ g))
+  size-is : dist n m ≡ dist z z' * 2 ^ g
+  size-is = sym (dist-mul z z' (2 ^ g))
 
-  close : dist (q * 2 ^ 52) x ≤ dist (x / 2 ^ 53 * 2 ^ 53) x
+  reached : 2 ^ (104 + g) ≤ dist n m
+  reached = le-trans (le-of-eq (pow-add 2 104 g)) (le-trans (mul-le-mul-right (2 ^ g) (Z .0)) (le-of-eq (sym size-is)))
+
+  nearest : Mult (near (dist n m)) (52 + g)
+  nearest = elim (decLe (52 + g) (ex (dist n m))) [
+    | yes h ↦ mult-down (near (dist n m)) (52 + g) (ex (dist n m)) h (near-mult (dist n m))
+    | no h ↦ absurd (not-le-of-lt (lt-of-lt-of-le (ex-lt (dist n m)) (pow-mono {i = 53 + ex (dist n m)} {j = 104 + g} (omega arith))) reached)
+  ]
+
+  -- the rounded product by the unit 2 ^ (52 + g)
+  sides : (p : ℕ) × (p' : ℕ) × (near (n - m) ≡ p * 2 ^ 52 * 2 ^ g) × (near (m - n) ≡ p' * 2 ^ 52 * 2 ^ g)
+  sides =
+      let q = nearest .0 in
+      let e = nearest .1 ∙ split-power q (52 + g) 52 g refl in
+      elim (decLe n m) [
+        | yes h ↦ let s = near-sides n m (dist n m) (omega arith) in (0, q, omega (arith, s .0), s .1 ∙ e)
+        | no h ↦ let s = near-sides m n (dist n m) (omega arith) in (q, 0, s .1 ∙ e, omega (arith, s .0))
+      ]
+
+  close : dist (sides .0 * 2 ^ 52 + z') (sides .1 * 2 ^ 52 + z) ≤ 2 ^ 53
   close =
-      let f = x / 2 ^ 53 * 2 ^ 53 in
-      le-of-mul-le-mul-right {k = 2 ^ g}
-      (le-trans (le-of-eq (dist-mul (q * 2 ^ 52) x (2 ^ g) ∙ ap (λ (z : ℕ). dist z (x * 2 ^ g)) (sym nearest-is)))
-      (le-trans (near-best (x * 2 ^ g) (f * 2 ^ g) (short-unit f (x / 2 ^ 53) 53 g refl (omega arith))) (le-of-eq (sym (dist-mul f x (2 ^ g))))))
-      (pow-pos g)
+      let x = sides .0 * 2 ^ 52 in
+      let y = sides .1 * 2 ^ 52 in
+      let e : dist (near (n - m) + m) (near (m - n) + n) ≡ dist (x + z') (y + z) * 2 ^ g = rw (sides .2, sides .3, ← add-mul x z' (2 ^ g), ← add-mul y z (2 ^ g)) (sym (dist-mul (x + z') (y + z) (2 ^ g))) in
+      let h : 2 ^ ex (dist n m) ≤ 2 ^ (53 + g) = pow-mono (omega (arith, size-le (dist n m) (106 + g) (lt-of-le-of-lt (le-of-eq size-is) (shl-lt 106 g (Z .1))))) in
+      le-of-mul-le-mul-right {k = 2 ^ g} (le-trans (le-of-eq (sym e ∙ near-dist n m .1)) (le-trans (omega (arith, near-half (dist n m))) (le-of-eq (pow-add 2 53 g)))) (pow-pos g)
 
-  near-over : q * 2 ^ 52 ≤ x + 2 ^ 53
-  near-over = go (q * 2 ^ 52) close
+-- ---- a factor x, cut: h - h' by the unit 2 ^ (27 + i) and l - l' by the unit 2 ^ i
+pub record Factor (x xh : Float) (i h h' l l' t : ℕ) : Type 0 where
+  pub whole : Is x ((h * 2 ^ 27 + l) * 2 ^ i) ((h' * 2 ^ 27 + l') * 2 ^ i) 1
+  pub high : Is xh (h * 2 ^ 27 * 2 ^ i) (h' * 2 ^ 27 * 2 ^ i) 1
+  pub h-top : dist h h' ≤ 2 ^ 26
+  pub l-top : dist l l' ≤ 2 ^ t
+  pub span : (2 ^ 52 ≤ dist (h * 2 ^ 27 + l) (h' * 2 ^ 27 + l')) × (dist (h * 2 ^ 27 + l) (h' * 2 ^ 27 + l') < 2 ^ 53)
+
+low-is : {x xh : Float} (i h h' l l' t : ℕ) → t ≤ 27 → Factor x xh i h h' l l' t → Is (sub binary64 x xh) (l * 2 ^ 0 * 2 ^ i) (l' * 2 ^ 0 * 2 ^ i) 2
+low-is i h h' l l' t T X = sub-exact (X .whole) (X .high) (l * 2 ^ 0 * 2 ^ i) (l' * 2 ^ 0 * 2 ^ i) (omega arith) (short-unit l l' 0 i (le-trans (X .l-top) (pow-mono {i = t} {j = 53} (omega arith)))) (omega arith)
+
+both : (x y k : ℕ) → dist x y ≤ k → (x ≤ y + k) × (y ≤ x + k)
+both x y k h = omega arith
+
+-- a, b, c, d are the products of the parts, q the rounded product, z the product: the partial sums have at most 53 digits, and the last one is z less the rounded product
+sums : (a a' b b' c c' d d' q q' z z' : ℕ) → z ≡ a * 2 ^ 54 + b * 2 ^ 27 + c * 2 ^ 27 + d → z' ≡ a' * 2 ^ 54 + b' * 2 ^ 27 + c' * 2 ^ 27 + d'
+    → (b ≤ b' + 2 ^ 53) × (b' ≤ b + 2 ^ 53) → (c ≤ c' + 2 ^ 52) × (c' ≤ c + 2 ^ 52) → (d ≤ d' + 2 ^ 53) × (d' ≤ d + 2 ^ 53) → (q * 2 ^ 52 + z' ≤ q' * 2 ^ 52 + z + 2 ^ 53) × (q' * 2 ^ 52 + z ≤ q * 2 ^ 52 + z' + 2 ^ 53)
+    → (dist (a * 4 + q') (a' * 4 + q) ≤ 2 ^ 53) × (dist (a * 2 ^ 27 + q' * 2 ^ 25 + b) (a' * 2 ^ 27 + q * 2 ^ 25 + b') ≤ 2 ^ 53) × (dist (a * 2 ^ 27 + q' * 2 ^ 25 + b + c) (a' * 2 ^ 27 + q * 2 ^ 25 + b' + c') ≤ 2 ^ 53)
+sums a a' b b' c c' d d' q q' z z' e e' B C D Q = omega arith
+
+last : (a a' b b' c c' d d' q q' z z' p : ℕ) → z ≡ a * 2 ^ 54 + b * 2 ^ 27 + c * 2 ^ 27 + d → z' ≡ a' * 2 ^ 54 + b' * 2 ^ 27 + c' * 2 ^ 27 + d'
+    → (a * 2 ^ 27 + q' * 2 ^ 25 + b + c) * 2 ^ 27 * p + d * 2 ^ 0 * p + (z' * p + q * 2 ^ 52 * p) ≡ z * p + q' * 2 ^ 52 * p + ((a' * 2 ^ 27 + q * 2 ^ 25 + b' + c') * 2 ^ 27 * p + d' * 2 ^ 0 * p)
+last a a' b b' c c' d d' q q' z z' p e e' = omega (arith, ap (λ (w : ℕ). w * p) e, ap (λ (w : ℕ). w * p) e')
+
+module _ {x xh y yh : Float} {h h' l l' s s' k k' i j : ℕ} (g : ℕ) (E : (i + j ≡ g + 1074) × (g ≤ 1900)) (X : Factor x xh i h h' l l' 26) (Y : Factor y yh j s s' k k' 27) where
+  abbrev pub z : ℕ
+  z = (h * 2 ^ 27 + l) * (s * 2 ^ 27 + k) + (h' * 2 ^ 27 + l') * (s' * 2 ^ 27 + k')
+
+  abbrev pub z' : ℕ
+  z' = (h * 2 ^ 27 + l) * (s' * 2 ^ 27 + k') + (h' * 2 ^ 27 + l') * (s * 2 ^ 27 + k)
+
+  z-span : (2 ^ 104 ≤ dist z z') × (dist z z' < 2 ^ 106)
+  z-span = subst (λ (w : ℕ). (2 ^ 104 ≤ w) × (w < 2 ^ 106)) (dist-product (h * 2 ^ 27 + l) (h' * 2 ^ 27 + l') (s * 2 ^ 27 + k) (s' * 2 ^ 27 + k')) (mul-le-mul (X .span .0) (Y .span .0), mul-lt 53 53 _ _ (X .span .1) (Y .span .1))
+
+  pub z-bound : dist (z * 2 ^ g) (z' * 2 ^ g) ≤ 1 * bound
+  z-bound = le-trans (le-of-eq (size-is z z' g z-span)) (in-bound (dist z z') 106 g (le-of-lt (z-span .1)) (omega arith))
+
+  pub rounded : Is (mul binary64 x y) (near (z * 2 ^ g - z' * 2 ^ g)) (near (z' * 2 ^ g - z * 2 ^ g)) 2
+  rounded = near-is (product-rounds (h * 2 ^ 27 + l) (h' * 2 ^ 27 + l') (s * 2 ^ 27 + k) (s' * 2 ^ 27 + k') i j g (E .0) (X .whole) (Y .whole)) 1 z-bound (omega arith)
+
+  pub fused : {w : Float} {m n h : ℕ} → Is w m n h → NearPair (fma binary64 x y w) (z * 2 ^ g + m) (z' * 2 ^ g + n)
+  fused W = fused-rounds (h * 2 ^ 27 + l) (h' * 2 ^ 27 + l') (s * 2 ^ 27 + k) (s' * 2 ^ 27 + k') i j g (E .0) (X .whole) (Y .whole) W
+
+  pub error-is : Is (add binary64 (add binary64 (add binary64 (sub binary64 (mul binary64 xh yh) (mul binary64 x y)) (mul binary64 xh (sub binary64 y yh))) (mul binary64 (sub binary64 x xh) yh)) (mul binary64 (sub binary64 x xh) (sub binary64 y yh)))
+      (z * 2 ^ g + near (z' * 2 ^ g - z * 2 ^ g)) (z' * 2 ^ g + near (z * 2 ^ g - z' * 2 ^ g)) 6
+  error-is =
+      let a = h * s + h' * s' in
+      let a' = h * s' + h' * s in
+      let b = h * k + h' * k' in
+      let b' = h * k' + h' * k in
+      let c = l * s + l' * s' in
+      let c' = l * s' + l' * s in
+      let d = l * k + l' * k' in
+      let d' = l * k' + l' * k in
+      let e : z ≡ a * 2 ^ 54 + b * 2 ^ 27 + c * 2 ^ 27 + d = omega arith in
+      let e' : z' ≡ a' * 2 ^ 54 + b' * 2 ^ 27 + c' * 2 ^ 27 + d' = omega arith in
+      let r = sides z z' g z-span in
+      let q = r .0 in
+      let q' = r .1 in
+      let near-z = close z z' g z-span in
+      let yl = low-is j s s' k k' 27 (omega arith) Y in
+      let xl = low-is i h h' l l' 26 (omega arith) X in
+      let a-top = product-top 26 26 h h' s s' (X .h-top) (Y .h-top) in
+      let b-top = product-top 26 27 h h' k k' (X .h-top) (Y .l-top) in
+      let c-top = product-top 26 26 l l' s s' (X .l-top) (Y .h-top) in
+      let d-top = product-top 26 27 l l' k k' (X .l-top) (Y .l-top) in
+      let top = sums a a' b b' c c' d d' q q' z z' e e' (both b b' (2 ^ 53) b-top) (both c c' (2 ^ 52) c-top) (both d d' (2 ^ 53) d-top) (both (q * 2 ^ 52 + z') (q' * 2 ^ 52 + z) (2 ^ 53) near-z) in
+      let A = product-exact (h * 2 ^ 27) (h' * 2 ^ 27) (s * 2 ^ 27) (s' * 2 ^ 27) i j g (E .0) (X .high) (Y .high) a a' 54 (omega arith) (omega arith) (le-trans a-top (pow-mono {i = 52} {j = 53} (omega arith))) (omega arith) in
+      let B = product-exact (h * 2 ^ 27) (h' * 2 ^ 27) (k * 2 ^ 0) (k' * 2 ^ 0) i j g (E .0) (X .high) yl b b' 27 (omega arith) (omega arith) b-top (omega arith) in
+      let C = product-exact (l * 2 ^ 0) (l' * 2 ^ 0) (s * 2 ^ 27) (s' * 2 ^ 27) i j g (E .0) xl (Y .high) c c' 27 (omega arith) (omega arith) (le-trans c-top (pow-mono {i = 52} {j = 53} (omega arith))) (omega arith) in
+      let D = product-exact (l * 2 ^ 0) (l' * 2 ^ 0) (k * 2 ^ 0) (k' * 2 ^ 0) i j g (E .0) xl yl d d' 0 (omega arith) (omega arith) d-top (omega arith) in
+      let P : Is (mul binary64 x y) (q * 2 ^ 52 * 2 ^ g) (q' * 2 ^ 52 * 2 ^ g) 2 = rw (r .2, r .3) at rounded in
+      let u = a * 4 + q' in
+      let u' = a' * 4 + q in
+      let v = a * 2 ^ 27 + q' * 2 ^ 25 + b in
+      let v' = a' * 2 ^ 27 + q * 2 ^ 25 + b' in
+      let S1 = sub-exact A P (u * 2 ^ 52 * 2 ^ g) (u' * 2 ^ 52 * 2 ^ g) (omega arith) (short-unit u u' 52 g (top .0)) (omega arith) in
+      let S2 = add-exact S1 B (v * 2 ^ 27 * 2 ^ g) (v' * 2 ^ 27 * 2 ^ g) (omega arith) (short-unit v v' 27 g (top .1)) (omega arith) in
+      let S3 = add-exact S2 C ((v + c) * 2 ^ 27 * 2 ^ g) ((v' + c') * 2 ^ 27 * 2 ^ g) (omega arith) (short-unit (v + c) (v' + c') 27 g (top .2)) (omega arith) in
+      let w = q * 2 ^ 52 + z' in
+      let w' = q' * 2 ^ 52 + z in
+      let N = z * 2 ^ g + q' * 2 ^ 52 * 2 ^ g in
+      let M = z' * 2 ^ g + q * 2 ^ 52 * 2 ^ g in
+      rw (r .2, r .3)
+      (add-exact S3 D N M (last a a' b b' c c' d d' q q' z z' (2 ^ g) e e') (turned (w * 2 ^ 0 * 2 ^ g) (w' * 2 ^ 0 * 2 ^ g) N M (swap (q * 2 ^ 52) (q' * 2 ^ 52) z z' (2 ^ g)) (short-unit w w' 0 g near-z)) (omega arith))
     where
-      go : (y : ℕ) → dist y x ≤ dist (x / 2 ^ 53 * 2 ^ 53) x → y ≤ x + 2 ^ 53
-      go y h = omega arith
-
-  near-under : x ≤ q * 2 ^ 52 + 2 ^ 53
-  near-under = go (q * 2 ^ 52) close
-    where
-      go : (y : ℕ) → dist y x ≤ dist (x / 2 ^ 53 * 2 ^ 53) x → x ≤ y + 2 ^ 53
-      go y h = omega arith
-
--- ---- the two factors, cut: x is h * 2 ^ 27 + p - m, y is s * 2 ^ 27 + k
-pub record Cuts (x h p m s k : ℕ) : Type 0 where
-  pub x-low : 2 ^ 52 ≤ x
-  pub x-top : x < 2 ^ 53
-  pub x-is : x + m ≡ h * 2 ^ 27 + p
-  pub one : (p ≡ 0) ⊎ (m ≡ 0)
-  pub h-top : h ≤ 2 ^ 26
-  pub p-top : p ≤ 2 ^ 26
-  pub m-top : m ≤ 2 ^ 26
-  pub s-low : 2 ^ 25 ≤ s
-  pub s-top : s < 2 ^ 26
-  pub k-top : k < 2 ^ 27
-
-expand : (h l s k : ℕ) → (h * 2 ^ 27 + l) * (s * 2 ^ 27 + k) ≡ h * s * 2 ^ 54 + h * k * 2 ^ 27 + l * s * 2 ^ 27 + l * k
-expand h l s k =
-    add-mul (h * 2 ^ 27) l (s * 2 ^ 27 + k)
-    ∙ ap (λ (z : ℕ). z + l * (s * 2 ^ 27 + k)) (mul-add (h * 2 ^ 27) (s * 2 ^ 27) k)
-    ∙ ap (λ (z : ℕ). h * 2 ^ 27 * (s * 2 ^ 27) + h * 2 ^ 27 * k + z) (mul-add l (s * 2 ^ 27) k)
-    ∙ ap (λ (z : ℕ). z + h * 2 ^ 27 * k + (l * (s * 2 ^ 27) + l * k)) (mul-mul-mul-comm h (2 ^ 27) s (2 ^ 27))
-    ∙ ap (λ (z : ℕ). h * s * 2 ^ 54 + z + (l * (s * 2 ^ 27) + l * k)) (mul-right-comm h (2 ^ 27) k)
-    ∙ ap (λ (z : ℕ). h * s * 2 ^ 54 + h * k * 2 ^ 27 + (z + l * k)) (sym (mul-assoc l s (2 ^ 27)))
-    ∙ sym (add-assoc (h * s * 2 ^ 54 + h * k * 2 ^ 27) (l * s * 2 ^ 27) (l * k))
-
-le-mul : (i j a b : ℕ) → a ≤ 2 ^ i → b ≤ 2 ^ j → a * b ≤ 2 ^ (i + j)
-le-mul i j a b h k = le-trans (mul-le-mul h k) (le-of-eq (sym (pow-add 2 i j)))
-
-module _ (x h p m s k : ℕ) (C : Cuts x h p m s k) where
-  abbrev y : ℕ
-  y = s * 2 ^ 27 + k
-
-  abbrev z : ℕ
-  z = x * y
-
-  z-low : 2 ^ 104 ≤ z
-  z-low = let w : 2 ^ 52 ≤ y = omega (arith, C .s-low) in mul-le-mul (C .x-low) w
-
-  pub z-top : z < 2 ^ 106
-  z-top = mul-lt 53 53 x y (C .x-top) (omega (arith, C .s-top, C .k-top))
-
-  z-is : z + (m * s * 2 ^ 27 + m * k) ≡ h * s * 2 ^ 54 + h * k * 2 ^ 27 + p * s * 2 ^ 27 + p * k
-  z-is =
-      ap (λ (w : ℕ). z + w) (ap (λ (w : ℕ). w + m * k) (mul-assoc m s (2 ^ 27)) ∙ sym (mul-add m (s * 2 ^ 27) k))
-      ∙ sym (add-mul x m y)
-      ∙ ap (λ (w : ℕ). w * y) (C .x-is)
-      ∙ expand h p s k
-
-  k-le : k ≤ 2 ^ 27
-  k-le = le-of-lt (C .k-top)
-
-  s-le : s ≤ 2 ^ 26
-  s-le = le-of-lt (C .s-top)
-
-  parts : (g : ℕ) → Parts (h * s) (h * k) (p * s) (m * s) (p * k) (m * k) (q z g z-low z-top)
-  parts g = record {
-    hk-top = le-mul 26 27 h k (C .h-top) k-le;
-    ps-top = le-mul 26 26 p s (C .p-top) s-le;
-    ms-top = le-mul 26 26 m s (C .m-top) s-le;
-    pk-top = le-mul 26 27 p k (C .p-top) k-le;
-    mk-top = le-mul 26 27 m k (C .m-top) k-le;
-    over = omega (arith, z-is, near-over z g z-low z-top);
-    under = omega (arith, z-is, near-under z g z-low z-top);
-  }
-
-  -- ---- the floats
-  module _ (n t : Bool) {a ah b bh : Float} (i j g : ℕ) (E : i + j ≡ g + 1074) (G : g ≤ 1900)
-      (A : Rel n a (x * 2 ^ i) 0 1) (A' : Rel n ah (h * 2 ^ 27 * 2 ^ i) 0 1) (B : Rel t b (y * 2 ^ j) 0 1) (B' : Rel t bh (s * 2 ^ 27 * 2 ^ j) 0 1) where
-    abbrev ab : Float
-    ab = mul binary64 a b
-
-    abbrev al : Float
-    al = sub binary64 a ah
-
-    abbrev bl : Float
-    bl = sub binary64 b bh
-
-    pub product-rounded : Rel (unlike n t) ab (near (z * 2 ^ g)) 0 1
-    product-rounded = product-near n t x y i j g 1 1 E A B (in-bound z 106 g (le-of-lt z-top) (omega arith))
-
-    up-by : (v c e : ℕ) → v * 2 ^ c * 2 ^ e ≡ v * 2 ^ (c + e)
-    up-by v c e = mul-assoc v (2 ^ c) (2 ^ e) ∙ ap (λ (w : ℕ). v * w) (sym (pow-add 2 c e))
-
-    al-is : Rel n al (p * 2 ^ i) (m * 2 ^ i) 2
-    al-is = apart n x (h * 2 ^ 27) p m i (C .x-is) (omega (arith, C .p-top)) (omega (arith, C .m-top)) (C .one) A A'
-
-    bl-is : Rel t bl (k * 2 ^ j) 0 2
-    bl-is = subst (λ (w : ℕ). Rel t bl (k * 2 ^ j) w 2) (zero-mul (2 ^ j)) (apart t y (s * 2 ^ 27) k 0 j (omega arith) (omega (arith, C .k-top)) (omega arith) (inr refl) B B')
-
-    ah-is : Rel n ah (h * 2 ^ (27 + i)) 0 1
-    ah-is = rel-eq (up-by h 27 i) A'
-
-    bh-is : Rel t bh (s * 2 ^ (27 + j)) 0 1
-    bh-is = rel-eq (up-by s 27 j) B'
-
-    fits-in : (v c : ℕ) → v ≤ 2 ^ 53 → c ≤ 54 → v * 2 ^ (c + g) ≤ bound
-    fits-in v c H K = in-bound v 53 (c + g) H (omega arith)
-
-    more : (v : ℕ) → v ≤ 2 ^ 52 → v ≤ 2 ^ 53
-    more v H = le-trans H (pow-mono {i = 52} {j = 53} (omega arith))
-
-    abbrev error : Float
-    error = add binary64 (add binary64 (add binary64 (sub binary64 (mul binary64 ah bh) ab) (mul binary64 ah bl)) (mul binary64 al bh)) (mul binary64 al bl)
-
-    pub error-is : Rel (unlike n t) error (z * 2 ^ g) (near (z * 2 ^ g)) 5
-    error-is =
-        let r = q z g z-low z-top in
-        let e = nearest-is z g z-low z-top in
-        let P = parts g in
-        let hs = more (h * s) (le-mul 26 26 h s (C .h-top) s-le) in
-        subst (λ (w : ℕ). Rel (unlike n t) error (z * 2 ^ g) w 5) (sym e)
-        (rel-as (unlike n t) (z * 2 ^ g) (r * 2 ^ 52 * 2 ^ g) (level z (h * s * 2 ^ 54 + h * k * 2 ^ 27 + p * s * 2 ^ 27 + p * k) (m * s * 2 ^ 27) (m * k) (r * 2 ^ 52) (2 ^ g) z-is)
-        (error-of-parts (unlike n t) g (h * s) (h * k) (p * s) (m * s) (p * k) (m * k) r P
-        (rel-eq (sym (up-by (h * s) 54 g)) (product-exact n t h s (27 + i) (27 + j) (54 + g) 1 1 (omega arith) ah-is bh-is hs (fits-in (h * s) 54 hs (omega arith))))
-        (rel-eq (sym (up-by (h * k) 27 g)) (product-exact n t h k (27 + i) j (27 + g) 1 2 (omega arith) ah-is bl-is (P .hk-top) (fits-in (h * k) 27 (P .hk-top) (omega arith))))
-        (subst (λ (w : ℕ). Rel (unlike n t) (mul binary64 al bh) w (m * s * 2 ^ 27 * 2 ^ g) 1) (sym (up-by (p * s) 27 g))
-        (subst (λ (w : ℕ). Rel (unlike n t) (mul binary64 al bh) (p * s * 2 ^ (27 + g)) w 1) (sym (up-by (m * s) 27 g))
-        (product-either n t p m s i (27 + j) (27 + g) 2 1 (omega arith) (C .one) al-is bh-is (more (p * s) (P .ps-top)) (more (m * s) (P .ms-top)) (omega arith))))
-        (product-either n t p m k i j g 2 2 E (C .one) al-is bl-is (P .pk-top) (P .mk-top) (omega arith))
-        (rel-eq e product-rounded)))
-      where
-        level : (z x a b y u : ℕ) → z + (a + b) ≡ x → x * u + y * u ≡ z * u + (y + a + b) * u
-        level z x a b y u e = sym (add-mul x y u) ∙ ap (λ (w : ℕ). w * u) (rearrange e) ∙ add-mul z (y + a + b) u
-          where
-            rearrange : z + (a + b) ≡ x → x + y ≡ z + (y + a + b)
-            rearrange e = omega arith
+      swap : (q q' z z' p : ℕ) → (q + z') * 2 ^ 0 * p + (z * p + q' * p) ≡ (q' + z) * 2 ^ 0 * p + (z' * p + q * p)
+      swap q q' z z' p = omega arith
