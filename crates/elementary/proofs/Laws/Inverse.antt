@@ -13,9 +13,9 @@ use Rattle.elementary.specs.Floor.{floorOf}
 use Rattle.elementary.specs.Exp.{expOf, expInner, expSum, scaled}
 use Rattle.elementary.specs.Cody.{erfcOf, erfcAbs, smoothenedExponentialOfNegativeSquare, tildeOf}
 use Rattle.elementary.specs.NormalDistribution.{cdfOf, midOf, bisectionEnds, lowest, highest, endsOf, inverseOf}
-use Rattle.elementary.proofs.Laws.Bounds.{side-finite, small-exact, half-at-most, add-at-most}
+use Rattle.elementary.proofs.Laws.Bounds.{side-finite, unsigned, small-exact, half-at-most, add-at-most}
 use Rattle.elementary.specs.Promises.{Brackets}
-use Rattle.elementary.specs.Inside.Bounds.{AtMost}
+use Rattle.elementary.specs.Inside.Bounds.{AtMost, sized}
 use Rattle.elementary.proofs.Laws.Compare.{lt-asym, le-of-not-lt, not-le-of-lt, not-lt-of-not-le, equal-itself}
 use Rattle.elementary.proofs.Laws.Finite.{cdf-at-most}
 
@@ -35,7 +35,7 @@ record Around (cdf : Float → Float) (p lo hi : Float) : Type 0 where
   hi-range : AtMost hi 39
 
 mid-range : {lo hi : Float} → AtMost lo 39 → AtMost hi 39 → AtMost (midOf lo hi) 39
-mid-range h k = half-at-most 39 (small-exact 39 (lit≤ tt)) (add-at-most 78 (small-exact 78 (lit≤ tt)) (lit≤ tt) h k)
+mid-range h k = half-at-most 39 (small-exact 39 (lit≤ tt)) (add-at-most 78 (small-exact 78 (lit≤ tt)) (lit≤ tt) (h .side) (k .side) .side)
 
 around : (cdf : Float → Float) (n : ℕ) (p lo hi : Float) → Around cdf p lo hi → Around cdf p (bisectionEnds cdf n p lo hi .lo) (bisectionEnds cdf n p lo hi .hi)
 unfolding bisectionEnds
@@ -63,14 +63,6 @@ at-highest set = go (set .«far_factor»)
     go true = refl
     go false = refl
 
-lowest-range : AtMost lowest 39
-unfolding neg ofBits
-lowest-range = record { sign = true; side = record { bound = (refl, lit≤ tt) } }
-
-highest-range : AtMost highest 39
-unfolding ofBits
-highest-range = record { sign = false; side = record { bound = (refl, lit≤ tt) } }
-
 -- ---- where the inverse bisects, the first ends lie on both sides of p
 positive : (p : Float) → ne p p ≡ false → le p +0 ≡ false → lt +0 p ≡ true
 unfolding ne eq le lt ofBits
@@ -95,10 +87,10 @@ unfolding inverseOf
 inverse-is-hi set p above-0 below-1 = rw (equal-itself p (between-finite p above-0 below-1), not-le-of-lt +0 p above-0, not-le-of-lt p one below-1)
 
 pub inverse-brackets : (set : RuleSet) (p : Float) → lt +0 p ≡ true → lt p one ≡ true → Brackets set p (endsOf set p .lo) (endsOf set p .hi)
-unfolding endsOf
+unfolding endsOf neg ofBits
 inverse-brackets set p above-0 below-1 =
     let start : Around (cdfOf set) p lowest highest =
-    record { under = rw (at-lowest set) above-0; over = rw (at-highest set) (lt-asym p one below-1); lo-range = lowest-range; hi-range = highest-range } in
+    record { under = rw (at-lowest set) above-0; over = rw (at-highest set) (lt-asym p one below-1); lo-range = unsigned (sized _ _ (lit≤ tt)); hi-range = unsigned (sized _ _ (lit≤ tt)) } in
     let h = around (cdfOf set) 64 p lowest highest start in
     let hi = bisectionEnds (cdfOf set) 64 p lowest highest .hi in
     record {

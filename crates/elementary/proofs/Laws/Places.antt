@@ -3,16 +3,16 @@ use mathlib.Core.Path.{_≡_, refl, sym, ap, _∙_, subst}
 use mathlib.Core.Bool.{Bool, true, false, not, cond}
 use Prim.Native.Nat.{ℕ, zero, suc, _+_, _-_, _*_, _/_, _%_, _^_, _≤_, _<_}
 use native.Mathlib.Nat.{le-trans, le-of-eq, le-of-lt, le-refl, le-suc, le-antisymm, lt-of-not-le, lt-of-lt-of-le, lt-of-le-of-lt, not-le-of-lt, mul-assoc, mul-comm, mul-left-comm, mul-right-comm}
-use native.Mathlib.Nat.{mul-one, one-mul, zero-mul, pow-suc, mul-le-mul-right, mul-lt-mul-of-pos-right, lt-of-mul-lt-mul-right, mul-div-cancel, zero-div, div-one, div-lt-iff-lt-mul, le-div-iff-mul-le}
+use native.Mathlib.Nat.{mul-one, one-mul, zero-mul, pow-suc, mul-le-mul-right, mul-lt-mul-of-pos-right, lt-of-mul-lt-mul-right, mul-div-cancel, zero-div, div-lt-iff-lt-mul, le-div-iff-mul-le}
 use native.Mathlib.Decide.{decLe}
 use native.Mathlib.Omega.{arith}
 use lib.IntN.{ℤ, pos, negsuc}
 use lib.Dec.{T}
 use lib.Pow.{pow-add, pow-pos, pow-mono, pow-lt, shl-lt}
-use lib.Ieee.{Float, nan, inf, fin, Format, binary32, binary64, prec, emax, low, up, down, size, fits, isNan, hid, top, ofBits, toBits}
+use lib.Ieee.{Float, nan, inf, fin, Format, binary32, binary64, prec, emax, low, up, down, size, fits, isNan, hid, top, round, ofBits, toBits}
 use lib.Ieee.Digits.{size-lt, size-le, size-reaches}
 use lib.Ieee.Fits.{two, two-le-pos, down-pos, kept-lt}
-use lib.Ieee.Exact.{HasValue}
+use lib.Ieee.Exact.{HasValue, round-exact}
 use lib.Ieee.Nearest.{div-same}
 use lib.Ieee.Scale.{overflow}
 use lib.Ieee.Bits.{ofBits-toBits}
@@ -120,6 +120,16 @@ lead-next p w P e n = go (decLe (2 ^ p) (suc (lead p w)))
     go (yes l) = omega (arith, power-even p (omega arith), kept-lt p w)
 
 -- ---- a value's place
+-- 2 ^ e in units of 2 ^ -l
+pub in-units : (l : ℕ) (e : ℤ) → down e ≤ 2 ^ l → (j : ℕ) × (up e * 2 ^ l ≡ 2 ^ j * down e)
+in-units l (pos k) h = (k + l, rw (mul-one, pow-add 2 k l))
+in-units l (negsuc k) h = (l - suc k, rw one-mul (pow-split (suc k) l (pow-le-back (suc k) l h)))
+
+-- a fraction that is m * 2 ^ k of the smallest values, for an m of 53 digits, is exact unless it overflows
+pub exact-under : (s : Bool) (a c m k : ℕ) → 0 < c → m < 2 ^ 53 → a < 2 ^ 1024 * c → a * 2 ^ 1074 ≡ m * 2 ^ k * c → HasValue (round binary64 s a c) s a c
+exact-under s a c m k C M l e =
+    round-exact binary64 s a c m k C M (lt-of-mul-lt-mul-right c (rw (← e) (lt-of-lt-of-le (mul-lt-mul-of-pos-right l (pow-pos 1074)) (le-of-eq (mul-right-comm (2 ^ 1024) c (2 ^ 1074)))))) e
+
 pub units-of : (f : Format) (x : Float) (s : Bool) (a c : ℕ) → 0 < c → HasValue x s a c → inUnits f x ≡ a * 2 ^ low f / c
 unfolding inUnits
 units-of f nan s a c C h = absurd h
@@ -165,18 +175,10 @@ unfolding place inUnits
 digits-of f nan t = zero-digits (prec f) 0 refl
 digits-of f (inf s) t = overflow-digits f
 digits-of f (fin s zero e) t = zero-digits (prec f) (place f (fin s zero e)) (zero-place f s e)
-digits-of f (fin s (suc m) e) t = let z = holds f s m e t in go e (z .0) (z .1)
-  where
-    go : (e : ℤ) → suc m < 2 ^ prec f → down e ≤ 2 ^ low f → InDigits (prec f) (suc m * up e * 2 ^ low f / down e)
-    go (pos i) b c = (suc m, i + low f, b, div-one (suc m * 2 ^ i * 2 ^ low f) ∙ rw pow-add (mul-assoc (suc m) (2 ^ i) (2 ^ low f)))
-    go (negsuc i) b c =
-        let l : suc i ≤ low f = pow-le-back (suc i) (low f) c in (
-          suc m,
-          low f - suc i,
-          b,
-          ap (λ (z : ℕ). suc m * 1 * z / 2 ^ suc i) (pow-split (suc i) (low f) l)
-              ∙ rw (mul-one, ← mul-assoc (suc m) (2 ^ (low f - suc i)) (2 ^ suc i)) (mul-div-cancel (suc m * 2 ^ (low f - suc i)) (pow-pos (suc i))),
-        )
+digits-of f (fin s (suc m) e) t =
+    let z = holds f s m e t in
+    let j = in-units (low f) e (z .1) in
+    (suc m, j .0, z .0, rw (mul-assoc (suc m) (up e) (2 ^ low f), j .1, ← mul-assoc (suc m) (2 ^ j .0) (down e)) (mul-div-cancel (suc m * 2 ^ j .0) (down-pos e)))
 
 -- an infinity stands above every other value
 pub finite-under : (f : Format) (s : Bool) (m : ℕ) (e : ℤ) → T (fits f (fin s m e)) → place f (fin s m e) < overflow f

@@ -16,6 +16,7 @@ use lib.Ieee.Scale.{round-same, finite}
 use Rattle.elementary.specs.Exp.{scaled}
 use Rattle.elementary.proofs.Laws.Decode.{same-power}
 use Rattle.elementary.proofs.Laws.Values.{revalue}
+use Rattle.elementary.proofs.Laws.Bounds.{like}
 
 -- 2 ^ (e - l) as a fraction
 power : (e l : ℕ) → up (minus e l) * 2 ^ l ≡ 2 ^ e * down (minus e l)
@@ -57,10 +58,6 @@ far-special f (inf s) k h = refl
 far-special f (fin s m e) k h = let z : _≡_ {A = Bool} true false = h in absurd (subst T z tt)
 
 -- ---- the product with a power of two
-like : (s : Bool) → unlike s false ≡ s
-like true = refl
-like false = refl
-
 pub mul-power : (f : Format) (x y : Float) (e l : ℕ) → HasValue y false (2 ^ e) (2 ^ l) → mul f x y ≡ scaled f x (minus e l)
 unfolding scaled mul
 mul-power f x nan e l h = absurd h
