@@ -1,9 +1,10 @@
 -- The order of finite floats is the order of the signed fractions that they equal. Assumes nothing.
-use mathlib.Core.Path.{_≡_, sym, ap, _∙_}
+use mathlib.Core.Path.{_≡_, sym, ap, _∙_, subst}
 use mathlib.Core.Bool.{Bool, true, false, not, _&&_, _||_}
 use Prim.Native.Nat.{ℕ, _+_, _*_, _≤_, _<_}
 use native.Mathlib.Nat.{mul-assoc, mul-comm, mul-left-comm, mul-pos, mul-le-mul-right, le-of-mul-le-mul-right, zero-mul, le-of-lt, le-of-eq, le-antisymm, le-mul-of-pos-right}
 use native.Mathlib.Omega.{arith}
+use borrow.Author.Tests.{ltb-true, ltb-false}
 use lib.Dec.{T, ltb, eqb, ltb→lt, eqb→eq, nltb→le}
 use lib.Ieee.{Float, nan, inf, fin, up, down, below, level, le}
 use lib.Ieee.Fits.{down-pos, eq→eqb, and-i, and-l, and-r}
@@ -15,6 +16,19 @@ Le false a false b = a ≤ b
 Le false a true b = (a ≡ 0) × (b ≡ 0)
 Le true a false b = T true
 Le true a true b = b ≤ a
+
+-- ---- `below`, turned round, is its opposite
+pub below-no : (s : Bool) (a : ℕ) (t : Bool) (b : ℕ) → below s a t b ≡ true → Le t b s a → ⊥
+below-no false a false b h l = omega (arith, ltb-true a b h)
+below-no false a true b h l = subst T (sym h) tt
+below-no true a false b h l = omega (arith, ltb-true 0 (a + b) h)
+below-no true a true b h l = omega (arith, ltb-true b a h)
+
+pub not-below : (s : Bool) (a : ℕ) (t : Bool) (b : ℕ) → below s a t b ≡ false → Le t b s a
+not-below false a false b h = ltb-false a b h
+not-below false a true b h = tt
+not-below true a false b h = omega (arith, ltb-false 0 (a + b) h)
+not-below true a true b h = ltb-false b a h
 
 -- ---- the test says it
 or-elim : {X : Type 0} (p q : Bool) → (T p → X) → (T q → X) → T (p || q) → X
@@ -28,7 +42,7 @@ or-else false q h = h tt
 same : (a b : ℕ) (r : Bool) → T (eqb a b && r) → a ≡ b
 same a b r h = eqb→eq a b (and-l (eqb a b) r h)
 
-test→le : (s : Bool) (a : ℕ) (t : Bool) (b : ℕ) → T (below s a t b || level s a t b) → Le s a t b
+pub test→le : (s : Bool) (a : ℕ) (t : Bool) (b : ℕ) → T (below s a t b || level s a t b) → Le s a t b
 test→le false a false b h = or-elim (ltb a b) (eqb a b && true) (λ l. le-of-lt (ltb→lt a b l)) (λ e. le-of-eq (same a b true e)) h
 test→le false a true b h =
     let z = eqb→eq a 0 (and-r (eqb a b) (eqb a 0) h) in
@@ -36,7 +50,7 @@ test→le false a true b h =
 test→le true a false b h = tt
 test→le true a true b h = or-elim (ltb b a) (eqb a b && true) (λ l. le-of-lt (ltb→lt b a l)) (λ e. le-of-eq (sym (same a b true e))) h
 
-le→test : (s : Bool) (a : ℕ) (t : Bool) (b : ℕ) → Le s a t b → T (below s a t b || level s a t b)
+pub le→test : (s : Bool) (a : ℕ) (t : Bool) (b : ℕ) → Le s a t b → T (below s a t b || level s a t b)
 le→test false a false b h = or-else (ltb a b) (eqb a b && true) (λ n. and-i (eqb a b) true (eq→eqb (le-antisymm h (nltb→le a b n))) tt)
 le→test false a true b h = rw (h .0, h .1) tt
 le→test true a false b h =
@@ -53,7 +67,7 @@ grow true a true b p h = mul-le-mul-right p h
 
 shrink : (s : Bool) (a : ℕ) (t : Bool) (b p : ℕ) → 0 < p → Le s (a * p) t (b * p) → Le s a t b
 shrink false a false b p l h = le-of-mul-le-mul-right h l
-shrink false a true b p l h = (omega (arith, le-mul-of-pos-right a l), omega (arith, le-mul-of-pos-right b l))
+shrink false a true b p l h = omega (arith, le-mul-of-pos-right a l, le-mul-of-pos-right b l)
 shrink true a false b p l h = tt
 shrink true a true b p l h = le-of-mul-le-mul-right h l
 
