@@ -81,7 +81,7 @@ over-sixteen (fin t m e) k v =
 pub sixteenths-value : (k : ℕ) → k ≤ 1024 → HasValue (sixteenthsOf k) false k 16
 sixteenths-value k l =
     rw (over-sixteen (float k) k (whole-value k (omega arith)))
-    (exact-under false k 16 k 1070 (omega arith) (omega arith) (lt-of-le-of-lt l (lit< tt)) (sym (mul-assoc k (2 ^ 1070) 16)))
+    (exact-under binary64 false k 16 k 1070 (omega arith) (omega arith) (lt-of-le-of-lt l (lit< tt)) (sym (mul-assoc k (2 ^ 1070) 16)))
 
 -- ---- what it says of a number's value
 pub record Values (k : ℕ) (y : Float) : Type 0 where
@@ -115,7 +115,7 @@ exact (fin false zero e) f p l = absurd p
 exact (fin false (suc m) e) f p l =
     let h = holds binary64 false m e f in
     let j = in-units 1078 e (le-trans (h .1) (lit≤ tt)) in
-    exact-under false (suc m * up e * 16) (down e * 1) (suc m) (j .0) (omega (arith, down-pos e)) (h .0)
+    exact-under binary64 false (suc m * up e * 16) (down e * 1) (suc m) (j .0) (omega (arith, down-pos e)) (h .0)
     (rw mul-one (lt-of-lt-of-le l (mul-le-mul-right (down e) (lit≤ tt))))
     (rw (mul-one (down e), mul-assoc (suc m) (2 ^ j .0) (down e), ← j .1) (mul-assoc (suc m * up e) 16 (2 ^ 1074) ∙ mul-assoc (suc m) (up e) (2 ^ 1078)))
 

@@ -32,7 +32,7 @@ pub half-exact : (m : ℕ) (e : ℤ) → T (fits binary64 (fin false m e)) → d
 half-exact m e fit large t =
     let f = format-facts m e fit in
     let j = in-units 1073 e (deep m e (f .0) large) in
-    exact-under t (m * up e) (2 * down e) m (j .0) (omega (arith, down-pos e)) (f .0) (lt-of-lt-of-le (f .1) (mul-le-mul-left (2 ^ 1024) (omega arith)))
+    exact-under binary64 t (m * up e) (2 * down e) m (j .0) (omega (arith, down-pos e)) (f .0) (lt-of-lt-of-le (f .1) (mul-le-mul-left (2 ^ 1024) (omega arith)))
     (doubled m (up e) (2 ^ 1073) (2 ^ j .0) (down e) (j .1))
   where
     doubled : (m u c p d : ℕ) → u * c ≡ p * d → m * u * (2 * c) ≡ m * p * (2 * d)

@@ -112,10 +112,11 @@ pub in-units : (l : ℕ) (e : ℤ) → down e ≤ 2 ^ l → (j : ℕ) × (up e *
 in-units l (pos k) h = (k + l, rw (mul-one, pow-add 2 k l))
 in-units l (negsuc k) h = (l - suc k, rw one-mul (pow-split (suc k) l (pow-le-back (suc k) l h)))
 
--- a fraction that is m * 2 ^ k of the smallest values, for an m of 53 digits, is exact unless it overflows
-pub exact-under : (s : Bool) (a c m k : ℕ) → 0 < c → m < 2 ^ 53 → a < 2 ^ 1024 * c → a * 2 ^ 1074 ≡ m * 2 ^ k * c → HasValue (round binary64 s a c) s a c
-exact-under s a c m k C M l e =
-    round-exact binary64 s a c m k C M (lt-of-mul-lt-mul-right c (rw (← e) (lt-of-lt-of-le (mul-lt-mul-of-pos-right l (pow-pos 1074)) (le-of-eq (mul-right-comm (2 ^ 1024) c (2 ^ 1074)))))) e
+-- a fraction that is m * 2 ^ k of the smallest values, for an m of the format's digits, is exact unless it overflows
+pub exact-under : (f : Format) (s : Bool) (a c m k : ℕ) → 0 < c → m < 2 ^ prec f → a < 2 ^ suc (emax f) * c → a * 2 ^ low f ≡ m * 2 ^ k * c → HasValue (round f s a c) s a c
+exact-under f s a c m k C M l e =
+    round-exact f s a c m k C M
+    (lt-of-mul-lt-mul-right c (rw (← e, pow-add 2 (low f) (suc (emax f))) (lt-of-lt-of-le (mul-lt-mul-of-pos-right l (pow-pos (low f))) (le-of-eq (simp (mul-assoc, mul-comm, mul-left-comm)))))) e
 
 pub units-of : (f : Format) (x : Float) (s : Bool) (a c : ℕ) → 0 < c → HasValue x s a c → inUnits f x ≡ a * 2 ^ low f / c
 unfolding inUnits
