@@ -46,15 +46,9 @@ float-of-fields-requires c κs = (lit< tt, (lit< tt, under (c .before .parts-of 
 sub-place : tie.Need-sub-place
 sub-place c = digits (c .before .before .before) .least
 
-add-place : tie.Need-add-place
-add-place c = search needs
-
 int-to-float-ln-near-one : tie.Need-int-to-float-ln-near-one
 int-to-float-ln-near-one c =
     let g = digits (c .before .before .before .before .before) in in-float _ (⊎-elim (λ w. omega arith) (λ w. omega arith) (c .before .if1 .came))
-
-ln-near-one-requires : tie.Need-ln-near-one-requires
-ln-near-one-requires c κs = search needs
 
 returns : tie.Need-returns
 returns c =
@@ -77,7 +71,7 @@ ln-inner-spec =
     sub-float-of-fields
     float-of-fields-requires
     sub-place
-    add-place
+    (λ c. search needs)
     int-to-float-ln-near-one
-    ln-near-one-requires
+    (λ c κs. search needs)
     returns)
