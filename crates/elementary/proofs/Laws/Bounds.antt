@@ -4,7 +4,7 @@ use mathlib.Core.Path.{_≡_, refl, sym, ap, _∙_, subst}
 use mathlib.Core.Bool.{Bool, true, false, not, _&&_, Bool·beq, cond}
 use mathlib.Core.Logic.{_⊎_, inl, inr}
 use Prim.Native.Nat.{ℕ, zero, suc, _+_, _-_, _*_, _^_, _≤_, _<_}
-use native.Mathlib.Nat.{le-refl, le-trans, le-of-eq, lt-of-not-le, zero-lt-suc, mul-assoc, mul-comm, mul-left-comm, mul-right-comm, mul-one, one-mul, mul-le-mul, mul-le-mul-right, le-of-mul-le-mul-right, lt-of-mul-lt-mul-right, mul-pos, mul-mul-mul-comm, suc-mul}
+use native.Mathlib.Nat.{le-refl, le-trans, le-of-eq, lt-of-not-le, zero-lt-suc, mul-assoc, mul-comm, mul-left-comm, mul-right-comm, mul-one, one-mul, mul-le-mul, mul-le-mul-right, le-of-mul-le-mul-right, mul-pos, mul-mul-mul-comm, suc-mul, le-of-suc-le-suc, div-le-of-le-mul, div-lt-iff-lt-mul}
 use native.Mathlib.Omega.{arith}
 use lib.Dec.{T, ltb, eqb·suc-zero, lit<, lit≤}
 use lib.Pow.{pow-add, pow-pos, pow-lt}
@@ -19,7 +19,6 @@ use Rattle.elementary.specs.Inside.Bounds.{Side, sized, AtMost, Over, re
 use Rattle.elementary.specs.Ops.{_⊕_, _⊖_, _⊗_, _⊘_, half}
 use Rattle.elementary.proofs.Laws.Order.{le→fractions}
 use Rattle.elementary.proofs.Laws.Powers.{pow-split}
-use Rattle.elementary.proofs.Laws.Greatest.{size-floor}
 use Rattle.elementary.specs.Floor.{floorSize, floorOf}
 
 -- the whole number b is a value of the format
@@ -197,10 +196,8 @@ div-side {s} {a} {j} c C l (sized m e h) (reaches (suc n) d k) =
 
 -- ---- floor, whose sign is its argument's
 floor-size : (s : Bool) (a c b : ℕ) → 0 < c → a ≤ b * c → floorSize s a c ≤ b
-floor-size false a c b C h = le-of-mul-le-mul-right (le-trans (size-floor false a c C .0) h) C
-floor-size true a c b C h =
-    let n = floorSize true a c in
-    omega (arith, lt-of-mul-lt-mul-right c {m = n} {n = suc b} (omega (arith, suc-mul b c, size-floor true a c C)))
+floor-size false a c b C h = div-le-of-le-mul c (le-trans h (le-of-eq (mul-comm b c)))
+floor-size true a c b C h = le-of-suc-le-suc (div-lt-iff-lt-mul C .1 (omega (arith, suc-mul b c)))
 
 pub floor-side : {x : Float} {s : Bool} {b : ℕ} → Exact b → Side x s b → Side (floorOf binary64 x) s b
 unfolding floorOf

@@ -5,7 +5,7 @@ use mathlib.Core.Bool.{Bool, true, false, _&&_, cond}
 use mathlib.Core.List.{List, [], _∷_}
 use mathlib.Core.Logic.{_⊎_, inl, inr, ⊎-elim}
 use Prim.Native.Nat.{ℕ, zero, suc, _+_, _-_, _*_, _/_, _^_, _≤_, _<_, min}
-use native.Mathlib.Nat.{le-trans, le-of-eq, lt-of-not-le, mul-comm, mul-right-comm, mul-one, mul-zero, mul-suc, add-zero, zero-add, mul-le-mul, mul-le-mul-left, mul-le-mul-right, le-mul-of-pos-right, mul-pos, div-le-of-le-mul, le-div-iff-mul-le, le-of-mul-le-mul-right, min-le-left, pow-suc}
+use native.Mathlib.Nat.{le-refl, le-trans, le-of-eq, lt-of-not-le, mul-comm, mul-right-comm, mul-one, mul-zero, mul-suc, add-zero, zero-add, mul-le-mul, mul-le-mul-left, mul-le-mul-right, le-mul-of-pos-right, mul-pos, div-le-of-le-mul, div-mul-le-self, div-lt-iff-lt-mul, le-div-iff-mul-le, le-of-mul-le-mul-right, min-le-left, pow-suc}
 use native.Mathlib.Numerals.{add-one}
 use native.Mathlib.Omega.{arith}
 use lib.Dec.{T, leb, leb→le, lt→ltb, lit<, lit≤}
@@ -21,6 +21,7 @@ use lib.Ieee.Order.{le-of-values}
 use lib.Ieee.Positive.{first-pos}
 use lib.Ieee.Back.{round-whole}
 use Rattle.elementary.specs.Ops.{_⊕_, _⊖_, _⊗_, _⊘_, float, +0, one, two, four}
+use Rattle.elementary.specs.Floor.{floorSize}
 use Rattle.elementary.specs.Exp.{LARGEST, LEAST, expSum, scaled, expK, expR, expInner, expOf}
 use Rattle.elementary.specs.Cody.{THRESHOLD, FRAC-1-SQRT-PI, XBIG, erfcxAboveThreshold, erfcAbs, erfcOf, A, B, C, D, P, Q, tildeOf, smoothenedExponentialOfNegativeSquare, abOf, cdOf, pqOf}
 use Rattle.elementary.specs.declared.rule_set.RuleSet.{RuleSet}
@@ -32,7 +33,6 @@ use Rattle.elementary.proofs.Laws.Order.{le→fractions}
 use Rattle.elementary.proofs.Laws.Bits.{abs-fits}
 use Rattle.elementary.proofs.Laws.Values.{revalue}
 use Rattle.elementary.proofs.Laws.Adding.{sub-at}
-use Rattle.elementary.proofs.Laws.Greatest.{IsFloor, size-floor}
 use Rattle.elementary.proofs.Laws.Close.{Values, tilde-at, sixteenths-value, threshold-value, four-value}
 use Rattle.elementary.proofs.Laws.Bounds.{side-finite, Exact, pow-exact, small-exact, unsigned, wider, value-side, value-over, neg-side, round-side, mul-side, square-over, add-at-most, sub-at-most, add-side, add-over, div-side, floor-side, sum-low}
 
@@ -204,12 +204,13 @@ module _ (m : ℕ) (e : ℤ) (f : T (fits binary64 (fin false m e))) (l : m * up
   -- y to a multiple of 1/16 toward zero
   tilde : (k : ℕ) × HasValue (tildeOf (fin false m e)) false k 16 × (k * down e ≤ m * up e * 16) × (k ≤ 624)
   tilde =
-      let k = m * up e * 16 / down e in
-      let z : IsFloor false (m * up e * 16) (down e) k = size-floor false (m * up e * 16) (down e) (down-pos e) in
+      let k = floorSize false (m * up e * 16) (down e) in
+      let low : k * down e ≤ m * up e * 16 = div-mul-le-self (m * up e * 16) (down e) in
+      let high : m * up e * 16 < suc k * down e = div-lt-iff-lt-mul (down-pos e) .0 (le-refl (suc k)) in
       let small : k ≤ 624 = le-of-mul-le-mul-right {k = down e} (omega arith) (down-pos e) in
       let one : 1 ≤ k = le-div-iff-mul-le (down-pos e) .1 (omega arith) in
-      let v : Values k (fin false m e) = record { plus = lt→ltb 0 m (first-pos m (up e) (omega arith)); low = z .0; high = rw add-one (z .1) } in
-      (k, rw (tilde-at one (omega arith) f v) (sixteenths-value k (omega arith)), z .0, small)
+      let v : Values k (fin false m e) = record { plus = lt→ltb 0 m (first-pos m (up e) (omega arith)); low = low; high = rw add-one high } in
+      (k, rw (tilde-at one (omega arith) f v) (sixteenths-value k (omega arith)), low, small)
 
   -- y less its tilde
   difference-side : Side (fin false m e ⊖ tildeOf (fin false m e)) false 39
