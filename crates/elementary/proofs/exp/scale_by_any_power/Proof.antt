@@ -20,13 +20,4 @@ returns-2 : tie.Need-returns-2
 returns-2 c = power.far-special binary64 (c .before .before .args .p) _ (sym (c .before .is-finite .ensures) ∙ c .if1 .left)
 
 pub scale-by-any-power-spec : {M : Type 1} → statement M
-scale-by-any-power-spec =
-    tie.close
-    (tie.spec
-    (λ c κs. search needs)
-    parts-of-requires
-    (λ c. search needs)
-    (λ c. search needs)
-    (λ c κs. search needs)
-    returns
-    returns-2)
+scale-by-any-power-spec = tie.close (tie.spec (λ c κs. search needs) parts-of-requires (λ c. search needs) (λ c. search needs) (λ c κs. search needs) returns returns-2)

@@ -13,13 +13,4 @@ returns-3 c =
     (power.field-power (c .float-of-fields .result) (a .args .e) (omega arith) (c .float-of-fields .ensures))
 
 pub scale-by-power-spec : {M : Type 1} → statement M
-scale-by-power-spec =
-    tie.close
-    (tie.spec
-    (λ c κs. search needs)
-    (λ c. search needs)
-    (λ c κs. search needs)
-    (λ c. search needs)
-    (λ c. search needs)
-    (λ c κs. search needs)
-    returns-3)
+scale-by-power-spec = tie.close (tie.spec (λ c κs. search needs) (λ c. search needs) (λ c κs. search needs) (λ c. search needs) (λ c. search needs) (λ c κs. search needs) returns-3)

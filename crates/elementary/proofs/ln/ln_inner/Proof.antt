@@ -64,14 +64,4 @@ returns c =
     (j .if1 .came)
 
 pub ln-inner-spec : {M : Type 1} → statement M
-ln-inner-spec =
-    tie.close
-    (tie.spec
-    parts-of-requires
-    sub-float-of-fields
-    float-of-fields-requires
-    sub-place
-    (λ c. search needs)
-    int-to-float-ln-near-one
-    (λ c κs. search needs)
-    returns)
+ln-inner-spec = tie.close (tie.spec parts-of-requires sub-float-of-fields float-of-fields-requires sub-place (λ c. search needs) int-to-float-ln-near-one (λ c κs. search needs) returns)
