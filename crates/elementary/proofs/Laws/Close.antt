@@ -6,8 +6,8 @@ use native.Mathlib.Nat.{mul-assoc, mul-one, mul-pos, mul-le-mul-right, le-trans,
 use native.Mathlib.Omega.{arith}
 use borrow.Author.Tests.{lt-ltb}
 use lib.IntN.{pos}
-use lib.Dec.{T, lit<, lit≤, not-T, le→leb, ltb→lt}
-use lib.Ieee.{Float, nan, inf, fin, binary64, up, down, round, neg, div, lt, le, fits, ofBits, inFloat}
+use lib.Dec.{T, lit<, lit≤, not-T, ltb→lt}
+use lib.Ieee.{Float, nan, inf, fin, binary64, up, down, round, neg, div, lt, le, fits, ofBits}
 use lib.Ieee.Bits.{is-true, is-false}
 use lib.Ieee.Fits.{down-pos, up-pos, mul-fits, ofInt-fits}
 use lib.Ieee.Exact.{HasValue}
@@ -29,10 +29,6 @@ use Rattle.elementary.proofs.Laws.Places.{in-units, exact-under}
 use Rattle.elementary.proofs.Laws.Values.{whole-value}
 use Rattle.elementary.proofs.Laws.Compare.{not-le-of-lt}
 use Rattle.elementary.proofs.Laws.Greatest.{floor-value, floor-fits}
-
-pub in-float : (k : ℕ) → k ≤ 1024 → T (inFloat binary64 (pos k))
-unfolding inFloat
-in-float k l = le→leb k (2 ^ 53) (omega arith)
 
 -- ---- the test
 both-left : (a b : Bool) → (a && b) ≡ true → a ≡ true

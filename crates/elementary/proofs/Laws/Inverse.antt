@@ -47,21 +47,16 @@ around cdf (suc n) p lo hi h = around cdf n p _ _ (go (lt (cdf (midOf lo hi)) p)
     go false t = record { under = h .under; over = t; lo-range = h .lo-range; hi-range = mid-range (h .lo-range) (h .hi-range) }
 
 -- ---- at the two first ends
-at-lowest : (set : RuleSet) → cdfOf set lowest ≡ +0
+at-ends : (set : RuleSet) → (cdfOf set lowest ≡ +0) × (cdfOf set highest ≡ one)
 unfolding cdfOf erfcOf absOf erfcAbs smoothenedExponentialOfNegativeSquare tildeOf expOf expInner expSum scaled floorOf mul sub div neg ofBits ofInt toSigned lt le ne
-at-lowest set = go (set .«far_factor»)
+at-ends set = go (set .«far_factor»)
   where
-    go : (b : Bool) → cdfOf (record { «textbook_cap» = set .«textbook_cap»; «far_factor» = b }) lowest ≡ +0
-    go true = refl
-    go false = refl
+    under : Bool → RuleSet
+    under b = record { «textbook_cap» = set .«textbook_cap»; «far_factor» = b }
 
-at-highest : (set : RuleSet) → cdfOf set highest ≡ one
-unfolding cdfOf erfcOf absOf erfcAbs smoothenedExponentialOfNegativeSquare tildeOf expOf expInner expSum scaled floorOf mul sub div neg ofBits ofInt toSigned lt le ne
-at-highest set = go (set .«far_factor»)
-  where
-    go : (b : Bool) → cdfOf (record { «textbook_cap» = set .«textbook_cap»; «far_factor» = b }) highest ≡ one
-    go true = refl
-    go false = refl
+    go : (b : Bool) → (cdfOf (under b) lowest ≡ +0) × (cdfOf (under b) highest ≡ one)
+    go true = (refl, refl)
+    go false = (refl, refl)
 
 -- ---- where the inverse bisects, the first ends lie on both sides of p
 positive : (p : Float) → ne p p ≡ false → le p +0 ≡ false → lt +0 p ≡ true
@@ -76,25 +71,21 @@ positive (fin s m e) n h = go (lt +0 (fin s m e)) refl
     go false t = absurd (true≢false (sym (le-of-not-lt +0 (fin s m e) tt tt t) ∙ h))
 
 pub lowest-under : (set : RuleSet) (p : Float) → ne p p ≡ false → le p +0 ≡ false → lt (cdfOf set lowest) p ≡ true
-lowest-under set p n h = rw (at-lowest set) (positive p n h)
+lowest-under set p n h = rw (at-ends set .0) (positive p n h)
 
 pub highest-over : (set : RuleSet) (p : Float) → le one p ≡ false → lt (cdfOf set highest) p ≡ false
-highest-over set p h = rw (at-highest set) (not-lt-of-not-le one p h)
+highest-over set p h = rw (at-ends set .1) (not-lt-of-not-le one p h)
 
 -- ---- the theorem
-inverse-is-hi : (set : RuleSet) (p : Float) → lt +0 p ≡ true → lt p one ≡ true → inverseOf set p ≡ endsOf set p .hi
-unfolding inverseOf
-inverse-is-hi set p above-0 below-1 = rw (equal-itself p (between-finite p above-0 below-1), not-le-of-lt +0 p above-0, not-le-of-lt p one below-1)
-
 pub inverse-brackets : (set : RuleSet) (p : Float) → lt +0 p ≡ true → lt p one ≡ true → Brackets set p (endsOf set p .lo) (endsOf set p .hi)
-unfolding endsOf neg ofBits
+unfolding inverseOf endsOf neg ofBits
 inverse-brackets set p above-0 below-1 =
     let start : Around (cdfOf set) p lowest highest =
-    record { under = rw (at-lowest set) above-0; over = rw (at-highest set) (lt-asym p one below-1); lo-range = unsigned (sized _ _ (lit≤ tt)); hi-range = unsigned (sized _ _ (lit≤ tt)) } in
+    record { under = rw (at-ends set .0) above-0; over = rw (at-ends set .1) (lt-asym p one below-1); lo-range = unsigned (sized _ _ (lit≤ tt)); hi-range = unsigned (sized _ _ (lit≤ tt)) } in
     let h = around (cdfOf set) 64 p lowest highest start in
     let hi = bisectionEnds (cdfOf set) 64 p lowest highest .hi in
     record {
       under = h .under;
       over = le-of-not-lt (cdfOf set hi) p (side-finite (cdf-at-most set (h .hi-range) .side)) (between-finite p above-0 below-1) (h .over);
-      inverse = inverse-is-hi set p above-0 below-1;
+      inverse = rw (equal-itself p (between-finite p above-0 below-1), not-le-of-lt +0 p above-0, not-le-of-lt p one below-1);
     }

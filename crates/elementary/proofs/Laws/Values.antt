@@ -6,8 +6,9 @@ use Prim.Native.Nat.{ℕ, suc, _+_, _-_, _*_, _/_, _%_, _^_, _≤_, _<_}
 use native.Mathlib.Nat.{mul-one, zero-add, pow-suc, mul-right-comm, eq-of-mul-eq-mul-right, eq-or-lt-of-le, eq-zero-or-pos}
 use native.Mathlib.Omega.{arith}
 use lib.Dec.{T, leb, eqb, eqb→eq, le→leb, not-T}
+use lib.IntN.{pos}
 use lib.Arith.{lt→nleb}
-use lib.Ieee.{Float, nan, inf, fin, binary64, up, down, odd, fits, ofFields, ofBits, ofInt}
+use lib.Ieee.{Float, nan, inf, fin, binary64, up, down, odd, fits, ofFields, ofBits, ofInt, inFloat}
 use lib.Ieee.Back.{round-whole}
 use lib.Ieee.Exact.{HasValue, odd-sign}
 use lib.Ieee.Bits.{is-true, is-false, cond-no}
@@ -34,6 +35,10 @@ revalue (fin t m k) s a c b d p e h = (
 pub whole-value : (n : ℕ) → n ≤ 2 ^ 53 → HasValue (float n) false n 1
 unfolding ofInt
 whole-value n h = round-whole binary64 false n h
+
+pub in-float : (n : ℕ) → n ≤ 2 ^ 53 → T (inFloat binary64 (pos n))
+unfolding inFloat
+in-float n h = le→leb n (2 ^ 53) h
 
 -- ---- reading a pattern: its sign, its exponent's field, its digits
 fields : (b x t : ℕ) → b % 2 ^ 63 / 2 ^ 52 ≡ x → b % 2 ^ 52 ≡ t → ofBits binary64 b ≡ ofFields binary64 (leb (2 ^ 63) b) x t

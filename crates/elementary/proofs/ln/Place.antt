@@ -2,7 +2,7 @@
 use mathlib.Core.Path.{_≡_, refl, sym, ap, _∙_, subst}
 use mathlib.Core.Bool.{Bool, true, false, cond}
 use Prim.Native.Nat.{ℕ, suc, _+_, _-_, _*_, _/_, _^_, _≤_, _<_}
-use native.Mathlib.Nat.{mul-assoc, mul-le-mul-right, le-of-mul-le-mul-right, lt-of-mul-lt-mul-right, mul-div-mul-right, div-add-mod', add-zero, lt-of-lt-of-le}
+use native.Mathlib.Nat.{mul-assoc, mul-le-mul-right, le-of-mul-le-mul-right, lt-of-mul-lt-mul-right, mul-div-mul-right, lt-of-lt-of-le}
 use native.Mathlib.Numerals.{add-one}
 use native.Mathlib.Omega.{arith}
 use lib.Dec.{T}
@@ -28,11 +28,7 @@ module _ (y : Float) (s : Bool) (m i : ℕ) (D : PartsOf y s m i) (G : Digits m 
 
   -- y is u of the smallest values, and its digits stand at m
   units-parts : u * 2 ^ 64 ≡ m * 2 ^ i
-  units-parts =
-      ap (λ (z : ℕ). z * 2 ^ 64) units-are
-      ∙ sym (add-zero (m * 2 ^ i / 2 ^ 64 * 2 ^ 64))
-      ∙ ap (λ (z : ℕ). m * 2 ^ i / 2 ^ 64 * 2 ^ 64 + z) (sym (D .whole))
-      ∙ div-add-mod' (m * 2 ^ i) (2 ^ 64)
+  units-parts = omega (arith, units-are, D .whole)
 
   further : (j k l : ℕ) → j + l ≡ i + k → u * 2 ^ (64 + k) ≡ m * 2 ^ j * 2 ^ l
   further j k l e = ap (λ (z : ℕ). u * z) (pow-add 2 64 k) ∙ sym (mul-assoc u (2 ^ 64) (2 ^ k)) ∙ ap (λ (z : ℕ). z * 2 ^ k) units-parts ∙ same-power m i k j l (sym e)
@@ -50,10 +46,7 @@ module _ (y : Float) (s : Bool) (m i : ℕ) (D : PartsOf y s m i) (G : Digits m 
 
   pub place-is : i - 12 ≡ placeOf y
   unfolding placeOf
-  place-is = sym (ap (λ (z : ℕ). z - 1) (size-of u (i - 12) low-end high-end) ∙ less (i - 12))
-    where
-      less : (n : ℕ) → suc n - 1 ≡ n
-      less n = omega arith
+  place-is = omega (arith, size-of u (i - 12) low-end high-end)
 
   -- both are m * 2 ^ 1022 of the smallest values
   exact : HasValue (round binary64 false u (2 ^ (i - 12))) false (m * 2 ^ 1022) (2 ^ 1074)

@@ -8,7 +8,8 @@ use lib.Ieee.Exact.{HasValue}
 use lib.Ieee.Positive.{positive-finite}
 use Rattle.elementary.specs.Inside.Round.{Digits}
 use Rattle.elementary.specs.Ln.{lnAt, placeOf, significandOf}
-use Rattle.elementary.proofs.ln.Steps.{in-float, difference, unit}
+use Rattle.elementary.proofs.Laws.Values.{in-float}
+use Rattle.elementary.proofs.ln.Steps.{difference, unit}
 use Rattle.elementary.proofs.ln.Ends.{digits-of}
 use Rattle.elementary.proofs.ln.Place.{place-is, significand-is, in-upper-part, in-lower-part}
 use borrow.Author.Needs.{needs}

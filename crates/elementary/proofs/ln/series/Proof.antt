@@ -1,7 +1,8 @@
 -- `ln::series` meets its contract. The loop's invariant: q is the sum after the steps down to i. Assumes nothing.
 use Prim.Native.Nat.{_≤_}
 use native.Mathlib.Omega.{arith}
-use Rattle.elementary.proofs.ln.Steps.{in-float, first, Down, horner-step, no-steps-left}
+use Rattle.elementary.proofs.Laws.Values.{in-float}
+use Rattle.elementary.proofs.ln.Steps.{first, Down, horner-step, no-steps-left}
 use Rattle.elementary.proofs.ln.series.Statement.{statement}
 use Rattle.elementary.proofs.ln.series.Tie as tie
 
