@@ -9,7 +9,7 @@ use native.Mathlib.Omega.{arith}
 use lib.Dec.{T, ltb, eqb·suc-zero, lit<, lit≤}
 use lib.Pow.{pow-add, pow-pos, pow-lt}
 use borrow.Author.Tests.{le-ltb, ltb-false}
-use lib.Ieee.{Float, nan, inf, fin, binary64, up, down, unlike, units, round, sum, add, sub, mul, div, neg, le, ofBits}
+use lib.Ieee.{Float, inf, binary64, up, down, unlike, units, round, sum, add, sub, mul, div, neg, le, ofBits}
 use lib.Ieee.Fits.{up-pos, down-pos, round-is}
 use lib.Ieee.Exact.{HasValue, round-exact, units-val}
 use lib.Ieee.Back.{round-whole}
@@ -17,7 +17,7 @@ use lib.Ieee.Order.{round-mono, kept, drop}
 use lib.Ieee.Scale.{finite, grid, overflow, round-val, round-under}
 use Rattle.elementary.specs.Inside.Bounds.{Side, sized, AtMost, Over, reaches}
 use Rattle.elementary.specs.Ops.{_⊕_, _⊖_, _⊗_, _⊘_, half}
-use Rattle.elementary.proofs.Laws.Order.{le→fractions}
+use Rattle.elementary.proofs.Laws.Order.{valued, finite-by, le→fractions}
 use Rattle.elementary.proofs.Laws.Powers.{pow-split}
 use Rattle.elementary.specs.Floor.{floorSize, floorOf}
 
@@ -45,18 +45,18 @@ side-finite (sized m e h) = tt
 
 -- ---- values and fractions
 pub value-side : {x : Float} {s : Bool} (v c b : ℕ) → 0 < c → HasValue x s v c → v ≤ b * c → Side x s b
-value-side {x = nan} v c b p h l = absurd h
-value-side {x = inf t} v c b p h l = absurd h
-value-side {x = fin t m e} v c b p h l =
-    rw (h .0)
-    (sized m e (le-of-mul-le-mul-right {k = c} (le-trans (le-of-eq (h .1)) (le-trans (mul-le-mul-right (down e) l) (le-of-eq (mul-right-comm b c (down e))))) p))
+value-side {x} v c b p h l =
+    elim (finite-by x h) [
+      | valued m e i ↦
+          sized m e (le-of-mul-le-mul-right {k = c} (le-trans (le-of-eq i) (le-trans (mul-le-mul-right (down e) l) (le-of-eq (mul-right-comm b c (down e))))) p)
+    ]
 
 pub value-over : {x : Float} (v c j : ℕ) → 0 < c → HasValue x false v c → c ≤ v * 2 ^ j → Over x j
-value-over {x = nan} v c j p h l = absurd h
-value-over {x = inf t} v c j p h l = absurd h
-value-over {x = fin t m e} v c j p h l =
-    let spread : v * 2 ^ j * down e ≡ m * up e * 2 ^ j * c = mul-right-comm v (2 ^ j) (down e) ∙ ap (λ z. z * 2 ^ j) (sym (h .1)) ∙ mul-right-comm (m * up e) c (2 ^ j) in
-    rw (h .0) (reaches m e (le-of-mul-le-mul-right {k = c} (le-trans (le-of-eq (mul-comm (down e) c)) (le-trans (mul-le-mul-right (down e) l) (le-of-eq spread))) p))
+value-over {x} v c j p h l =
+    elim (finite-by x h) [
+      | valued m e i ↦
+          reaches {j = j} m e (le-of-mul-le-mul-right {k = c} (omega (arith, mul-le-mul-right (down e) l, ap (λ (z : ℕ). z * 2 ^ j) i)) p)
+    ]
 
 -- ---- rounding
 units-inf : (q k : ℕ) → overflow binary64 ≤ q * 2 ^ k → units binary64 false q k ≡ inf false
@@ -65,9 +65,7 @@ units-inf q k l = rw (le-ltb (q * 2 ^ k) (overflow binary64) l)
 
 inf-not-below : (y : Float) (b d : ℕ) → HasValue y false b d → T (le (inf false) y) → ⊥
 unfolding le
-inf-not-below nan b d v h = v
-inf-not-below (inf t) b d v h = v
-inf-not-below (fin t n g) b d v h = h
+inf-not-below y b d v = elim (finite-by y v) [ valued n g i ↦ λ h. h ]
 
 -- a / c in units of the smallest value, rounded, is no infinity and at most b
 module _ (a c b : ℕ) (C : 0 < c) (B : Exact b) (h : a ≤ b * c) where
@@ -111,15 +109,16 @@ mul-side {s} {t} {a} {b} c C l (sized m e h) (sized n d k) =
 -- by a constant that is the fraction v / d
 pub mul-by : {x : Float} {s : Bool} {a : ℕ} (c : Float) (v d b : ℕ) → 0 < d → HasValue c false v d → Exact b → a * v ≤ b * d → Side x s a → AtMost (x ⊗ c) b
 unfolding mul
-mul-by nan v d b D k B l h = absurd k
-mul-by (inf t) v d b D k B l h = absurd k
-mul-by {s} {a} (fin t n g) v d b D k B l (sized m e h) =
-    let top : m * up e * (n * up g) * d ≤ b * (down e * down g) * d =
-    le-trans (le-of-eq (mul-assoc (m * up e) (n * up g) d ∙ ap (λ z. m * up e * z) (k .1)))
-    (le-trans (mul-le-mul-right (v * down g) h)
-    (le-trans (le-of-eq (mul-mul-mul-comm a (down e) v (down g)))
-    (le-trans (mul-le-mul-right (down e * down g) l) (le-of-eq (mul-right-comm b d (down e * down g)))))) in
-    unsigned (round-side (m * up e * (n * up g)) (down e * down g) b (mul-pos (down-pos e) (down-pos g)) B (le-of-mul-le-mul-right {k = d} top D) (unlike s t))
+mul-by {s} {a} c v d b D k B l (sized m e h) =
+    elim (finite-by c k) [
+      | valued n g i ↦
+          let top : m * up e * (n * up g) * d ≤ b * (down e * down g) * d =
+          le-trans (le-of-eq (mul-assoc (m * up e) (n * up g) d ∙ ap (λ z. m * up e * z) i))
+          (le-trans (mul-le-mul-right (v * down g) h)
+          (le-trans (le-of-eq (mul-mul-mul-comm a (down e) v (down g)))
+          (le-trans (mul-le-mul-right (down e * down g) l) (le-of-eq (mul-right-comm b d (down e * down g)))))) in
+          unsigned (round-side (m * up e * (n * up g)) (down e * down g) b (mul-pos (down-pos e) (down-pos g)) B (le-of-mul-le-mul-right {k = d} top D) (unlike s false))
+    ]
 
 pub half-at-most : {x : Float} {s : Bool} (b : ℕ) → Exact b → Side x s (b * 2) → AtMost (half ⊗ x) b
 unfolding mul ofBits

@@ -25,6 +25,7 @@ use Rattle.elementary.specs.Inside.Each.{Each, All}
 use Rattle.elementary.specs.Inside.Cdf.{sixteenthsOf, argumentOf, isBetween, allBetween, Close, Between}
 use Rattle.elementary.proofs.Laws.Bits.{abs-fits}
 use Rattle.elementary.proofs.Laws.Held.{holds}
+use Rattle.elementary.proofs.Laws.Order.{valued, finite-by}
 use Rattle.elementary.proofs.Laws.Places.{in-units, exact-under}
 use Rattle.elementary.proofs.Laws.Values.{whole-value}
 use Rattle.elementary.proofs.Laws.Compare.{not-le-of-lt}
@@ -69,10 +70,8 @@ all-close k {x} {w} {y} {a} {b} p s ea eb q =
 -- ---- k / 16 is exact
 over-sixteen : (x : Float) (k : ℕ) → HasValue x false k 1 → x ⊘ sixteen ≡ round binary64 false k 16
 unfolding div ofBits
-over-sixteen nan k v = absurd v
-over-sixteen (inf s) k v = absurd v
-over-sixteen (fin t m e) k v =
-    rw (v .0) (round-same binary64 false (m * up e * 1) (1 * 16 * down e) k 16 (omega (arith, down-pos e)) (omega arith) (omega (arith, v .1)))
+over-sixteen x k v =
+    elim (finite-by x v) [ valued m e i ↦ round-same binary64 false (m * up e * 1) (1 * 16 * down e) k 16 (omega (arith, down-pos e)) (omega arith) (omega (arith, i)) ]
 
 pub sixteenths-value : (k : ℕ) → k ≤ 1024 → HasValue (sixteenthsOf k) false k 16
 sixteenths-value k l =

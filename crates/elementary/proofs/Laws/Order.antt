@@ -5,10 +5,20 @@ use Prim.Native.Nat.{ℕ, _+_, _*_, _≤_, _<_}
 use native.Mathlib.Nat.{mul-assoc, mul-comm, mul-left-comm, mul-pos, mul-le-mul-right, le-of-mul-le-mul-right, zero-mul, le-of-lt, le-of-eq, le-antisymm, le-mul-of-pos-right}
 use native.Mathlib.Omega.{arith}
 use borrow.Author.Tests.{ltb-true, ltb-false}
+use lib.IntN.{ℤ}
 use lib.Dec.{T, ltb, eqb, ltb→lt, eqb→eq, nltb→le}
 use lib.Ieee.{Float, nan, inf, fin, up, down, below, level, le}
 use lib.Ieee.Fits.{down-pos, eq→eqb, and-i, and-l, and-r}
 use lib.Ieee.Exact.{HasValue}
+
+-- what has the value ±a / c is finite
+pub data Valued (s : Bool) (a c : ℕ) : Float → Type 0 where
+  valued : (m : ℕ) (e : ℤ) → m * up e * c ≡ a * down e → Valued s a c (fin s m e)
+
+pub finite-by : {s : Bool} {a c : ℕ} (x : Float) → HasValue x s a c → Valued s a c x
+finite-by nan h = absurd h
+finite-by (inf t) h = absurd h
+finite-by (fin t m e) h = rw (h .0) (valued m e (h .1))
 
 -- ±a is at most ±b; the two zeros are equal
 abbrev pub Le : Bool → ℕ → Bool → ℕ → Type 0
@@ -82,23 +92,24 @@ module _ (s t : Bool) (a b c d : ℕ) (c-pos : 0 < c) (d-pos : 0 < d) where
 
   pub le→fractions : (x y : Float) → HasValue x s a c → HasValue y t b d → T (le x y) → Le s (a * d) t (b * c)
   unfolding le
-  le→fractions nan y p q h = absurd p
-  le→fractions (inf u) y p q h = absurd p
-  le→fractions (fin u m e) nan p q h = absurd q
-  le→fractions (fin u m e) (inf v) p q h = absurd q
-  le→fractions (fin u m e) (fin v n g) p q h =
-      shrink s (a * d) t (b * c) (down e * down g) (mul-pos (down-pos e) (down-pos g))
-      (rw (← left (m * up e) (down e) (down g) (p .1), ← right (n * up g) (down e) (down g) (q .1), ← p .0, ← q .0)
-      (grow u (m * up e * down g) v (n * up g * down e) (c * d) (test→le u (m * up e * down g) v (n * up g * down e) h)))
+  le→fractions x y p q =
+      elim (finite-by x p) [
+        | valued m e i ↦ elim (finite-by y q) [
+          | valued n g j ↦ λ h.
+              shrink s (a * d) t (b * c) (down e * down g) (mul-pos (down-pos e) (down-pos g))
+              (rw (← left (m * up e) (down e) (down g) i, ← right (n * up g) (down e) (down g) j)
+              (grow s (m * up e * down g) t (n * up g * down e) (c * d) (test→le s (m * up e * down g) t (n * up g * down e) h)))
+        ]
+      ]
 
   pub fractions→le : (x y : Float) → HasValue x s a c → HasValue y t b d → Le s (a * d) t (b * c) → T (le x y)
   unfolding le
-  fractions→le nan y p q h = absurd p
-  fractions→le (inf u) y p q h = absurd p
-  fractions→le (fin u m e) nan p q h = absurd q
-  fractions→le (fin u m e) (inf v) p q h = absurd q
-  fractions→le (fin u m e) (fin v n g) p q h =
-      le→test u (m * up e * down g) v (n * up g * down e)
-      (shrink u (m * up e * down g) v (n * up g * down e) (c * d) (mul-pos c-pos d-pos)
-      (rw (left (m * up e) (down e) (down g) (p .1), right (n * up g) (down e) (down g) (q .1), p .0, q .0)
-      (grow s (a * d) t (b * c) (down e * down g) h)))
+  fractions→le x y p q h =
+      elim (finite-by x p) [
+        | valued m e i ↦ elim (finite-by y q) [
+          | valued n g j ↦
+              le→test s (m * up e * down g) t (n * up g * down e)
+              (shrink s (m * up e * down g) t (n * up g * down e) (c * d) (mul-pos c-pos d-pos)
+              (rw (left (m * up e) (down e) (down g) i, right (n * up g) (down e) (down g) j) (grow s (a * d) t (b * c) (down e * down g) h)))
+        ]
+      ]

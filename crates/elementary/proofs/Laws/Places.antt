@@ -22,6 +22,7 @@ use Rattle.elementary.specs.Sqrt.{inUnits}
 use Rattle.elementary.specs.Promises.{place}
 use Rattle.elementary.proofs.Laws.Powers.{pow-le-back, pow-split}
 use Rattle.elementary.proofs.Laws.Held.{holds}
+use Rattle.elementary.proofs.Laws.Order.{valued, finite-by}
 
 -- ---- numbers of p digits
 
@@ -120,32 +121,27 @@ exact-under f s a c m k C M l e =
 
 pub units-of : (f : Format) (x : Float) (s : Bool) (a c : ℕ) → 0 < c → HasValue x s a c → inUnits f x ≡ a * 2 ^ low f / c
 unfolding inUnits
-units-of f nan s a c C h = absurd h
-units-of f (inf t) s a c C h = absurd h
-units-of f (fin t m e) s a c C h =
-    div-same (m * up e * 2 ^ low f) (down e) (a * 2 ^ low f) c (down-pos e) C
-    (mul-right-comm (m * up e) (2 ^ low f) c ∙ ap (λ (z : ℕ). z * 2 ^ low f) (h .1) ∙ mul-right-comm a (down e) (2 ^ low f))
+units-of f x s a c C h =
+    elim (finite-by x h) [
+      | valued m e i ↦
+          div-same (m * up e * 2 ^ low f) (down e) (a * 2 ^ low f) c (down-pos e) C
+          (mul-right-comm (m * up e) (2 ^ low f) c ∙ ap (λ (z : ℕ). z * 2 ^ low f) i ∙ mul-right-comm a (down e) (2 ^ low f))
+    ]
 
 pub whole-units : (f : Format) (x : Float) (s : Bool) (a : ℕ) → HasValue x s a (2 ^ low f) → inUnits f x ≡ a
 whole-units f x s a h = units-of f x s a (2 ^ low f) (pow-pos (low f)) h ∙ mul-div-cancel a (pow-pos (low f))
 
 pub place-of : (f : Format) (x : Float) (s : Bool) (a : ℕ) → HasValue x s a (2 ^ low f) → place f x ≡ a
 unfolding place
-place-of f nan s a h = absurd h
-place-of f (inf t) s a h = absurd h
-place-of f (fin t m e) s a h = whole-units f (fin t m e) s a h
+place-of f x s a h = elim (finite-by x h) [ valued m e i ↦ whole-units f (fin s m e) s a (refl, i) ]
 
 pub sign-of : (x : Float) (s : Bool) (a c : ℕ) → HasValue x s a c → signOf x ≡ s
 unfolding signOf
-sign-of nan s a c v = absurd v
-sign-of (inf t) s a c v = absurd v
-sign-of (fin t m e) s a c v = v .0
+sign-of x s a c v = elim (finite-by x v) [ valued m e i ↦ refl ]
 
 pub is-number : (x : Float) (s : Bool) (a c : ℕ) → HasValue x s a c → T (not (isNan x))
 unfolding isNan
-is-number nan s a c v = absurd v
-is-number (inf t) s a c v = absurd v
-is-number (fin t m e) s a c v = tt
+is-number x s a c v = elim (finite-by x v) [ valued m e i ↦ tt ]
 
 pub overflow-digits : (f : Format) → InDigits (prec f) (overflow f)
 overflow-digits f = (1, low f + suc (emax f), pow-lt {i = 0} {j = prec f} (two-le-pos (prec f) (two f)), sym (one-mul (overflow f)))

@@ -8,11 +8,12 @@ use native.Mathlib.Omega.{arith}
 use lib.Dec.{T, leb, eqb, eqb→eq, le→leb, not-T}
 use lib.IntN.{pos}
 use lib.Arith.{lt→nleb}
-use lib.Ieee.{Float, nan, inf, fin, binary64, up, down, odd, fits, ofFields, ofBits, ofInt, inFloat}
+use lib.Ieee.{Float, nan, inf, binary64, up, down, odd, fits, ofFields, ofBits, ofInt, inFloat}
 use lib.Ieee.Back.{round-whole}
 use lib.Ieee.Exact.{HasValue, odd-sign}
 use lib.Ieee.Bits.{is-true, is-false, cond-no}
 use Rattle.elementary.specs.Ops.{float}
+use Rattle.elementary.proofs.Laws.Order.{valued, finite-by}
 use Rattle.elementary.proofs.Laws.Places.{place-of, sign-of, is-number, same-value}
 
 -- the same value said otherwise
@@ -20,17 +21,18 @@ pub recast : (x : Float) (c : ℕ) {s t : Bool} {a b : ℕ} → s ≡ t → a �
 recast x c p q h = rw (← p, ← q) h
 
 pub revalue : (x : Float) (s : Bool) (a c b d : ℕ) → 0 < c → a * d ≡ b * c → HasValue x s a c → HasValue x s b d
-revalue nan s a c b d p e h = h
-revalue (inf t) s a c b d p e h = h
-revalue (fin t m k) s a c b d p e h = (
-  h .0,
-  eq-of-mul-eq-mul-right c p (m * up k * d) (b * down k)
-      (mul-right-comm (m * up k) d c
-      ∙ ap (λ (z : ℕ). z * d) (h .1)
-      ∙ mul-right-comm a (down k) d
-      ∙ ap (λ (z : ℕ). z * down k) e
-      ∙ mul-right-comm b c (down k)),
-)
+revalue x s a c b d p e h =
+    elim (finite-by x h) [
+      | valued m k i ↦ (
+        refl,
+        eq-of-mul-eq-mul-right c p (m * up k * d) (b * down k)
+            (mul-right-comm (m * up k) d c
+            ∙ ap (λ (z : ℕ). z * d) i
+            ∙ mul-right-comm a (down k) d
+            ∙ ap (λ (z : ℕ). z * down k) e
+            ∙ mul-right-comm b c (down k)),
+      )
+    ]
 
 pub whole-value : (n : ℕ) → n ≤ 2 ^ 53 → HasValue (float n) false n 1
 unfolding ofInt

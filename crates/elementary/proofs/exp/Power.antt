@@ -14,6 +14,7 @@ use lib.Ieee.Exact.{HasValue}
 use borrow.Author.Tests.{ne-eqb}
 use lib.Ieee.Scale.{round-same, finite}
 use Rattle.elementary.specs.Exp.{scaled}
+use Rattle.elementary.proofs.Laws.Order.{valued, finite-by}
 use Rattle.elementary.proofs.Laws.Decode.{same-power}
 use Rattle.elementary.proofs.Laws.Values.{revalue}
 use Rattle.elementary.proofs.Laws.Bounds.{like}
@@ -27,13 +28,13 @@ cross M K L A D G E J p q = omega (arith, ap (λ (z : ℕ). z * (K * L)) p, ap (
 
 pub scaled-at : (f : Format) (x : Float) (s : Bool) (a d e l : ℕ) → 0 < d → HasValue x s a d → scaled f x (minus e l) ≡ round f s (a * 2 ^ e) (d * 2 ^ l)
 unfolding scaled
-scaled-at f nan s a d e l P h = absurd h
-scaled-at f (inf t) s a d e l P h = absurd h
-scaled-at f (fin t m g) s a d e l P h =
-    let k = minus e l in
-    round-same f t (m * up g * up k) (down g * down k) (a * 2 ^ e) (d * 2 ^ l) (mul-pos (down-pos g) (down-pos k)) (mul-pos P (pow-pos l))
-    (cross (m * up g) (up k) (2 ^ l) a d (down g) (2 ^ e) (down k) (h .1) (power e l))
-    ∙ ap (λ (z : Bool). round f z (a * 2 ^ e) (d * 2 ^ l)) (h .0)
+scaled-at f x s a d e l P h =
+    elim (finite-by x h) [
+      | valued m g i ↦
+          let k = minus e l in
+          round-same f s (m * up g * up k) (down g * down k) (a * 2 ^ e) (d * 2 ^ l) (mul-pos (down-pos g) (down-pos k)) (mul-pos P (pow-pos l))
+          (cross (m * up g) (up k) (2 ^ l) a d (down g) (2 ^ e) (down k) i (power e l))
+    ]
 
 -- ---- the digits at their new place
 pub far-is : (x : Float) (s : Bool) (m i e : ℕ) → 960 ≤ e → HasValue x s (m * 2 ^ i) (2 ^ 1138)
