@@ -4,7 +4,7 @@ use mathlib.Core.Path.{_≡_, refl, sym, ap, _∙_, subst}
 use mathlib.Core.Bool.{Bool, true, false, not, _&&_, Bool·beq, cond}
 use mathlib.Core.Logic.{_⊎_, inl, inr}
 use Prim.Native.Nat.{ℕ, zero, suc, _+_, _-_, _*_, _^_, _≤_, _<_}
-use native.Mathlib.Nat.{le-refl, le-trans, le-of-eq, lt-of-not-le, zero-lt-suc, mul-assoc, mul-comm, mul-left-comm, mul-right-comm, mul-one, one-mul, mul-le-mul, mul-le-mul-right, le-of-mul-le-mul-right, mul-pos, mul-mul-mul-comm, suc-mul, le-of-suc-le-suc, div-le-of-le-mul, div-lt-iff-lt-mul}
+use native.Mathlib.Nat.{le-refl, le-trans, le-of-eq, lt-of-not-le, zero-lt-suc, mul-assoc, mul-comm, mul-left-comm, mul-one, one-mul, mul-le-mul, mul-le-mul-right, le-of-mul-le-mul-right, mul-pos, mul-mul-mul-comm, suc-mul, le-of-suc-le-suc, div-le-of-le-mul, div-lt-iff-lt-mul}
 use native.Mathlib.Omega.{arith}
 use lib.Dec.{T, ltb, eqb·suc-zero, lit<, lit≤}
 use lib.Pow.{pow-add, pow-pos, pow-lt}
@@ -45,18 +45,11 @@ side-finite (sized m e h) = tt
 
 -- ---- values and fractions
 pub value-side : {x : Float} {s : Bool} (v c b : ℕ) → 0 < c → HasValue x s v c → v ≤ b * c → Side x s b
-value-side {x} v c b p h l =
-    elim (finite-by x h) [
-      | valued m e i ↦
-          sized m e (le-of-mul-le-mul-right {k = c} (le-trans (le-of-eq i) (le-trans (mul-le-mul-right (down e) l) (le-of-eq (mul-right-comm b c (down e))))) p)
-    ]
+value-side {x} v c b p h l = elim (finite-by x h) [ valued m e i ↦ sized {b = b} m e (le-of-mul-le-mul-right {k = c} (omega (arith, mul-le-mul-right (down e) l)) p) ]
 
 pub value-over : {x : Float} (v c j : ℕ) → 0 < c → HasValue x false v c → c ≤ v * 2 ^ j → Over x j
 value-over {x} v c j p h l =
-    elim (finite-by x h) [
-      | valued m e i ↦
-          reaches {j = j} m e (le-of-mul-le-mul-right {k = c} (omega (arith, mul-le-mul-right (down e) l, ap (λ (z : ℕ). z * 2 ^ j) i)) p)
-    ]
+    elim (finite-by x h) [ valued m e i ↦ reaches {j = j} m e (le-of-mul-le-mul-right {k = c} (omega (arith, mul-le-mul-right (down e) l, ap (λ (z : ℕ). z * 2 ^ j) i)) p) ]
 
 -- ---- rounding
 units-inf : (q k : ℕ) → overflow binary64 ≤ q * 2 ^ k → units binary64 false q k ≡ inf false
@@ -113,10 +106,7 @@ mul-by {s} {a} c v d b D k B l (sized m e h) =
     elim (finite-by c k) [
       | valued n g i ↦
           let top : m * up e * (n * up g) * d ≤ b * (down e * down g) * d =
-          le-trans (le-of-eq (mul-assoc (m * up e) (n * up g) d ∙ ap (λ z. m * up e * z) i))
-          (le-trans (mul-le-mul-right (v * down g) h)
-          (le-trans (le-of-eq (mul-mul-mul-comm a (down e) v (down g)))
-          (le-trans (mul-le-mul-right (down e * down g) l) (le-of-eq (mul-right-comm b d (down e * down g)))))) in
+          omega (arith, mul-le-mul-right (v * down g) h, mul-le-mul-right (down e * down g) l, ap (λ (z : ℕ). m * up e * z) i) in
           unsigned (round-side (m * up e * (n * up g)) (down e * down g) b (mul-pos (down-pos e) (down-pos g)) B (le-of-mul-le-mul-right {k = d} top D) (unlike s false))
     ]
 

@@ -14,7 +14,7 @@ use lib.Ieee.Scale.{finite}
 use Rattle.elementary.specs.Ops.{_⊕_, _⊗_, half, one}
 use Rattle.elementary.specs.MulAdd.{fma}
 use Rattle.elementary.proofs.Laws.Held.{holds}
-use Rattle.elementary.proofs.Laws.Order.{le→fractions}
+use Rattle.elementary.proofs.Laws.Order.{valued, finite-by, le→fractions}
 use Rattle.elementary.proofs.Laws.Places.{in-units, exact-under}
 use Rattle.elementary.proofs.Laws.Values.{revalue}
 use Rattle.elementary.proofs.Laws.Adding.{add-at}
@@ -45,11 +45,9 @@ minus-half-is m e = rw one-mul
 -- ---- fma by -1/2
 add-other : (x z : Float) (s : Bool) (a c : ℕ) → HasValue x s a c → T (not (finite z)) → x ⊕ z ≡ z
 unfolding add
-add-other nan z s a c h n = absurd h
-add-other (inf t) z s a c h n = absurd h
-add-other (fin t m e) nan s a c h n = refl
-add-other (fin t m e) (inf v) s a c h n = refl
-add-other (fin t m e) (fin v k g) s a c h n = absurd n
+add-other x nan s a c h n = elim (finite-by x h) [ valued m e i ↦ refl ]
+add-other x (inf v) s a c h n = elim (finite-by x h) [ valued m e i ↦ refl ]
+add-other x (fin v k g) s a c h n = absurd n
 
 module _ (m : ℕ) (e : ℤ) (fit : T (fits binary64 (fin false m e))) (large : down e ≤ m * up e) where
   abbrev p : Float

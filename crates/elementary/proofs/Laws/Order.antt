@@ -1,8 +1,9 @@
 -- The order of finite floats is the order of the signed fractions that they equal. Assumes nothing.
 use mathlib.Core.Path.{_≡_, sym, ap, _∙_, subst}
 use mathlib.Core.Bool.{Bool, true, false, not, _&&_, _||_}
+use mathlib.Core.Logic.{_↔_}
 use Prim.Native.Nat.{ℕ, _+_, _*_, _≤_, _<_}
-use native.Mathlib.Nat.{mul-assoc, mul-comm, mul-left-comm, mul-pos, mul-le-mul-right, le-of-mul-le-mul-right, zero-mul, le-of-lt, le-of-eq, le-antisymm, le-mul-of-pos-right}
+use native.Mathlib.Nat.{mul-pos, mul-le-mul-right, le-of-mul-le-mul-right, le-of-lt, le-of-eq, le-antisymm, le-mul-of-pos-right}
 use native.Mathlib.Omega.{arith}
 use borrow.Author.Tests.{ltb-true, ltb-false}
 use lib.IntN.{ℤ}
@@ -68,48 +69,25 @@ le→test true a false b h =
     (λ n. let z = nltb→le 0 (a + b) n in and-i (eqb a b) (eqb a 0) (eq→eqb {a = a} {b = b} (omega arith)) (eq→eqb {a = a} {b = 0} (omega arith)))
 le→test true a true b h = or-else (ltb b a) (eqb a b && true) (λ n. and-i (eqb a b) true (eq→eqb (le-antisymm (nltb→le b a n) h)) tt)
 
--- ---- a common factor
-grow : (s : Bool) (a : ℕ) (t : Bool) (b p : ℕ) → Le s a t b → Le s (a * p) t (b * p)
-grow false a false b p h = mul-le-mul-right p h
-grow false a true b p h = (rw (h .0) (zero-mul p), rw (h .1) (zero-mul p))
-grow true a false b p h = tt
-grow true a true b p h = mul-le-mul-right p h
-
-shrink : (s : Bool) (a : ℕ) (t : Bool) (b p : ℕ) → 0 < p → Le s (a * p) t (b * p) → Le s a t b
-shrink false a false b p l h = le-of-mul-le-mul-right h l
-shrink false a true b p l h = omega (arith, le-mul-of-pos-right a l, le-mul-of-pos-right b l)
-shrink true a false b p l h = tt
-shrink true a true b p l h = le-of-mul-le-mul-right h l
+-- ---- fractions of the same sizes
+carry : (s : Bool) (a : ℕ) (t : Bool) (b a' b' p q : ℕ) → 0 < q → a * p ≡ a' * q → b * p ≡ b' * q → Le s a t b → Le s a' t b'
+carry false a false b a' b' p q Q i j h = le-of-mul-le-mul-right {k = q} (omega (arith, mul-le-mul-right p h)) Q
+carry false a true b a' b' p q Q i j h = omega (arith, ap (λ (z : ℕ). z * p) (h .0), ap (λ (z : ℕ). z * p) (h .1), le-mul-of-pos-right a' Q, le-mul-of-pos-right b' Q)
+carry true a false b a' b' p q Q i j h = tt
+carry true a true b a' b' p q Q i j h = le-of-mul-le-mul-right {k = q} (omega (arith, mul-le-mul-right p h)) Q
 
 -- ---- the theorem, either way: x is ±a / c and y is ±b / d
 module _ (s t : Bool) (a b c d : ℕ) (c-pos : 0 < c) (d-pos : 0 < d) where
-  -- both sides, in units of the two denominators
-  left : (n D D' : ℕ) → n * c ≡ a * D → n * D' * (c * d) ≡ a * d * (D * D')
-  left n D D' h = simp (mul-assoc, mul-comm, mul-left-comm) (simp (mul-assoc, mul-comm, mul-left-comm) at (ap (λ (z : ℕ). z * (D' * d)) h))
-
-  right : (n D D' : ℕ) → n * d ≡ b * D' → n * D * (c * d) ≡ b * c * (D * D')
-  right n D D' h = simp (mul-assoc, mul-comm, mul-left-comm) (simp (mul-assoc, mul-comm, mul-left-comm) at (ap (λ (z : ℕ). z * (D * c)) h))
+  crossed : (m n : ℕ) (e g : ℤ) → m * up e * c ≡ a * down e → n * up g * d ≡ b * down g → Le s (m * up e * down g) t (n * up g * down e) ↔ Le s (a * d) t (b * c)
+  crossed m n e g i j =
+      let l : m * up e * down g * (c * d) ≡ a * d * (down e * down g) = omega (arith, ap (λ (z : ℕ). z * (down g * d)) i) in
+      let r : n * up g * down e * (c * d) ≡ b * c * (down e * down g) = omega (arith, ap (λ (z : ℕ). z * (down e * c)) j) in
+      (carry s _ t _ (a * d) (b * c) (c * d) _ (mul-pos (down-pos e) (down-pos g)) l r, carry s _ t _ _ _ _ (c * d) (mul-pos c-pos d-pos) (sym l) (sym r))
 
   pub le→fractions : (x y : Float) → HasValue x s a c → HasValue y t b d → T (le x y) → Le s (a * d) t (b * c)
   unfolding le
-  le→fractions x y p q =
-      elim (finite-by x p) [
-        | valued m e i ↦ elim (finite-by y q) [
-          | valued n g j ↦ λ h.
-              shrink s (a * d) t (b * c) (down e * down g) (mul-pos (down-pos e) (down-pos g))
-              (rw (← left (m * up e) (down e) (down g) i, ← right (n * up g) (down e) (down g) j)
-              (grow s (m * up e * down g) t (n * up g * down e) (c * d) (test→le s (m * up e * down g) t (n * up g * down e) h)))
-        ]
-      ]
+  le→fractions x y p q = elim (finite-by x p) [ valued m e i ↦ elim (finite-by y q) [ valued n g j ↦ λ h. crossed m n e g i j .0 (test→le s _ t _ h) ] ]
 
   pub fractions→le : (x y : Float) → HasValue x s a c → HasValue y t b d → Le s (a * d) t (b * c) → T (le x y)
   unfolding le
-  fractions→le x y p q h =
-      elim (finite-by x p) [
-        | valued m e i ↦ elim (finite-by y q) [
-          | valued n g j ↦
-              le→test s (m * up e * down g) t (n * up g * down e)
-              (shrink s (m * up e * down g) t (n * up g * down e) (c * d) (mul-pos c-pos d-pos)
-              (rw (left (m * up e) (down e) (down g) i, right (n * up g) (down e) (down g) j) (grow s (a * d) t (b * c) (down e * down g) h)))
-        ]
-      ]
+  fractions→le x y p q h = elim (finite-by x p) [ valued m e i ↦ elim (finite-by y q) [ valued n g j ↦ le→test s _ t _ (crossed m n e g i j .1 h) ] ]

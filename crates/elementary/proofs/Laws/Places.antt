@@ -3,7 +3,7 @@ use mathlib.Core.Path.{_≡_, refl, sym, ap, _∙_, subst}
 use mathlib.Core.Bool.{Bool, true, false, not, cond}
 use mathlib.Core.Logic.{inl, inr}
 use Prim.Native.Nat.{ℕ, zero, suc, _+_, _-_, _*_, _/_, _%_, _^_, _≤_, _<_}
-use native.Mathlib.Nat.{le-trans, le-of-eq, le-of-lt, le-refl, le-suc, lt-of-not-le, eq-or-lt-of-le, eq-zero-or-pos, lt-of-lt-of-le, lt-of-le-of-lt, not-le-of-lt, mul-assoc, mul-comm, mul-left-comm, mul-right-comm}
+use native.Mathlib.Nat.{le-trans, le-of-eq, le-of-lt, le-refl, le-suc, lt-of-not-le, eq-or-lt-of-le, eq-zero-or-pos, lt-of-lt-of-le, lt-of-le-of-lt, not-le-of-lt, mul-assoc, mul-comm, mul-left-comm}
 use native.Mathlib.Nat.{mul-one, one-mul, zero-mul, pow-suc, mul-le-mul-right, mul-lt-mul-of-pos-right, lt-of-mul-lt-mul-right, mul-div-cancel, zero-div, div-lt-iff-lt-mul, le-div-iff-mul-le}
 use native.Mathlib.Decide.{decLe}
 use native.Mathlib.Omega.{arith}
@@ -122,11 +122,7 @@ exact-under f s a c m k C M l e =
 pub units-of : (f : Format) (x : Float) (s : Bool) (a c : ℕ) → 0 < c → HasValue x s a c → inUnits f x ≡ a * 2 ^ low f / c
 unfolding inUnits
 units-of f x s a c C h =
-    elim (finite-by x h) [
-      | valued m e i ↦
-          div-same (m * up e * 2 ^ low f) (down e) (a * 2 ^ low f) c (down-pos e) C
-          (mul-right-comm (m * up e) (2 ^ low f) c ∙ ap (λ (z : ℕ). z * 2 ^ low f) i ∙ mul-right-comm a (down e) (2 ^ low f))
-    ]
+    elim (finite-by x h) [ valued m e i ↦ div-same (m * up e * 2 ^ low f) (down e) (a * 2 ^ low f) c (down-pos e) C (omega (arith, ap (λ (z : ℕ). z * 2 ^ low f) i)) ]
 
 pub whole-units : (f : Format) (x : Float) (s : Bool) (a : ℕ) → HasValue x s a (2 ^ low f) → inUnits f x ≡ a
 whole-units f x s a h = units-of f x s a (2 ^ low f) (pow-pos (low f)) h ∙ mul-div-cancel a (pow-pos (low f))

@@ -7,11 +7,12 @@ use native.Mathlib.Omega.{arith}
 use lib.Dec.{T, lit<, lit≤, le→leb}
 use lib.IntN.{pos, negℤ}
 use borrow.Author.Tests.{lt-ltb, le-leb, lt-leb}
-use lib.Ieee.{Float, nan, inf, fin, binary64, up, down, sum, ofBits, ofInt, minus, toSigned, toUnsigned, inUnsigned, inFloat}
+use lib.Ieee.{Float, binary64, up, down, sum, ofBits, ofInt, minus, toSigned, toUnsigned, inUnsigned, inFloat}
 use lib.Ieee.Fits.{down-pos}
 use lib.Ieee.Exact.{HasValue}
 use lib.Ieee.Back.{unsigned-back}
 use Rattle.elementary.specs.Ops.{_⊕_, float}
+use Rattle.elementary.proofs.Laws.Order.{valued, finite-by}
 use Rattle.elementary.proofs.Laws.Adding.{add-at}
 use Rattle.elementary.specs.Inside.Exp.{Whole, BiasedExponent}
 
@@ -43,10 +44,8 @@ whole-part a c n C h = rw (sym (mul-one a) ∙ h) (mul-div-cancel n C)
 
 integer : (k : Float) (s : Bool) (n : ℕ) → n ≤ 1078 → HasValue k s n 1 → toSigned 63 k ≡ minus (shifted s n) 2048
 unfolding toSigned
-integer nan s n l h = absurd h
-integer (inf t) s n l h = absurd h
-integer (fin t m e) true n l h = rw (h .0, whole-part (m * up e) (down e) n (down-pos e) (h .1), min-eq-left {n = n} {m = 2 ^ 63} (omega arith)) (sym (minus-minus n l))
-integer (fin t m e) false n l h = rw (h .0, whole-part (m * up e) (down e) n (down-pos e) (h .1), min-eq-left {n = n} {m = 2 ^ 63 - 1} (omega arith)) (sym (minus-plus n))
+integer k true n l h = elim (finite-by k h) [ valued m e i ↦ rw (whole-part (m * up e) (down e) n (down-pos e) i, min-eq-left {n = n} {m = 2 ^ 63} (omega arith)) (sym (minus-minus n l)) ]
+integer k false n l h = elim (finite-by k h) [ valued m e i ↦ rw (whole-part (m * up e) (down e) n (down-pos e) i, min-eq-left {n = n} {m = 2 ^ 63 - 1} (omega arith)) (sym (minus-plus n)) ]
 
 in-range : (s : Bool) (n : ℕ) → n ≤ 1078 → (960 ≤ shifted s n) × (shifted s n ≤ 3136)
 in-range true n l = (omega arith, omega arith)
