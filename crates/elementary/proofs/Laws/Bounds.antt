@@ -4,11 +4,12 @@ use mathlib.Core.Path.{_≡_, refl, sym, ap, _∙_, subst}
 use mathlib.Core.Bool.{Bool, true, false, not, _&&_, Bool·beq, cond}
 use mathlib.Core.Logic.{_⊎_, inl, inr}
 use Prim.Native.Nat.{ℕ, zero, suc, _+_, _-_, _*_, _^_, _≤_, _<_}
-use native.Mathlib.Nat.{le-refl, le-trans, le-of-eq, lt-of-not-le, zero-lt-suc, mul-assoc, mul-comm, mul-left-comm, mul-one, one-mul, mul-le-mul, mul-le-mul-right, le-of-mul-le-mul-right, mul-pos, mul-mul-mul-comm, suc-mul, le-of-suc-le-suc, div-le-of-le-mul, div-lt-iff-lt-mul}
+use native.Mathlib.Nat.{eq-or-lt-of-le, le-refl, le-trans, le-of-eq, lt-of-not-le, zero-lt-suc, mul-comm, mul-one, one-mul, mul-le-mul, mul-le-mul-right, le-of-mul-le-mul-right, mul-pos, suc-mul, le-of-suc-le-suc, div-le-of-le-mul, div-lt-iff-lt-mul}
 use native.Mathlib.Omega.{arith}
 use lib.Dec.{T, ltb, eqb·suc-zero, lit<, lit≤}
 use lib.Pow.{pow-add, pow-pos, pow-lt}
-use borrow.Author.Tests.{le-ltb, ltb-false}
+use native.Mathlib.Decide.{decLe}
+use borrow.Author.Tests.{lt-ltb, le-ltb}
 use lib.Ieee.{Float, inf, binary64, up, down, unlike, units, round, sum, add, sub, mul, div, neg, le, ofBits}
 use lib.Ieee.Fits.{up-pos, down-pos, round-is}
 use lib.Ieee.Exact.{HasValue, round-exact, units-val}
@@ -94,10 +95,9 @@ neg-side (sized m e h) = sized m e h
 
 pub mul-side : {x y : Float} {s t : Bool} {a b : ℕ} (c : ℕ) → Exact c → a * b ≤ c → Side x s a → Side y t b → Side (x ⊗ y) (unlike s t) c
 unfolding mul
-mul-side {s} {t} {a} {b} c C l (sized m e h) (sized n d k) =
+mul-side {s} {t} c C l (sized m e h) (sized n d k) =
     round-side (m * up e * (n * up d)) (down e * down d) c (mul-pos (down-pos e) (down-pos d)) C
-    (le-trans (mul-le-mul h k) (le-trans (le-of-eq (mul-mul-mul-comm a (down e) b (down d))) (mul-le-mul-right (down e * down d) l)))
-    (unlike s t)
+    (omega (arith, mul-le-mul h k, mul-le-mul-right (down e * down d) l)) (unlike s t)
 
 -- by a constant that is the fraction v / d
 pub mul-by : {x : Float} {s : Bool} {a : ℕ} (c : Float) (v d b : ℕ) → 0 < d → HasValue c false v d → Exact b → a * v ≤ b * d → Side x s a → AtMost (x ⊗ c) b
@@ -114,35 +114,21 @@ pub half-at-most : {x : Float} {s : Bool} (b : ℕ) → Exact b → Side x s (b 
 unfolding mul ofBits
 half-at-most {s} b B (sized m e h) = unsigned (round-side (1 * (m * up e)) (2 * down e) b (omega (arith, down-pos e)) B (omega arith) (unlike false s))
 
--- a fraction over the denominators of both operands
-share : (a c d x : ℕ) → x ≤ a * c → x * d ≤ a * (c * d)
-share a c d x h = le-trans (mul-le-mul-right d h) (le-of-eq (mul-assoc a c d))
-
-share' : (a c d x : ℕ) → x ≤ a * d → x * c ≤ a * (c * d)
-share' a c d x h = omega (arith, share a d c x h)
+-- a test between two numbers that are both bounded
+pub either : {x y : Float} {b : ℕ} (t : Bool) → AtMost x b → AtMost y b → AtMost (cond t x y) b
+either true h k = h
+either false h k = k
 
 -- whatever the signs
 pub add-at-most : {x y : Float} {s t : Bool} {a b : ℕ} (c : ℕ) → Exact c → a + b ≤ c → Side x s a → Side y t b → AtMost (x ⊕ y) c
 unfolding add sum
-add-at-most {s} {t} {a} {b} c E l (sized m e h) (sized n d k) =
-    go (Bool·beq s t) (ltb A B) (omega (arith, share a (down e) (down d) (m * up e) h, share' b (down e) (down d) (n * up d) k, mul-le-mul-right C l))
-  where
-    A : ℕ
-    A = m * up e * down d
-
-    B : ℕ
-    B = n * up d * down e
-
-    C : ℕ
-    C = down e * down d
-
-    in-bound : (u : Bool) (n : ℕ) → n ≤ c * C → AtMost (round binary64 u n C) c
-    in-bound u n l = unsigned (round-side n C c (mul-pos (down-pos e) (down-pos d)) E l u)
-
-    go : (p q : Bool) → A + B ≤ c * C → AtMost (cond p (round binary64 s (A + B) C) (cond q (round binary64 t (B - A) C) (round binary64 (s && ltb B A) (A - B) C))) c
-    go true q l = in-bound s (A + B) l
-    go false true l = in-bound t (B - A) (omega arith)
-    go false false l = in-bound (s && ltb B A) (A - B) (omega arith)
+add-at-most {s} {t} c E l (sized m e h) (sized n d k) =
+    let A = m * up e * down d in
+    let B = n * up d * down e in
+    let C = down e * down d in
+    let top : A + B ≤ c * C = omega (arith, mul-le-mul-right (down d) h, mul-le-mul-right (down e) k, mul-le-mul-right C l) in
+    let bound : (u : Bool) (n : ℕ) → n ≤ c * C → AtMost (round binary64 u n C) c = λ u n l. unsigned (round-side n C c (mul-pos (down-pos e) (down-pos d)) E l u) in
+    either (Bool·beq s t) (bound s (A + B) top) (either (ltb A B) (bound t (B - A) (omega arith)) (bound (s && ltb B A) (A - B) (omega arith)))
 
 pub sub-at-most : {x y : Float} {s t : Bool} {a b : ℕ} (c : ℕ) → Exact c → a + b ≤ c → Side x s a → Side y t b → AtMost (x ⊖ y) c
 unfolding sub
@@ -151,10 +137,9 @@ sub-at-most c C l h k = add-at-most c C l h (neg-side k)
 -- two that are not negative
 pub add-side : {x y : Float} {a b : ℕ} (c : ℕ) → Exact c → a + b ≤ c → Side x false a → Side y false b → Side (x ⊕ y) false c
 unfolding add sum
-add-side {a} {b} c C l (sized m e h) (sized n d k) =
+add-side c C l (sized m e h) (sized n d k) =
     round-side (m * up e * down d + n * up d * down e) (down e * down d) c (mul-pos (down-pos e) (down-pos d)) C
-    (omega (arith, share a (down e) (down d) (m * up e) h, share' b (down e) (down d) (n * up d) k, mul-le-mul-right (down e * down d) l))
-    false
+    (omega (arith, mul-le-mul-right (down d) h, mul-le-mul-right (down e) k, mul-le-mul-right (down e * down d) l)) false
 
 -- a sum of two that are not negative is no less than the second
 pub add-over : {x y : Float} {a b j : ℕ} → j ≤ 1074 → Side x false a → Over y j → Side (x ⊕ y) false b → Over (x ⊕ y) j
@@ -177,11 +162,10 @@ like false = refl
 pub div-side : {x y : Float} {s : Bool} {a j : ℕ} (c : ℕ) → Exact c → a * 2 ^ j ≤ c → Side x s a → Over y j → Side (x ⊘ y) s c
 unfolding div
 div-side c C l (sized m e h) (reaches zero d k) = absurd (omega (arith, down-pos d))
-div-side {s} {a} {j} c C l (sized m e h) (reaches (suc n) d k) =
-    let around : a * down e * (suc n * up d * 2 ^ j) ≡ a * 2 ^ j * (suc n * up d * down e) = simp (mul-assoc, mul-comm, mul-left-comm) in
+div-side {s} c C l (sized m e h) (reaches (suc n) d k) =
     rw (like s, eqb·suc-zero n)
     (round-side (m * up e * down d) (suc n * up d * down e) c (mul-pos (mul-pos (zero-lt-suc n) (up-pos d)) (down-pos e)) C
-    (le-trans (mul-le-mul h k) (le-trans (le-of-eq around) (mul-le-mul-right (suc n * up d * down e) l))) s)
+    (omega (arith, mul-le-mul h k, mul-le-mul-right (suc n * up d * down e) l)) s)
 
 -- ---- floor, whose sign is its argument's
 floor-size : (s : Bool) (a c b : ℕ) → 0 < c → a ≤ b * c → floorSize s a c ≤ b
@@ -203,22 +187,17 @@ floor-whole {s} {b} l (sized m e h) =
 -- ---- a number that is not above 0, and one from 0 to 1: their sum is not above 1
 pub sum-low : {x y : Float} {a : ℕ} → Exact a → Side x true a → Side y false 1 → Side (x ⊕ y) true a ⊎ Side (x ⊕ y) false 1
 unfolding add sum
-sum-low {a} C (sized m e h) (sized n d k) = go (ltb A B) (ltb B A) (ltb-false A B) (ltb-false B A)
-  where
-    A : ℕ
-    A = m * up e * down d
-
-    B : ℕ
-    B = n * up d * down e
-
-    P : ℕ
-    P = down e * down d
-
-    low : (n : ℕ) → n ≤ B → Side (round binary64 false n P) false 1
-    low n l = round-side n P 1 (mul-pos (down-pos e) (down-pos d)) (small-exact 1 (lit≤ tt)) (le-trans l (share' 1 (down e) (down d) _ k)) false
-
-    go : (p q : Bool) → (p ≡ false → B ≤ A) → (q ≡ false → A ≤ B)
-        → Side (cond p (round binary64 false (B - A) P) (round binary64 (true && q) (A - B) P)) true a ⊎ Side (cond p (round binary64 false (B - A) P) (round binary64 (true && q) (A - B) P)) false 1
-    go true q f g = inr (low (B - A) (omega arith))
-    go false true f g = inl (round-side (A - B) P a (mul-pos (down-pos e) (down-pos d)) C (le-trans (omega arith) (share a (down e) (down d) (m * up e) h)) true)
-    go false false f g = inr (low (A - B) (omega (arith, f refl, g refl)))
+sum-low {a} C (sized m e h) (sized n d k) =
+    let A = m * up e * down d in
+    let B = n * up d * down e in
+    let P = mul-pos (down-pos e) (down-pos d) in
+    let one = small-exact 1 (lit≤ tt) in
+    elim (decLe B A) [
+      | no f ↦
+          let l : A < B = lt-of-not-le f in
+          rw (lt-ltb A B l) (inr (round-side (B - A) (down e * down d) 1 P one (omega (arith, mul-le-mul-right (down e) k)) false))
+      | yes g ↦ elim (eq-or-lt-of-le g) [
+        | inl q ↦ rw (le-ltb A B g, le-ltb B A (le-of-eq (sym q))) (inr (round-side (A - B) (down e * down d) 1 P one (omega arith) false))
+        | inr l ↦ rw (le-ltb A B g, lt-ltb B A l) (inl (round-side (A - B) (down e * down d) a P C (omega (arith, mul-le-mul-right (down d) h)) true))
+      ]
+    ]

@@ -6,15 +6,15 @@ use native.Mathlib.Nat.{mul-assoc, mul-one, mul-pos, mul-le-mul-right, le-trans,
 use native.Mathlib.Omega.{arith}
 use borrow.Author.Tests.{lt-ltb}
 use lib.IntN.{pos}
-use lib.Dec.{T, lit<, lit≤, not-T, ltb→lt}
+use lib.Dec.{T, lit<, lit≤, not-T}
 use lib.Ieee.{Float, nan, inf, fin, binary64, up, down, round, neg, div, lt, le, fits, ofBits}
 use lib.Ieee.Bits.{is-true, is-false}
-use lib.Ieee.Fits.{down-pos, up-pos, mul-fits, ofInt-fits}
+use lib.Ieee.Fits.{down-pos, mul-fits, ofInt-fits}
 use lib.Ieee.Exact.{HasValue}
 use lib.Ieee.Back.{whole-unique}
 use lib.Ieee.Scale.{round-same}
 use lib.Ieee.Order.{le-of-values}
-use lib.Ieee.Positive.{num, den, positive, den-pos, own-value, positive-of-value, values-of-le, between, mul-at}
+use lib.Ieee.Positive.{num, den, positive, first-pos, den-pos, own-value, positive-of-value, values-of-le, between, mul-at}
 use Rattle.elementary.specs.Ops.{_⊗_, _⊘_, float, +0, four, sixteen}
 use Rattle.elementary.specs.Floor.{floorOf}
 use Rattle.elementary.specs.Methods.{absOf}
@@ -119,12 +119,9 @@ unfolding ofBits
 sixteen-value = (refl, refl)
 
 -- ---- the tilde
-positive-above : (z : Float) → T (positive z) → lt +0 z ≡ true
+above-zero : (z : Float) (a c : ℕ) → 0 < a → HasValue z false a c → lt +0 z ≡ true
 unfolding lt ofBits
-positive-above nan p = absurd p
-positive-above (inf s) p = absurd p
-positive-above (fin true m e) p = absurd p
-positive-above (fin false m e) p = lt-ltb (0 * 1 * down e) (m * up e * 1) (omega (arith, mul-pos (ltb→lt 0 m p) (up-pos e)))
+above-zero z a c p v = elim (finite-by z v) [ valued m e i ↦ lt-ltb (0 * 1 * down e) (m * up e * 1) (omega (arith, first-pos (m * up e) c (rw i (mul-pos p (down-pos e))))) ]
 
 pub tilde-at : {k : ℕ} {y : Float} → 1 ≤ k → k < 1024 → T (fits binary64 y) → Values k y → tildeOf y ≡ sixteenthsOf k
 unfolding tildeOf
@@ -134,9 +131,9 @@ tilde-at {k} {y} one small f h =
     let v : HasValue z false (num y * 16) (den y * 1) =
     rw (mul-at binary64 y sixteen (num y) (den y) 16 1 (h .plus) sixteen-plus (den-pos y) (omega arith) (own-value y (h .plus)) sixteen-value)
     (exact y f (h .plus) (lt-of-lt-of-le (h .high) (mul-le-mul-right (den y) (omega arith)))) in
-    let p : T (positive z) = positive-of-value z (num y * 16) (den y * 1) v (omega (arith, h .low, mul-pos one (den-pos y))) in
+    let p : 0 < num y * 16 = omega (arith, h .low, mul-pos one (den-pos y)) in
     let w = floor-value binary64 z false (num y * 16) (den y * 1) k (mul-fits binary64 y sixteen) (omega (arith, den-pos y)) v (rw (mul-one (den y)) (h .low, omega (arith, h .high))) in
-    rw (positive-above z p, whole-unique binary64 (floorOf binary64 z) (float k) false k (floor-fits binary64 z) (ofInt-fits binary64 (pos k)) w (whole-value k (omega arith)))
+    rw (above-zero z (num y * 16) (den y * 1) p v, whole-unique binary64 (floorOf binary64 z) (float k) false k (floor-fits binary64 z) (ofInt-fits binary64 (pos k)) w (whole-value k (omega arith)))
 
 pub tilde-close : {k : ℕ} {y : Float} → 1 ≤ k → k < 1024 → Close k y → tildeOf y ≡ sixteenthsOf k
 tilde-close one small c = tilde-at one small (c .of-format) (values one small c)

@@ -5,7 +5,7 @@ use mathlib.Core.Bool.{Bool, true, false, _&&_, cond}
 use mathlib.Core.List.{List, [], _∷_}
 use mathlib.Core.Logic.{_⊎_, inl, inr, ⊎-elim}
 use Prim.Native.Nat.{ℕ, zero, suc, _+_, _-_, _*_, _/_, _^_, _≤_, _<_, min}
-use native.Mathlib.Nat.{le-refl, le-trans, le-of-eq, lt-of-not-le, mul-comm, mul-right-comm, mul-one, mul-zero, mul-suc, add-zero, zero-add, mul-le-mul, mul-le-mul-left, mul-le-mul-right, le-mul-of-pos-right, mul-pos, div-le-of-le-mul, div-mul-le-self, div-lt-iff-lt-mul, le-div-iff-mul-le, le-of-mul-le-mul-right, min-le-left, pow-suc}
+use native.Mathlib.Nat.{le-refl, le-trans, le-of-eq, lt-of-not-le, mul-comm, mul-one, mul-zero, mul-suc, add-zero, zero-add, mul-le-mul, mul-le-mul-left, mul-le-mul-right, le-mul-of-pos-right, mul-pos, div-le-of-le-mul, div-mul-le-self, div-lt-iff-lt-mul, le-div-iff-mul-le, le-of-mul-le-mul-right, min-le-left, pow-suc}
 use native.Mathlib.Numerals.{add-one}
 use native.Mathlib.Omega.{arith}
 use lib.Dec.{T, leb, leb→le, lt→ltb, lit<, lit≤}
@@ -18,7 +18,7 @@ use lib.Ieee.Fits.{down-pos, and-l, and-r, mul-fits}
 use lib.Ieee.Exact.{HasValue}
 use lib.Ieee.Scale.{finite}
 use lib.Ieee.Order.{le-of-values}
-use lib.Ieee.Positive.{first-pos}
+use lib.Ieee.Positive.{num, den, positive, den-pos, own-value, first-pos}
 use lib.Ieee.Back.{round-whole}
 use Rattle.elementary.specs.Ops.{_⊕_, _⊖_, _⊗_, _⊘_, float, +0, one, two, four}
 use Rattle.elementary.specs.Floor.{floorSize}
@@ -34,7 +34,7 @@ use Rattle.elementary.proofs.Laws.Bits.{abs-fits}
 use Rattle.elementary.proofs.Laws.Values.{revalue}
 use Rattle.elementary.proofs.Laws.Adding.{sub-at}
 use Rattle.elementary.proofs.Laws.Close.{Values, tilde-at, sixteenths-value, threshold-value, four-value}
-use Rattle.elementary.proofs.Laws.Bounds.{side-finite, Exact, pow-exact, small-exact, unsigned, wider, value-side, value-over, neg-side, round-side, mul-side, square-over, add-at-most, sub-at-most, add-side, add-over, div-side, floor-side, sum-low}
+use Rattle.elementary.proofs.Laws.Bounds.{side-finite, Exact, pow-exact, small-exact, unsigned, wider, value-side, value-over, neg-side, round-side, mul-side, square-over, add-at-most, sub-at-most, add-side, add-over, div-side, floor-side, sum-low, either}
 
 whole-over : (n : ℕ) → suc n ≤ 2 ^ 53 → Over (float (suc n)) 0
 unfolding ofInt
@@ -90,13 +90,9 @@ power-low (inr (sized m e h)) =
 
 scaled-at-most : {p : Float} {s : Bool} {b : ℕ} (k : ℤ) (c : ℕ) → Exact c → b * 2 ≤ c → up k ≤ 2 → Side p s b → AtMost (scaled binary64 p k) c
 unfolding scaled
-scaled-at-most {s} {b} k c C l u (sized m e h) =
-    unsigned
-    (round-side (m * up e * up k) (down e * down k) c (mul-pos (down-pos e) (down-pos k)) C
-    (le-trans (mul-le-mul h u)
-    (le-trans (le-of-eq (mul-right-comm b (down e) 2))
-    (le-trans (mul-le-mul-right (down e) l) (mul-le-mul-left c (le-mul-of-pos-right (down e) (down-pos k))))))
-    s)
+scaled-at-most {s} k c C l u (sized m e h) =
+    unsigned (round-side (m * up e * up k) (down e * down k) c (mul-pos (down-pos e) (down-pos k)) C
+    (omega (arith, mul-le-mul h u, mul-le-mul-right (down e) l, mul-le-mul-left c (le-mul-of-pos-right (down e) (down-pos k)))) s)
 
 -- ---- exp of a y that is not above 0
 not-large : {y : Float} {b : ℕ} → Side y true b → lt LARGEST y ≡ false
@@ -114,18 +110,13 @@ exp-at-most {y} h = rw (equal-itself y (side-finite h), not-large h) (go (lt y L
         (sum-at-most 13 0 (expR y) one (lit≤ tt) (lit< tt) (r-at-most h) (unsigned (sized _ _ (lit≤ tt))) .side)
 
 -- ---- Cody's rationals. None of their numbers is negative
-below : ℕ → Float → Bool
-below b nan = false
-below b (inf s) = false
-below b (fin true m e) = false
-below b (fin false m e) = leb (m * up e) (b * down e)
+abbrev below : ℕ → Float → Bool
+below b x = positive x && leb (num x) (b * den x)
 
 by-test : {x : Float} {b : ℕ} → T (below b x) → Side x false b
-unfolding below
-by-test {x = nan} t = absurd t
-by-test {x = inf s} t = absurd t
-by-test {x = fin true m e} t = absurd t
-by-test {x = fin false m e} {b} t = sized m e (leb→le (m * up e) (b * down e) t)
+by-test {x} {b} t =
+    let small = leb (num x) (b * den x) in
+    value-side (num x) (den x) b (den-pos x) (own-value x (and-l (positive x) small t)) (leb→le (num x) (b * den x) (and-r (positive x) small t))
 
 -- every number of the six tables is below this
 abbrev TOP : ℕ
@@ -168,7 +159,7 @@ rational i k j q a b d e hn hv hy hc ho =
 
 module _ {z : Float} (h : Side z false (2 ^ 0)) where
   ab-side : Side (abOf z) false (2 ^ 17)
-  unfolding ofBits below poly all-below
+  unfolding ofBits poly all-below
   ab-side =
       rational 17 16 0 0 (lit< tt) (lit< tt) (lit≤ tt) (lit≤ tt)
       (poly-side (A 0 ∷ A 1 ∷ A 2 ∷ A 3 ∷ []) {w = A 4} 13 0 (lit< tt) (lit≤ tt) (by-test tt) h tt)
@@ -176,7 +167,7 @@ module _ {z : Float} (h : Side z false (2 ^ 0)) where
       h (by-test {x = B 3} tt) (reaches _ _ (lit≤ tt))
 
   pq-side : Side (pqOf z) false (2 ^ 27)
-  unfolding ofBits below poly all-below
+  unfolding ofBits poly all-below
   pq-side =
       rational 18 17 0 9 (lit< tt) (lit< tt) (lit≤ tt) (lit≤ tt)
       (mul-side (2 ^ 18) (pow-exact 18 (lit< tt)) (lit≤ tt) h (poly-side (P 0 ∷ P 1 ∷ P 2 ∷ P 3 ∷ P 4 ∷ []) {w = P 5} 13 0 (lit< tt) (lit≤ tt) (by-test tt) h tt))
@@ -184,7 +175,7 @@ module _ {z : Float} (h : Side z false (2 ^ 0)) where
       h (by-test {x = Q 4} tt) (reaches _ _ (lit≤ tt))
 
 cd-side : {y : Float} → Side y false (2 ^ 2) → Side (cdOf y) false (2 ^ 37)
-unfolding ofBits below poly all-below
+unfolding ofBits poly all-below
 cd-side h =
     rational 37 32 2 0 (lit< tt) (lit< tt) (lit≤ tt) (lit≤ tt)
     (poly-side (C 0 ∷ C 1 ∷ C 2 ∷ C 3 ∷ C 4 ∷ C 5 ∷ C 6 ∷ C 7 ∷ []) {w = C 8} 13 2 (lit< tt) (lit≤ tt) (by-test tt) h tt)
@@ -245,11 +236,6 @@ above-threshold m e l = go (le y four) refl
         let z = div-side {a = 1} {j = 0} (2 ^ 0) (pow-exact 0 (lit< tt)) (lit≤ tt) (sized _ _ (lit≤ tt)) (square-over over (small-exact 1521 (lit≤ tt)) (sized m e l)) in
         let top = sub-at-most {a = 1} (2 ^ 28) (pow-exact 28 (lit< tt)) (lit≤ tt) (sized _ _ (lit≤ tt)) (pq-side z) in
         unsigned (div-side {j = 0} (2 ^ 37) (pow-exact 37 (lit< tt)) (lit≤ tt) (top .side) over)
-
--- a test between two numbers that are both bounded
-either : {x y : Float} {b : ℕ} (t : Bool) → AtMost x b → AtMost y b → AtMost (cond t x y) b
-either true h k = h
-either false h k = k
 
 outside-at-most : (set : RuleSet) (m : ℕ) (e : ℤ) → T (fits binary64 (fin false m e)) → m * up e ≤ 39 * down e → 15 * down e < m * up e * 32 → AtMost (erfcAbs set (fin false m e)) (2 ^ 481)
 unfolding erfcAbs ofBits
