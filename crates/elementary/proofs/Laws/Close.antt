@@ -1,6 +1,6 @@
 -- Numbers that lie in one sixteenth: their tilde, and where they stand among the borders of erfc's regions. Assumes nothing.
 use mathlib.Core.Path.{_≡_, refl, sym, _∙_}
-use mathlib.Core.Bool.{Bool, true, false, _&&_, true≢false}
+use mathlib.Core.Bool.{true, false, _&&_}
 use Prim.Native.Nat.{ℕ, zero, suc, _+_, _*_, _^_, _≤_, _<_}
 use native.Mathlib.Nat.{mul-assoc, mul-one, mul-pos, mul-le-mul-right, le-trans, lt-of-lt-of-le, lt-of-le-of-lt, lt-of-not-le, lt-irrefl}
 use native.Mathlib.Omega.{arith}
@@ -9,7 +9,7 @@ use lib.IntN.{pos}
 use lib.Dec.{T, lit<, lit≤, not-T}
 use lib.Ieee.{Float, nan, inf, fin, binary64, up, down, round, neg, div, lt, le, fits, ofBits}
 use lib.Ieee.Bits.{is-true, is-false}
-use lib.Ieee.Fits.{down-pos, mul-fits, ofInt-fits}
+use lib.Ieee.Fits.{and-l, and-r, down-pos, mul-fits, ofInt-fits}
 use lib.Ieee.Exact.{HasValue}
 use lib.Ieee.Back.{whole-unique}
 use lib.Ieee.Scale.{round-same}
@@ -32,39 +32,21 @@ use Rattle.elementary.proofs.Laws.Compare.{not-le-of-lt}
 use Rattle.elementary.proofs.Laws.Greatest.{floor-value, floor-fits}
 
 -- ---- the test
-both-left : (a b : Bool) → (a && b) ≡ true → a ≡ true
-both-left true b h = refl
-both-left false b h = h
-
-both-right : (a b : Bool) → (a && b) ≡ true → b ≡ true
-both-right true b h = h
-both-right false b h = absurd (true≢false (sym h))
-
-eight-true : (a b c d e f g h : Bool) → (a && b && c && d && e && f && g && h) ≡ true → (a ≡ true) × (b ≡ true) × (c ≡ true) × (d ≡ true) × (e ≡ true) × (f ≡ true) × (g ≡ true) × (h ≡ true)
-eight-true a b c d e f g h q =
-    let n6 = both-left (a && b && c && d && e && f && g) h q in
-    let n5 = both-left (a && b && c && d && e && f) g n6 in
-    let n4 = both-left (a && b && c && d && e) f n5 in
-    let n3 = both-left (a && b && c && d) e n4 in
-    let n2 = both-left (a && b && c) d n3 in
-    let n1 = both-left (a && b) c n2 in
-    (both-left a b n1, both-right (a) b n1, both-right (a && b) c n2, both-right (a && b && c) d n3, both-right (a && b && c && d) e n4, both-right (a && b && c && d && e) f n5, both-right (a && b && c && d && e && f) g n6, both-right (a && b && c && d && e && f && g) h q)
-
 size-fits : (x : Float) {w y : Float} → w ≡ argumentOf x → y ≡ absOf w → T (fits binary64 y)
 size-fits x p q = rw (q, p) (abs-fits (argumentOf x) (mul-fits binary64 (neg x) FRAC-1-SQRT-2))
 
 pub all-close : (k : ℕ) {x w y : Eight} {a b : Float} → Each argumentOf x w → Each absOf w y → a ≡ sixteenthsOf k → b ≡ sixteenthsOf (k + 1) → allBetween a b y ≡ true → All (Close k) y
 all-close k {x} {w} {y} {a} {b} p s ea eb q =
-    let t = eight-true (isBetween a b (y .x0)) (isBetween a b (y .x1)) (isBetween a b (y .x2)) (isBetween a b (y .x3)) (isBetween a b (y .x4)) (isBetween a b (y .x5)) (isBetween a b (y .x6)) (isBetween a b (y .x7)) q in
+    let t : T (allBetween a b y) = rw q tt in
     record {
-      at0 = record { test = rw (← ea, ← eb) (t .0); of-format = size-fits (x .x0) (p .at0) (s .at0) };
-      at1 = record { test = rw (← ea, ← eb) (t .1); of-format = size-fits (x .x1) (p .at1) (s .at1) };
-      at2 = record { test = rw (← ea, ← eb) (t .2); of-format = size-fits (x .x2) (p .at2) (s .at2) };
-      at3 = record { test = rw (← ea, ← eb) (t .3); of-format = size-fits (x .x3) (p .at3) (s .at3) };
-      at4 = record { test = rw (← ea, ← eb) (t .4); of-format = size-fits (x .x4) (p .at4) (s .at4) };
-      at5 = record { test = rw (← ea, ← eb) (t .5); of-format = size-fits (x .x5) (p .at5) (s .at5) };
-      at6 = record { test = rw (← ea, ← eb) (t .6); of-format = size-fits (x .x6) (p .at6) (s .at6) };
-      at7 = record { test = rw (← ea, ← eb) (t .7); of-format = size-fits (x .x7) (p .at7) (s .at7) };
+      at0 = record { test = rw (← ea, ← eb) (is-true (isBetween a b (y .x0)) (search (and-l, and-r) depth 9)); of-format = size-fits (x .x0) (p .at0) (s .at0) };
+      at1 = record { test = rw (← ea, ← eb) (is-true (isBetween a b (y .x1)) (search (and-l, and-r) depth 9)); of-format = size-fits (x .x1) (p .at1) (s .at1) };
+      at2 = record { test = rw (← ea, ← eb) (is-true (isBetween a b (y .x2)) (search (and-l, and-r) depth 9)); of-format = size-fits (x .x2) (p .at2) (s .at2) };
+      at3 = record { test = rw (← ea, ← eb) (is-true (isBetween a b (y .x3)) (search (and-l, and-r) depth 9)); of-format = size-fits (x .x3) (p .at3) (s .at3) };
+      at4 = record { test = rw (← ea, ← eb) (is-true (isBetween a b (y .x4)) (search (and-l, and-r) depth 9)); of-format = size-fits (x .x4) (p .at4) (s .at4) };
+      at5 = record { test = rw (← ea, ← eb) (is-true (isBetween a b (y .x5)) (search (and-l, and-r) depth 9)); of-format = size-fits (x .x5) (p .at5) (s .at5) };
+      at6 = record { test = rw (← ea, ← eb) (is-true (isBetween a b (y .x6)) (search (and-l, and-r) depth 9)); of-format = size-fits (x .x6) (p .at6) (s .at6) };
+      at7 = record { test = rw (← ea, ← eb) (is-true (isBetween a b (y .x7)) (search (and-l, and-r) depth 9)); of-format = size-fits (x .x7) (p .at7) (s .at7) };
     }
 
 -- ---- k / 16 is exact
@@ -89,11 +71,12 @@ unfolding le
 values {k} {y} one small h =
     let a = sixteenthsOf k in
     let b = sixteenthsOf (k + 1) in
-    let under = both-right (le a y) (lt y b) (h .test) in
+    let test : T (le a y && lt y b) = rw (h .test) tt in
+    let under = is-true (lt y b) (and-r (le a y) (lt y b) test) in
     let va = sixteenths-value k (omega arith) in
     let vb = sixteenths-value (k + 1) (omega arith) in
     let pa = positive-of-value a k 16 va (omega arith) in
-    let from : T (le a y) = rw (both-left (le a y) (lt y b) (h .test)) tt in
+    let from = and-l (le a y) (lt y b) test in
     let py = between a y b pa (positive-of-value b (k + 1) 16 vb (omega arith)) from (rw under tt) in
     record {
       plus = py;

@@ -87,10 +87,7 @@ module _ (x : Float) (F : T (fits binary64 x)) where
 
 -- ---- the digits of a subnormal value
 pub far-up : (t z : ℕ) → t < 2 ^ 52 → LeadingZeros t z → 12 ≤ z
-far-up t z h L = le-of-suc-le-suc (lt-of-not-le (λ (g : suc z ≤ 12). not-le-of-lt (lt-of-lt-of-le (shl-lt 52 z h) (pow-mono (room z g))) (L .low)))
-  where
-    room : (z : ℕ) → suc z ≤ 12 → 52 + z ≤ 63
-    room z g = omega arith
+far-up t z h L = le-of-suc-le-suc (lt-of-not-le (λ (g : suc z ≤ 12). not-le-of-lt (lt-of-lt-of-le (shl-lt 52 z h) (pow-mono {i = 52 + z} {j = 63} (omega arith))) (L .low)))
 
 module _ (t z : ℕ) (h : t < 2 ^ 52) (L : LeadingZeros t z) where
   split : t * 2 ^ z ≡ t * 2 ^ (z - 11) * 2 ^ 11

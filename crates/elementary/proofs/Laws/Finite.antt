@@ -5,7 +5,7 @@ use mathlib.Core.Bool.{Bool, true, false, _&&_, cond}
 use mathlib.Core.List.{List, [], _∷_}
 use mathlib.Core.Logic.{_⊎_, inl, inr, ⊎-elim}
 use Prim.Native.Nat.{ℕ, zero, suc, _+_, _-_, _*_, _/_, _^_, _≤_, _<_, min}
-use native.Mathlib.Nat.{le-refl, le-trans, le-of-eq, lt-of-not-le, mul-comm, mul-one, mul-zero, mul-suc, add-zero, zero-add, mul-le-mul, mul-le-mul-left, mul-le-mul-right, le-mul-of-pos-right, mul-pos, div-le-of-le-mul, div-mul-le-self, div-lt-iff-lt-mul, le-div-iff-mul-le, le-of-mul-le-mul-right, min-le-left, pow-suc}
+use native.Mathlib.Nat.{le-refl, le-trans, le-of-eq, lt-of-not-le, mul-comm, mul-one, mul-zero, mul-suc, add-zero, zero-add, mul-le-mul, mul-le-mul-left, mul-le-mul-right, le-mul-of-pos-right, mul-pos, div-le-of-le-mul, div-mul-le-self, div-lt-iff-lt-mul, le-div-iff-mul-le, le-of-mul-le-mul-right, min-le-left}
 use native.Mathlib.Numerals.{add-one}
 use native.Mathlib.Omega.{arith}
 use lib.Dec.{T, leb, leb→le, lt→ltb, lit<, lit≤}
@@ -101,13 +101,11 @@ not-large (sized m e h) = refl
 
 exp-at-most : {y : Float} → Side y true (2 ^ 12) → AtMost (expOf y) (2 ^ 222)
 unfolding expOf expInner ofBits
-exp-at-most {y} h = rw (equal-itself y (side-finite h), not-large h) (go (lt y LEAST))
-  where
-    go : (b : Bool) → AtMost (cond b +0 (scaled binary64 (expSum 13 (expR y) one) (toSigned 63 (expK y)))) (2 ^ 222)
-    go true = unsigned (sized _ _ (lit≤ tt))
-    go false =
-        scaled-at-most (toSigned 63 (expK y)) (2 ^ 222) (pow-exact 222 (lit< tt)) (lit≤ {m = 2 ^ 221 * 2} tt) (power-low (k-side h))
-        (sum-at-most 13 0 (expR y) one (lit≤ tt) (lit< tt) (r-at-most h) (unsigned (sized _ _ (lit≤ tt))) .side)
+exp-at-most {y} h =
+    rw (equal-itself y (side-finite h), not-large h)
+    (either (lt y LEAST) (unsigned (sized _ _ (lit≤ tt)))
+    (scaled-at-most (toSigned 63 (expK y)) (2 ^ 222) (pow-exact 222 (lit< tt)) (lit≤ {m = 2 ^ 221 * 2} tt) (power-low (k-side h))
+    (sum-at-most 13 0 (expR y) one (lit≤ tt) (lit< tt) (r-at-most h) (unsigned (sized _ _ (lit≤ tt))) .side)))
 
 -- ---- Cody's rationals. None of their numbers is negative
 abbrev below : ℕ → Float → Bool
@@ -124,12 +122,8 @@ TOP = 2 ^ 13
 
 horner : {w y c : Float} (i j : ℕ) → i + j < 1023 → 13 ≤ i + j → Side w false (2 ^ i) → Side y false (2 ^ j) → Side c false TOP → Side (w ⊗ y ⊕ c) false (2 ^ suc (i + j))
 horner i j l k h y c =
-    add-side (2 ^ suc (i + j)) (pow-exact (suc (i + j)) (omega arith)) (room (pow-suc 2 (i + j)) (pow-mono {i = 13} {j = i + j} k))
-    (mul-side (2 ^ (i + j)) (pow-exact (i + j) (omega arith)) (le-of-eq (sym (pow-add 2 i j))) h y)
-    c
-  where
-    room : {p q : ℕ} → q ≡ p * 2 → TOP ≤ p → p + TOP ≤ q
-    room a b = omega arith
+    add-side (2 ^ suc (i + j)) (pow-exact (suc (i + j)) (omega arith)) (omega (arith, pow-mono {i = 13} {j = i + j} k))
+    (mul-side (2 ^ (i + j)) (pow-exact (i + j) (omega arith)) (le-of-eq (sym (pow-add 2 i j))) h y) c
 
 -- the Horner steps from w over a list of coefficients
 poly : Float → List Float → Float → Float

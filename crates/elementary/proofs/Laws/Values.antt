@@ -5,13 +5,14 @@ use mathlib.Core.Bool.{Bool, true, false, cond}
 use Prim.Native.Nat.{ℕ, suc, _+_, _-_, _*_, _/_, _%_, _^_, _≤_, _<_}
 use native.Mathlib.Nat.{mul-one, eq-of-mul-eq-mul-right, eq-or-lt-of-le, eq-zero-or-pos}
 use native.Mathlib.Omega.{arith}
-use lib.Dec.{T, leb, eqb, eqb→eq, le→leb, not-T}
+use lib.Dec.{T, leb, le→leb}
+use borrow.Author.Tests.{ne-eqb}
 use lib.IntN.{pos}
 use lib.Arith.{lt→nleb}
-use lib.Ieee.{Float, nan, inf, binary64, up, down, odd, fits, ofFields, ofBits, ofInt, inFloat}
+use lib.Ieee.{Float, inf, binary64, up, down, fits, ofFields, ofBits, ofInt, inFloat}
 use lib.Ieee.Back.{round-whole}
 use lib.Ieee.Exact.{HasValue, odd-sign}
-use lib.Ieee.Bits.{is-true, is-false, cond-no}
+use lib.Ieee.Bits.{is-true, is-false}
 use Rattle.elementary.specs.Ops.{float}
 use Rattle.elementary.proofs.Laws.Order.{valued, finite-by}
 use Rattle.elementary.proofs.Laws.Places.{place-of, sign-of, is-number, same-value}
@@ -50,9 +51,7 @@ pub value-mid : (b k : ℕ) → b % 2 ^ 63 / 2 ^ 52 ≡ suc k → k < 2046 → H
 unfolding ofFields
 value-mid b k e l =
     let s = leb (2 ^ 63) b in
-    let t = b % 2 ^ 52 in
-    rw (fields b (suc k) t e refl, cond-no (eqb (suc k) 2047) (cond (eqb t 0) (inf s) nan) (odd 53 s (2 ^ 52 + t) k 1074) (not-T (eqb (suc k) 2047) (λ v. let i = eqb→eq (suc k) 2047 v in omega arith)))
-    (odd-sign 53 s (2 ^ 52 + t) k 1074)
+    rw (fields b (suc k) (b % 2 ^ 52) e refl, ne-eqb (suc k) 2047 (λ (i : suc k ≡ 2047). omega arith)) (odd-sign 53 s (2 ^ 52 + b % 2 ^ 52) k 1074)
 
 -- an infinity's
 pub value-inf : (b : ℕ) → b % 2 ^ 63 ≡ 2047 * 2 ^ 52 → ofBits binary64 b ≡ inf (leb (2 ^ 63) b)
