@@ -19,6 +19,13 @@ le-of-not-lt (fin s m e) nan f g h = absurd g
 le-of-not-lt (fin s m e) (inf t) f g h = absurd g
 le-of-not-lt (fin s m e) (fin t n d) f g h = is-true _ (le→test t _ s _ (not-below s (m * up e * down d) t (n * up d * down e) h))
 
+pub lt-of-not-le : (x y : Float) → T (finite x) → T (finite y) → le y x ≡ false → lt x y ≡ true
+lt-of-not-le x y f g h = is-true (lt x y) (T-of-not (lt x y) (λ n. true≢false (sym (le-of-not-lt x y f g n) ∙ h)))
+  where
+    T-of-not : (b : Bool) → (b ≡ false → ⊥) → T b
+    T-of-not true n = tt
+    T-of-not false n = n refl
+
 -- what is below a number is not above it, nor equal to it
 pub not-le-of-lt : (x y : Float) → lt x y ≡ true → le y x ≡ false
 unfolding le lt eq

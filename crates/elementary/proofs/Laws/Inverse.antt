@@ -1,6 +1,6 @@
 -- Document 01's sentence on the inverse cdf, "Then cdf(lo) < p ≤ cdf(hi)": the 64 steps end with p between the cdf's values at the two ends, for every
 -- p strictly between 0 and 1 and under every rule set. The cdf need not be monotone for it. Assumes nothing.
-use mathlib.Core.Path.{_≡_, refl, sym, _∙_}
+use mathlib.Core.Path.{_≡_, refl, sym}
 use mathlib.Core.Bool.{Bool, true, false, cond, true≢false}
 use Prim.Native.Nat.{ℕ, zero, suc}
 use lib.Dec.{T, lit≤}
@@ -16,7 +16,7 @@ use Rattle.elementary.specs.NormalDistribution.{cdfOf, midOf, bisectionE
 use Rattle.elementary.proofs.Laws.Bounds.{side-finite, unsigned, small-exact, half-at-most, add-at-most}
 use Rattle.elementary.specs.Promises.{Brackets}
 use Rattle.elementary.specs.Inside.Bounds.{AtMost, sized}
-use Rattle.elementary.proofs.Laws.Compare.{lt-asym, le-of-not-lt, not-le-of-lt, not-lt-of-not-le, equal-itself}
+use Rattle.elementary.proofs.Laws.Compare.{lt-asym, lt-of-not-le, le-of-not-lt, not-le-of-lt, not-lt-of-not-le, equal-itself}
 use Rattle.elementary.proofs.Laws.Finite.{cdf-at-most}
 
 -- a p strictly between 0 and 1 is finite, and no end of the inverse's range
@@ -64,11 +64,7 @@ unfolding ne eq le lt ofBits
 positive nan n h = absurd (true≢false n)
 positive (inf true) n h = absurd (true≢false h)
 positive (inf false) n h = refl
-positive (fin s m e) n h = go (lt +0 (fin s m e)) refl
-  where
-    go : (b : Bool) → lt +0 (fin s m e) ≡ b → lt +0 (fin s m e) ≡ true
-    go true t = t
-    go false t = absurd (true≢false (sym (le-of-not-lt +0 (fin s m e) tt tt t) ∙ h))
+positive (fin s m e) n h = lt-of-not-le +0 (fin s m e) tt tt h
 
 pub lowest-under : (set : RuleSet) (p : Float) → ne p p ≡ false → le p +0 ≡ false → lt (cdfOf set lowest) p ≡ true
 lowest-under set p n h = rw (at-ends set .0) (positive p n h)

@@ -1,5 +1,5 @@
 -- The values of a format as whole numbers of its smallest value: their digits, their range, the last digit, and that a sign and a place make one value. Assumes nothing.
-use mathlib.Core.Path.{_≡_, refl, sym, ap, _∙_, subst}
+use mathlib.Core.Path.{_≡_, refl, sym, ap, _∙_}
 use mathlib.Core.Bool.{Bool, true, false, not, cond}
 use mathlib.Core.Logic.{inl, inr}
 use Prim.Native.Nat.{ℕ, zero, suc, _+_, _-_, _*_, _/_, _%_, _^_, _≤_, _<_}
@@ -50,19 +50,17 @@ module _ (p w : ℕ) (P : 2 ≤ p) where
 
   -- no number of p digits lies between q and the next
   pub gap : (v : ℕ) → InDigits p v → q * 2 ^ k < v → suc q * 2 ^ k ≤ v
-  gap v d l = go (decLe k (d .1))
-    where
-      go : Dec (k ≤ d .1) → suc q * 2 ^ k ≤ v
-      go (yes h) =
-          let c = d .0 * 2 ^ (d .1 - k) in
-          let e : v ≡ c * 2 ^ k = d .3 ∙ ap (λ (z : ℕ). d .0 * z) (pow-split k (d .1) h) ∙ sym (mul-assoc (d .0) (2 ^ (d .1 - k)) (2 ^ k)) in
-          let i : q * 2 ^ k < c * 2 ^ k = subst (λ (z : ℕ). q * 2 ^ k < z) e l in
-          le-trans (mul-le-mul-right (2 ^ k) (lt-of-mul-lt-mul-right (2 ^ k) i)) (le-of-eq (sym e))
-      go (no h) =
-          let i : p + d .1 ≤ p - 1 + k = omega arith in
-          let u : v < 2 ^ (p - 1 + k) = lt-of-lt-of-le (lt-of-le-of-lt (le-of-eq (d .3)) (shl-lt p (d .1) (d .2))) (pow-mono i) in
-          let x : 2 ^ (p - 1 + k) ≤ q * 2 ^ k = rw pow-add (mul-le-mul-right (2 ^ k) (full (omega arith))) in
-          absurd (not-le-of-lt l (le-of-lt (lt-of-lt-of-le u x)))
+  gap v d l =
+      elim (decLe k (d .1)) [
+        | yes h ↦
+            let c = d .0 * 2 ^ (d .1 - k) in
+            let e : v ≡ c * 2 ^ k = d .3 ∙ ap (λ (z : ℕ). d .0 * z) (pow-split k (d .1) h) ∙ sym (mul-assoc (d .0) (2 ^ (d .1 - k)) (2 ^ k)) in
+            rw e (mul-le-mul-right (2 ^ k) (lt-of-mul-lt-mul-right (2 ^ k) {m = q} {n = c} (rw e at l)))
+        | no h ↦
+            let u : v < 2 ^ (p - 1 + k) = rw (d .3) (lt-of-lt-of-le (shl-lt p (d .1) (d .2)) (pow-mono (omega arith))) in
+            let x : 2 ^ (p - 1 + k) ≤ q * 2 ^ k = rw pow-add (mul-le-mul-right (2 ^ k) (full (omega arith))) in
+            absurd (not-le-of-lt l (le-of-lt (lt-of-lt-of-le u x)))
+      ]
 
   pub lower : (v : ℕ) → InDigits p v → v < suc q * 2 ^ k → v ≤ q * 2 ^ k
   lower v d l = let n : q * 2 ^ k < v → ⊥ = λ g. not-le-of-lt l (gap v d g) in omega arith

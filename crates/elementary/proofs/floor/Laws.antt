@@ -74,10 +74,6 @@ floor-small-negative b minus w l =
     floor-is b _ true (z .0) (2 ^ 1074) 1 (neg-fits binary64 _ (ofBits-fits binary64 0x3ff0_0000_0000_0000)) (pow-pos 1074) v
     (floor-one (z .0) (2 ^ 1074) (z .2 (omega arith)) (z .1)) (refl, refl)
 
-pub floor-minus-zero : neg (ofBits binary64 0) ≡ floorOf binary64 (ofBits binary64 (2 ^ 63))
-unfolding neg ofBits floorOf
-floor-minus-zero = refl
-
 -- ---- from 1 to 2 ^ 52: the last digits are cut off
 cut-off : (P Q q u c : ℕ) → P ≡ Q * u → c ≡ P + q → c - c % u ≡ P + q / u * u
 cut-off P Q q u c e h =

@@ -39,10 +39,7 @@ sub-float-of-fields : tie.Need-sub-float-of-fields
 sub-float-of-fields c = digits (c .before) .lead
 
 float-of-fields-requires : tie.Need-float-of-fields-requires
-float-of-fields-requires c κs = (lit< tt, (lit< tt, under (c .before .parts-of .result .m) (digits (c .before) .lead) (digits (c .before) .top)))
-  where
-    under : (m : ℕ) → 2 ^ 52 ≤ m → m < 2 ^ 53 → m - 2 ^ 52 < 2 ^ 52
-    under m h k = omega arith
+float-of-fields-requires c κs = let g = digits (c .before) in (lit< tt, (lit< tt, omega arith))
 
 sub-place : tie.Need-sub-place
 sub-place c = digits (c .before .before .before) .least
