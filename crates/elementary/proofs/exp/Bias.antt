@@ -58,14 +58,11 @@ module _ (k : Float) (w : Whole k) where
   high : e ≤ 3136
   high = in-range (w .sign) (w .size) (w .small) .1
 
-  cast : T (inUnsigned binary64 64 (k ⊕ bias)) × (toUnsigned 64 (k ⊕ bias) ≡ e)
+  pub cast : T (inUnsigned binary64 64 (k ⊕ bias)) × (toUnsigned 64 (k ⊕ bias) ≡ e)
   unfolding inFloat
   cast =
       rw (plus-bias k (w .sign) (w .size) (w .small) (w .value))
       (unsigned-back binary64 64 e (le→leb e (2 ^ 53) (le-trans high (lit≤ tt))) (lt-of-le-of-lt high (lit< tt)))
-
-  pub whole-bias : T (inUnsigned binary64 64 (k ⊕ bias))
-  whole-bias = cast .0
 
   pub biased : BiasedExponent k (toUnsigned 64 (k ⊕ bias))
   biased =
