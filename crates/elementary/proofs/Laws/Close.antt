@@ -2,7 +2,7 @@
 use mathlib.Core.Path.{_≡_, refl, sym, _∙_}
 use mathlib.Core.Bool.{true, false, _&&_}
 use Prim.Native.Nat.{ℕ, zero, suc, _+_, _*_, _^_, _≤_, _<_}
-use native.Mathlib.Nat.{mul-assoc, mul-one, mul-pos, mul-le-mul-right, le-trans, lt-of-lt-of-le, lt-of-le-of-lt, lt-of-not-le, lt-irrefl}
+use native.Mathlib.Nat.{mul-assoc, mul-one, mul-pos, mul-le-mul-right, le-trans, lt-of-lt-of-le, lt-of-le-of-lt, lt-of-not-le, not-le-of-lt}
 use native.Mathlib.Omega.{arith}
 use borrow.Author.Tests.{lt-ltb}
 use lib.IntN.{pos}
@@ -25,10 +25,10 @@ use Rattle.elementary.specs.Inside.Each.{Each, All}
 use Rattle.elementary.specs.Inside.Cdf.{sixteenthsOf, argumentOf, isBetween, allBetween, Close, Between}
 use Rattle.elementary.proofs.Laws.Bits.{abs-fits}
 use Rattle.elementary.proofs.Laws.Held.{holds}
-use Rattle.elementary.proofs.Laws.Order.{valued, finite-by}
+use Rattle.elementary.proofs.Laws.Order.{valued, finite-by, le→fractions}
 use Rattle.elementary.proofs.Laws.Places.{in-units, exact-under}
 use Rattle.elementary.proofs.Laws.Values.{whole-value}
-use Rattle.elementary.proofs.Laws.Compare.{not-le-of-lt}
+use Rattle.elementary.proofs.Laws.Compare as compare
 use Rattle.elementary.proofs.Laws.Greatest.{floor-value, floor-fits}
 
 -- ---- the test
@@ -81,7 +81,7 @@ values {k} {y} one small h =
     record {
       plus = py;
       low = values-of-le a y k 16 (num y) (den y) pa py va (own-value y py) from;
-      high = lt-of-not-le (λ (g : (k + 1) * den y ≤ num y * 16). rw (not-le-of-lt y b under) at (le-of-values b y (k + 1) 16 (num y) (den y) (omega arith) (den-pos y) vb (own-value y py) g));
+      high = lt-of-not-le (λ (g : (k + 1) * den y ≤ num y * 16). rw (compare.not-le-of-lt y b under) at (le-of-values b y (k + 1) 16 (num y) (den y) (omega arith) (den-pos y) vb (own-value y py) g));
     }
 
 -- ---- y × 16 is exact
@@ -97,22 +97,17 @@ exact (fin false (suc m) e) f p l =
     (rw mul-one (lt-of-lt-of-le l (mul-le-mul-right (down e) (lit≤ tt))))
     (rw (mul-one (down e), mul-assoc (suc m) (2 ^ j .0) (down e), ← j .1) (mul-assoc (suc m * up e) 16 (2 ^ 1074) ∙ mul-assoc (suc m) (up e) (2 ^ 1078)))
 
-sixteen-value : HasValue sixteen false 16 1
-unfolding ofBits
-sixteen-value = (refl, refl)
-
 -- ---- the tilde
 above-zero : (z : Float) (a c : ℕ) → 0 < a → HasValue z false a c → lt +0 z ≡ true
 unfolding lt ofBits
 above-zero z a c p v = elim (finite-by z v) [ valued m e i ↦ lt-ltb (0 * 1 * down e) (m * up e * 1) (omega (arith, first-pos (m * up e) c (rw i (mul-pos p (down-pos e))))) ]
 
 pub tilde-at : {k : ℕ} {y : Float} → 1 ≤ k → k < 1024 → T (fits binary64 y) → Values k y → tildeOf y ≡ sixteenthsOf k
-unfolding tildeOf
+unfolding tildeOf ofBits
 tilde-at {k} {y} one small f h =
     let z = y ⊗ sixteen in
-    let sixteen-plus = positive-of-value sixteen 16 1 sixteen-value (omega arith) in
     let v : HasValue z false (num y * 16) (den y * 1) =
-    rw (mul-at binary64 y sixteen (num y) (den y) 16 1 (h .plus) sixteen-plus (den-pos y) (omega arith) (own-value y (h .plus)) sixteen-value)
+    rw (mul-at binary64 y sixteen (num y) (den y) 16 1 (h .plus) tt (den-pos y) (omega arith) (own-value y (h .plus)) (refl, refl))
     (exact y f (h .plus) (lt-of-lt-of-le (h .high) (mul-le-mul-right (den y) (omega arith)))) in
     let p : 0 < num y * 16 = omega (arith, h .low, mul-pos one (den-pos y)) in
     let w = floor-value binary64 z false (num y * 16) (den y * 1) k (mul-fits binary64 y sixteen) (omega (arith, den-pos y)) v (rw (mul-one (den y)) (h .low, omega (arith, h .high))) in
@@ -122,35 +117,36 @@ pub tilde-close : {k : ℕ} {y : Float} → 1 ≤ k → k < 1024 → Close k y �
 tilde-close one small c = tilde-at one small (c .of-format) (values one small c)
 
 -- ---- the regions
-pub threshold-value : HasValue THRESHOLD false 15 32
-unfolding ofBits
-threshold-value = (refl, refl)
-
-far-value : HasValue XBIG false 0xd45810624dd2f 0x800000000000
-unfolding ofBits
-far-value = (refl, refl)
-
-pub four-value : HasValue four false 4 1
-unfolding ofBits
-four-value = (refl, refl)
-
-not-at-most : (x y : Float) (a c b d : ℕ) → T (positive x) → T (positive y) → HasValue x false a c → HasValue y false b d → b * c < a * d → le x y ≡ false
-not-at-most x y a c b d p q v w l = is-false (le x y) (not-T (le x y) (λ t. lt-irrefl (b * c) (lt-of-lt-of-le l (values-of-le x y a c b d p q v w t))))
+not-at-most : (x y : Float) (a c b d : ℕ) → 0 < c → 0 < d → HasValue x false a c → HasValue y false b d → b * c < a * d → le x y ≡ false
+not-at-most x y a c b d C D v w l = is-false (le x y) (not-T (le x y) (λ t. not-le-of-lt l (le→fractions false false a b c d C D x y v w t)))
 
 module _ {k : ℕ} {y : Float} (eight : 8 ≤ k) (small : k < 416) (c : Close k y) where
   h : Values k y
   h = values (omega arith) (omega arith) c
 
+  own : HasValue y false (num y) (den y)
+  own = own-value y (h .plus)
+
   over : le y THRESHOLD ≡ false
-  over = not-at-most y THRESHOLD (num y) (den y) 15 32 (h .plus) (positive-of-value THRESHOLD 15 32 threshold-value (omega arith)) (own-value y (h .plus)) threshold-value
-      (omega (arith, h .low, den-pos y, mul-le-mul-right (den y) eight))
+  unfolding ofBits
+  over = not-at-most y THRESHOLD (num y) (den y) 15 32 (den-pos y) (omega arith) own (refl, refl) (omega (arith, h .low, den-pos y, mul-le-mul-right (den y) eight))
 
   short : le XBIG y ≡ false
-  short = not-at-most XBIG y 0xd45810624dd2f 0x800000000000 (num y) (den y) (positive-of-value XBIG 0xd45810624dd2f 0x800000000000 far-value (omega arith)) (h .plus) far-value (own-value y (h .plus))
-      (omega (arith, h .high, den-pos y, mul-le-mul-right (den y) small))
+  unfolding ofBits
+  short = not-at-most XBIG y 0xd45810624dd2f 0x800000000000 (num y) (den y) (omega arith) (den-pos y) (refl, refl) own (omega (arith, h .high, den-pos y, mul-le-mul-right (den y) small))
 
   pub up-to-four : k < 64 → Between true y
-  up-to-four l = record { over = over; short = short; side = is-true (le y four) (le-of-values y four (num y) (den y) 4 1 (den-pos y) (omega arith) (own-value y (h .plus)) four-value (omega (arith, h .high, mul-le-mul-right (den y) l))) }
+  unfolding ofBits
+  up-to-four l = record {
+    over = over;
+    short = short;
+    side = is-true (le y four) (le-of-values y four (num y) (den y) 4 1 (den-pos y) (omega arith) own (refl, refl) (omega (arith, h .high, mul-le-mul-right (den y) l)));
+  }
 
   pub above-four : 64 < k → Between false y
-  above-four l = record { over = over; short = short; side = not-at-most y four (num y) (den y) 4 1 (h .plus) (positive-of-value four 4 1 four-value (omega arith)) (own-value y (h .plus)) four-value (omega (arith, h .low, den-pos y, mul-le-mul-right (den y) l)) }
+  unfolding ofBits
+  above-four l = record {
+    over = over;
+    short = short;
+    side = not-at-most y four (num y) (den y) 4 1 (den-pos y) (omega arith) own (refl, refl) (omega (arith, h .low, den-pos y, mul-le-mul-right (den y) l));
+  }

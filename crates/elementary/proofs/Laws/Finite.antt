@@ -33,7 +33,7 @@ use Rattle.elementary.proofs.Laws.Order.{le→fractions}
 use Rattle.elementary.proofs.Laws.Bits.{abs-fits}
 use Rattle.elementary.proofs.Laws.Values.{revalue}
 use Rattle.elementary.proofs.Laws.Adding.{sub-at}
-use Rattle.elementary.proofs.Laws.Close.{Values, tilde-at, sixteenths-value, threshold-value, four-value}
+use Rattle.elementary.proofs.Laws.Close.{Values, tilde-at, sixteenths-value}
 use Rattle.elementary.proofs.Laws.Bounds.{side-finite, Exact, pow-exact, small-exact, unsigned, wider, value-side, value-over, neg-side, round-side, mul-side, square-over, add-at-most, sub-at-most, add-side, add-over, div-side, floor-side, sum-low, either}
 
 whole-over : (n : ℕ) → suc n ≤ 2 ^ 53 → Over (float (suc n)) 0
@@ -224,9 +224,9 @@ above-threshold m e l = go (le y four) refl
     y = fin false m e
 
     go : (b : Bool) → le y four ≡ b → AtMost (cond b (cdOf y) ((FRAC-1-SQRT-PI ⊖ pqOf (one ⊘ (y ⊗ y))) ⊘ y)) (2 ^ 37)
-    go true t = unsigned (cd-side (sized m e (omega (arith, not-more m e four 4 1 (lit< tt) four-value t))))
+    go true t = unsigned (cd-side (sized m e (omega (arith, not-more m e four 4 1 (lit< tt) (refl, refl) t))))
     go false t =
-        let over = reaches {j = 0} m e (omega (arith, more m e four 4 1 (lit< tt) four-value t)) in
+        let over = reaches {j = 0} m e (omega (arith, more m e four 4 1 (lit< tt) (refl, refl) t)) in
         let z = div-side {a = 1} {j = 0} (2 ^ 0) (pow-exact 0 (lit< tt)) (lit≤ tt) (sized _ _ (lit≤ tt)) (square-over over (small-exact 1521 (lit≤ tt)) (sized m e l)) in
         let top = sub-at-most {a = 1} (2 ^ 28) (pow-exact 28 (lit< tt)) (lit≤ tt) (sized _ _ (lit≤ tt)) (pq-side z) in
         unsigned (div-side {j = 0} (2 ^ 37) (pow-exact 37 (lit< tt)) (lit≤ tt) (top .side) over)
@@ -251,11 +251,11 @@ erfc-at-most set {s} f (sized m e l) = go (le y THRESHOLD) refl
 
     go : (t : Bool) → le y THRESHOLD ≡ t → AtMost (cond t (one ⊖ x ⊗ abOf (y ⊗ y)) (cond (lt x +0) (two ⊖ erfcAbs set y) (erfcAbs set y))) (2 ^ 482)
     go true t =
-        let small = sized {s = false} {b = 1} m e (omega (arith, not-more m e THRESHOLD 15 32 (lit< tt) threshold-value t)) in
+        let small = sized {s = false} {b = 1} m e (omega (arith, not-more m e THRESHOLD 15 32 (lit< tt) (refl, refl) t)) in
         let z = mul-side (2 ^ 0) (pow-exact 0 (lit< tt)) (lit≤ tt) small small in
         sub-at-most {a = 1} (2 ^ 482) (pow-exact 482 (lit< tt)) (lit≤ tt) (sized _ _ (lit≤ tt)) (mul-side (2 ^ 23) (pow-exact 23 (lit< tt)) (lit≤ tt) (sized {s = s} m e l) (ab-side z))
     go false t =
-        let outside = outside-at-most set m e (abs-fits x f) l (more m e THRESHOLD 15 32 (lit< tt) threshold-value t) .side in
+        let outside = outside-at-most set m e (abs-fits x f) l (more m e THRESHOLD 15 32 (lit< tt) (refl, refl) t) .side in
         either (lt x +0) (sub-at-most {a = 2} (2 ^ 482) (pow-exact 482 (lit< tt)) (lit≤ tt) (sized _ _ (lit≤ tt)) outside) (unsigned (wider (2 ^ 482) (lit≤ tt) outside))
 
 pub cdf-at-most : (set : RuleSet) {y : Float} → AtMost y 39 → AtMost (cdfOf set y) (2 ^ 482)

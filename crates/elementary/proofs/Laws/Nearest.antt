@@ -5,11 +5,10 @@ use mathlib.Core.Logic.{inl, inr}
 use mathlib.Core.Bool.{Bool}
 use Prim.Native.Nat.{ℕ, suc, _+_, _-_, _*_, _%_, _^_, _≤_, _<_, Ordering, Ordering·lt, Ordering·eq, Ordering·gt}
 use native.Mathlib.Nat.{le-trans, le-of-eq, le-of-lt, le-refl, le-antisymm, lt-irrefl, lt-of-not-le, not-le-of-lt, lt-of-lt-of-le, lt-of-le-of-lt, eq-or-lt-of-le, eq-zero-or-pos, add-comm}
-use native.Mathlib.Nat.{suc-mul, mul-assoc, mul-le-mul-right, mul-lt-mul-of-pos-right, div-mul-le-self, div-lt-iff-lt-mul}
+use native.Mathlib.Nat.{mul-le-mul-right, mul-lt-mul-of-pos-right, div-mul-le-self, div-lt-iff-lt-mul}
 use lib.Arith.{lt-of-le-ne}
 use borrow.Author.Tests.{lt-ltb, le-ltb}
 use native.Mathlib.Decide.{decLe}
-use native.Mathlib.Numerals.{add-one}
 use native.Mathlib.Omega.{arith}
 use lib.Dec.{T}
 use lib.Pow.{pow-lt, pow-pos}
@@ -55,9 +54,6 @@ module _
     abbrev mid : ℕ
     mid = middle p w
 
-    mid-is : mid ≡ q * 2 ^ k + suc q * 2 ^ k
-    mid-is = rw (add-one, suc-mul (2 * q) (2 ^ k), suc-mul q (2 ^ k), mul-assoc 2 q (2 ^ k)) (omega arith)
-
     -- Q * 2 ^ k is no farther from the number than v, and as far only at the middle and with an even Q
     record NoFarther (Q v : ℕ) : Type 0 where
       over : Q * 2 ^ k < v → twice ≤ scale (Q * 2 ^ k + v)
@@ -67,7 +63,7 @@ module _
     -- not past the middle: q
     near-q : twice ≤ scale mid → (twice ≡ scale mid → q % 2 ≡ 0) → (v : ℕ) → InDigits p v → NoFarther q v
     near-q h even v d =
-        let above : q * 2 ^ k < v → scale mid ≤ scale (q * 2 ^ k + v) = λ l. scale-le scale grows mid (q * 2 ^ k + v) (omega (arith, mid-is, gap p w (two f) v d l)) in
+        let above : q * 2 ^ k < v → scale mid ≤ scale (q * 2 ^ k + v) = λ l. scale-le scale grows mid (q * 2 ^ k + v) (omega (arith, gap p w (two f) v d l)) in
         let under : v < q * 2 ^ k → scale (q * 2 ^ k + v) < twice = λ l. lt-of-lt-of-le (grows (q * 2 ^ k + v) (2 * (q * 2 ^ k)) (omega arith)) from in
         record {
           over = λ l. le-trans h (above l);
@@ -82,7 +78,7 @@ module _
     near-next : scale mid ≤ twice → (twice ≡ scale mid → suc q % 2 ≡ 0) → (v : ℕ) → InDigits p v → NoFarther (suc q) v
     near-next h even v d =
         let above : suc q * 2 ^ k < v → twice < scale (suc q * 2 ^ k + v) = λ l. lt-of-lt-of-le to (scale-le scale grows (2 * (suc q * 2 ^ k)) (suc q * 2 ^ k + v) (omega arith)) in
-        let under : v < suc q * 2 ^ k → scale (suc q * 2 ^ k + v) ≤ scale mid = λ l. scale-le scale grows (suc q * 2 ^ k + v) mid (omega (arith, mid-is, lower p w (two f) v d l)) in
+        let under : v < suc q * 2 ^ k → scale (suc q * 2 ^ k + v) ≤ scale mid = λ l. scale-le scale grows (suc q * 2 ^ k + v) mid (omega (arith, lower p w (two f) v d l)) in
         record {
           over = λ l. le-of-lt (above l);
           below = λ l. le-trans (under l) h;
