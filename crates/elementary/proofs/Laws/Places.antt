@@ -3,8 +3,7 @@ use mathlib.Core.Path.{_≡_, refl, sym, ap, _∙_}
 use mathlib.Core.Bool.{Bool, true, false, not, cond}
 use mathlib.Core.Logic.{inl, inr}
 use Prim.Native.Nat.{ℕ, zero, suc, _+_, _-_, _*_, _/_, _%_, _^_, _≤_, _<_}
-use native.Mathlib.Nat.{le-trans, le-of-eq, le-of-lt, le-refl, le-suc, lt-of-not-le, eq-or-lt-of-le, eq-zero-or-pos, lt-of-lt-of-le, lt-of-le-of-lt, not-le-of-lt, mul-assoc, mul-comm, mul-left-comm}
-use native.Mathlib.Nat.{mul-one, one-mul, zero-mul, pow-suc, mul-le-mul-right, mul-lt-mul-of-pos-right, lt-of-mul-lt-mul-right, mul-div-cancel, zero-div, div-lt-iff-lt-mul, le-div-iff-mul-le}
+use native.Mathlib.Nat.{le-trans, le-of-eq, le-of-lt, le-refl, le-suc, lt-of-not-le, eq-or-lt-of-le, eq-zero-or-pos, lt-of-lt-of-le, lt-of-le-of-lt, not-le-of-lt, mul-assoc, mul-comm, mul-left-comm, mul-one, one-mul, zero-mul, pow-suc, mul-le-mul-right, mul-lt-mul-of-pos-right, lt-of-mul-lt-mul-right, mul-div-cancel, zero-div, div-lt-iff-lt-mul, le-div-iff-mul-le}
 use native.Mathlib.Decide.{decLe}
 use native.Mathlib.Omega.{arith}
 use lib.IntN.{ℤ, pos, negsuc}
