@@ -1,15 +1,16 @@
 -- The order of finite floats is the order of the signed fractions that they equal. Assumes nothing.
-use mathlib.Core.Path.{_≡_, sym, ap, _∙_, subst}
-use mathlib.Core.Bool.{Bool, true, false, not, _&&_, _||_}
-use mathlib.Core.Logic.{_↔_}
+use mathlib.Core.Path.{_≡_, sym, ap, subst}
+use mathlib.Core.Bool.{Bool, true, false, _||_}
+use mathlib.Core.Logic.{_↔_, inl, inr}
 use Prim.Native.Nat.{ℕ, _+_, _*_, _≤_, _<_}
-use native.Mathlib.Nat.{mul-pos, mul-le-mul-right, le-of-mul-le-mul-right, le-of-lt, le-of-eq, le-antisymm, le-mul-of-pos-right}
+use native.Mathlib.Nat.{eq-or-lt-of-le, eq-zero-or-pos, mul-pos, mul-le-mul-right, le-of-mul-le-mul-right, le-mul-of-pos-right}
 use native.Mathlib.Omega.{arith}
-use borrow.Author.Tests.{ltb-true, ltb-false}
+use native.Mathlib.Decide.{decLe}
+use borrow.Author.Tests.{ltb-true, ltb-false, lt-ltb, le-ltb, eq-eqb, ne-eqb}
 use lib.IntN.{ℤ}
-use lib.Dec.{T, ltb, eqb, ltb→lt, eqb→eq, nltb→le}
+use lib.Dec.{T, eqb, eqb→eq}
 use lib.Ieee.{Float, nan, inf, fin, up, down, below, level, le}
-use lib.Ieee.Fits.{down-pos, eq→eqb, and-i, and-l, and-r}
+use lib.Ieee.Fits.{down-pos, and-l, and-r}
 use lib.Ieee.Exact.{HasValue}
 
 -- what has the value ±a / c is finite
@@ -42,32 +43,21 @@ not-below true a false b h = omega (arith, ltb-false 0 (a + b) h)
 not-below true a true b h = ltb-false b a h
 
 -- ---- the test says it
-or-elim : {X : Type 0} (p q : Bool) → (T p → X) → (T q → X) → T (p || q) → X
-or-elim true q f g h = f tt
-or-elim false q f g h = g h
-
-or-else : (p q : Bool) → (T (not p) → T q) → T (p || q)
-or-else true q h = tt
-or-else false q h = h tt
-
-same : (a b : ℕ) (r : Bool) → T (eqb a b && r) → a ≡ b
-same a b r h = eqb→eq a b (and-l (eqb a b) r h)
-
 pub test→le : (s : Bool) (a : ℕ) (t : Bool) (b : ℕ) → T (below s a t b || level s a t b) → Le s a t b
-test→le false a false b h = or-elim (ltb a b) (eqb a b && true) (λ l. le-of-lt (ltb→lt a b l)) (λ e. le-of-eq (same a b true e)) h
-test→le false a true b h =
-    let z = eqb→eq a 0 (and-r (eqb a b) (eqb a 0) h) in
-    (z, sym (same a b (eqb a 0) h) ∙ z)
+test→le false a false b h = elim (decLe a b) [ yes l ↦ l | no n ↦ absurd (rw (le-ltb a b (omega arith), ne-eqb a b (λ e. omega arith)) at h) ]
+test→le false a true b h = omega (arith, eqb→eq a b (and-l (eqb a b) (eqb a 0) h), eqb→eq a 0 (and-r (eqb a b) (eqb a 0) h))
 test→le true a false b h = tt
-test→le true a true b h = or-elim (ltb b a) (eqb a b && true) (λ l. le-of-lt (ltb→lt b a l)) (λ e. le-of-eq (sym (same a b true e))) h
+test→le true a true b h = elim (decLe b a) [ yes l ↦ l | no n ↦ absurd (rw (le-ltb b a (omega arith), ne-eqb a b (λ e. omega arith)) at h) ]
 
 pub le→test : (s : Bool) (a : ℕ) (t : Bool) (b : ℕ) → Le s a t b → T (below s a t b || level s a t b)
-le→test false a false b h = or-else (ltb a b) (eqb a b && true) (λ n. and-i (eqb a b) true (eq→eqb (le-antisymm h (nltb→le a b n))) tt)
+le→test false a false b h = elim (eq-or-lt-of-le h) [ inl e ↦ rw (le-ltb a b (omega arith), eq-eqb a b e) tt | inr l ↦ rw (lt-ltb a b l) tt ]
 le→test false a true b h = rw (h .0, h .1) tt
 le→test true a false b h =
-    or-else (ltb 0 (a + b)) (eqb a b && eqb a 0)
-    (λ n. let z = nltb→le 0 (a + b) n in and-i (eqb a b) (eqb a 0) (eq→eqb {a = a} {b = b} (omega arith)) (eq→eqb {a = a} {b = 0} (omega arith)))
-le→test true a true b h = or-else (ltb b a) (eqb a b && true) (λ n. and-i (eqb a b) true (eq→eqb (le-antisymm (nltb→le b a n) h)) tt)
+    elim (eq-zero-or-pos (a + b)) [
+      | inl z ↦ rw (le-ltb 0 (a + b) (omega arith), eq-eqb a b (omega arith), eq-eqb a 0 (omega arith)) tt
+      | inr p ↦ rw (lt-ltb 0 (a + b) p) tt
+    ]
+le→test true a true b h = elim (eq-or-lt-of-le h) [ inl e ↦ rw (le-ltb b a (omega arith), eq-eqb a b (sym e)) tt | inr l ↦ rw (lt-ltb b a l) tt ]
 
 -- ---- fractions of the same sizes
 carry : (s : Bool) (a : ℕ) (t : Bool) (b a' b' p q : ℕ) → 0 < q → a * p ≡ a' * q → b * p ≡ b' * q → Le s a t b → Le s a' t b'

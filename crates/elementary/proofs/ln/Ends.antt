@@ -1,17 +1,16 @@
 -- What ln's tests leave over is finite and above 0. Assumes nothing.
-use mathlib.Core.Path.{_≡_, sym, subst}
+use mathlib.Core.Path.{_≡_, sym, _∙_}
 use mathlib.Core.Bool.{Bool, true, false, true≢false}
-use Prim.Native.Nat.{ℕ, _+_, _*_, _^_, _<_}
-use native.Mathlib.Nat.{mul-pos}
+use Prim.Native.Nat.{ℕ, _+_, _*_, _^_}
 use native.Mathlib.Omega.{arith}
 use borrow.Author.Tests.{ltb-true}
-use lib.Dec.{T, lt→ltb, ltb→lt}
+use lib.Dec.{T, lt→ltb}
 use lib.Pow.{pow-pos}
 use lib.Ieee.{Float, nan, inf, fin, up, down, lt, le, eq, ne, ofBits}
-use lib.Ieee.Positive.{positive, first-pos}
-use lib.Ieee.Fits.{up-pos}
+use lib.Ieee.Positive.{positive, own-value, value-pos, first-pos}
 use Rattle.elementary.specs.Ops.{+0}
 use Rattle.elementary.specs.Inside.Round.{PartsOf, Digits}
+use Rattle.elementary.proofs.Laws.Places.{sign-of}
 use Rattle.elementary.proofs.Laws.Compare.{lt-of-not-le}
 
 pub above : (y : Float) → ne y y ≡ false → lt y +0 ≡ false → eq y +0 ≡ false → eq y (inf false) ≡ false → T (positive y)
@@ -26,8 +25,6 @@ above (fin false m e) n l z t =
 
 -- so it has digits
 pub digits-of : (y : Float) (s : Bool) (m i : ℕ) → T (positive y) → PartsOf y s m i → Digits m i
-digits-of nan s m i p D = absurd p
-digits-of (inf t) s m i p D = absurd p
-digits-of (fin true n g) s m i p D = absurd p
-digits-of (fin false n g) s m i p D =
-    D .digits (first-pos m (2 ^ i) (first-pos (m * 2 ^ i) (down g) (subst (λ (w : ℕ). 0 < w) (D .value .1) (mul-pos (mul-pos (ltb→lt 0 n p) (up-pos g)) (pow-pos 1138)))))
+digits-of y s m i p D =
+    let e : s ≡ false = sym (sign-of y s _ _ (D .value)) ∙ sign-of y false _ _ (own-value y p) in
+    D .digits (first-pos m (2 ^ i) (value-pos y (m * 2 ^ i) (2 ^ 1138) p (pow-pos 1138) (rw e at (D .value))))
