@@ -87,17 +87,11 @@ module _ (x : Float) (F : T (fits binary64 x)) where
 
 -- ---- the digits of a subnormal value
 pub far-up : (t z : ℕ) → t < 2 ^ 52 → LeadingZeros t z → 12 ≤ z
-far-up t z h L = le-of-suc-le-suc (lt-of-not-le (λ (g : suc z ≤ 12). not-le-of-lt (lt-of-lt-of-le (shl-lt 52 z h) (pow-mono (room z g))) (L .low)))
-  where
-    room : (z : ℕ) → suc z ≤ 12 → 52 + z ≤ 63
-    room z g = omega arith
+far-up t z h L = le-of-suc-le-suc (lt-of-not-le (λ (g : suc z ≤ 12). not-le-of-lt (lt-of-lt-of-le (shl-lt 52 z h) (pow-mono {i = 52 + z} {j = 63} (omega arith))) (L .low)))
 
 module _ (t z : ℕ) (h : t < 2 ^ 52) (L : LeadingZeros t z) where
   split : t * 2 ^ z ≡ t * 2 ^ (z - 11) * 2 ^ 11
   split = split-power t z (z - 11) 11 (omega (arith, far-up t z h L))
-
-  pub up-lead : 2 ^ 52 ≤ t * 2 ^ (z - 11)
-  up-lead = le-of-mul-le-mul-right {k = 2 ^ 11} (subst (λ (w : ℕ). 2 ^ 63 ≤ w) split (L .low)) (pow-pos 11)
 
   pub up-top : t * 2 ^ (z - 11) < 2 ^ 53
   up-top = lt-of-mul-lt-mul-right (2 ^ 11) (subst (λ (w : ℕ). w < 2 ^ 64) split (L .high))
@@ -106,7 +100,7 @@ module _ (t z : ℕ) (h : t < 2 ^ 52) (L : LeadingZeros t z) where
   subnormal-shift m e = record {
     same = ap (λ (w : ℕ). w * 2 ^ (64 - (z - 11))) e ∙ sym (split-power t 64 (z - 11) (64 - (z - 11)) (omega arith));
     room = omega arith;
-    digits = λ _. record { lead = rw e up-lead; top = rw e up-top; least = omega arith; room = omega arith };
+    digits = λ _. record { lead = rw e (le-of-mul-le-mul-right {k = 2 ^ 11} (subst (λ (w : ℕ). 2 ^ 63 ≤ w) split (L .low)) (pow-pos 11)); top = rw e up-top; least = omega arith; room = omega arith };
   }
 
 pub subnormal-zero : (t : ℕ) → t ≡ 0 → SubnormalParts t 0 64

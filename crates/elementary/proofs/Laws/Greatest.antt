@@ -2,16 +2,14 @@
 use mathlib.Core.Path.{_≡_, refl, sym, _∙_}
 use mathlib.Core.Bool.{Bool, true, false, not}
 use Prim.Native.Nat.{ℕ, zero, suc, _+_, _-_, _*_, _/_, _^_, _≤_, _<_}
-use native.Mathlib.Nat.{le-refl, le-trans, le-antisymm, lt-of-le-of-lt, mul-assoc, mul-comm, mul-right-comm, mul-one, suc-mul, add-mul, mul-le-mul-right}
-use native.Mathlib.Nat.{mul-lt-mul-of-pos-right, le-of-mul-le-mul-right, lt-of-mul-lt-mul-right, le-mul-of-pos-right, div-mul-le-self, div-lt-iff-lt-mul}
-use native.Mathlib.Nat.{lt-of-not-le}
+use native.Mathlib.Nat.{le-refl, le-trans, le-antisymm, lt-of-le-of-lt, lt-of-not-le, le-of-suc-le-suc, mul-assoc, mul-one, suc-mul, mul-le-mul-right, mul-lt-mul-of-pos-right, lt-of-mul-lt-mul-right, le-mul-of-pos-right, div-mul-le-self, div-lt-iff-lt-mul}
 use native.Mathlib.Omega.{arith}
 use lib.IntN.{ℤ, pos, negsuc}
 use lib.Dec.{T}
 use lib.Pow.{pow-add, pow-pos}
-use lib.Ieee.{Float, nan, inf, fin, Format, emax, low, up, down, round, fits}
+use lib.Ieee.{Float, nan, inf, fin, Format, prec, low, up, down, round, fits}
 use lib.Ieee.Fits.{down-pos, round-fits, nan-fits, inf-fits}
-use lib.Ieee.Exact.{HasValue, round-exact}
+use lib.Ieee.Exact.{HasValue}
 use lib.Ieee.Back.{round-whole, whole-unique}
 use lib.Ieee.Scale.{finite}
 use Rattle.elementary.specs.Methods.{signOf}
@@ -19,7 +17,7 @@ use Rattle.elementary.proofs.Laws.Order.{Le, le→fractions, fractions�
 use Rattle.elementary.proofs.Laws.Held.{holds}
 use Rattle.elementary.specs.Floor.{floorSize, floorOf}
 use Rattle.elementary.specs.Promises.{GreatestWhole}
-use Rattle.elementary.proofs.Laws.Places.{sign-of}
+use Rattle.elementary.proofs.Laws.Places.{sign-of, exact-under}
 
 -- ---- n is the size of the greatest whole number not above ±a / c
 abbrev pub IsFloor : Bool → ℕ → ℕ → ℕ → Type 0
@@ -34,37 +32,17 @@ size-floor true a c p =
     let hi : a + (c - 1) < suc n * c = div-lt-iff-lt-mul p .0 (le-refl (suc n)) in
     (omega (arith, suc-mul n c), omega arith)
 
-floor-size-unique : (s : Bool) (a c n m : ℕ) → IsFloor s a c n → IsFloor s a c m → n ≡ m
-floor-size-unique s a c n m h k = le-antisymm (below s n m h k) (below s m n k h)
+-- fractions of the same size have one such number
+floor-size-unique : (s : Bool) (a c b d n m : ℕ) → 0 < c → 0 < d → a * d ≡ b * c → IsFloor s a c n → IsFloor s b d m → n ≡ m
+floor-size-unique s a c b d n m C D e h k = le-antisymm (not-above s a c b d n m C D e h k) (not-above s b d a c m n D C (sym e) k h)
   where
-    below : (s : Bool) (n m : ℕ) → IsFloor s a c n → IsFloor s a c m → n ≤ m
-    below false n m h k = omega (arith, lt-of-mul-lt-mul-right c {m = n} {n = suc m} (lt-of-le-of-lt (h .0) (k .1)))
-    below true n m h k = omega (arith, lt-of-mul-lt-mul-right c {m = n} {n = suc m} (omega (arith, suc-mul m c)))
+    not-above : (s : Bool) (a c b d n m : ℕ) → 0 < c → 0 < d → a * d ≡ b * c → IsFloor s a c n → IsFloor s b d m → n ≤ m
+    not-above false a c b d n m C D e h k = le-of-suc-le-suc (lt-of-mul-lt-mul-right (c * d) {m = n} {n = suc m} (omega (arith, mul-le-mul-right d (h .0), mul-lt-mul-of-pos-right (k .1) C)))
+    not-above true a c b d n m C D e h k = le-of-suc-le-suc (lt-of-mul-lt-mul-right (c * d) {m = n} {n = suc m} (omega (arith, mul-lt-mul-of-pos-right (h .1) D, mul-le-mul-right c (k .0))))
 
 pub whole-floor : (s : Bool) (a : ℕ) → IsFloor s a 1 a
 whole-floor false a = (omega arith, omega arith)
 whole-floor true a = (omega arith, omega arith)
-
--- another fraction of the same size
-module _ (p c d q r : ℕ) (c-pos : 0 < c) (d-pos : 0 < d) (e : q * d ≡ r * c) where
-  le-up : p * c ≤ q → p * d ≤ r
-  le-up h = le-of-mul-le-mul-right (rw (mul-right-comm p d c, ← e) (mul-le-mul-right d h)) c-pos
-
-  lt-up : p * c < q → p * d < r
-  lt-up h = lt-of-mul-lt-mul-right c (rw (mul-right-comm p d c, ← e) (mul-lt-mul-of-pos-right h d-pos))
-
-  le-down : q ≤ p * c → r ≤ p * d
-  le-down h = le-of-mul-le-mul-right (rw (mul-right-comm p d c, ← e) (mul-le-mul-right d h)) c-pos
-
-  lt-down : q < p * c → r < p * d
-  lt-down h = lt-of-mul-lt-mul-right c (rw (mul-right-comm p d c, ← e) (mul-lt-mul-of-pos-right h d-pos))
-
-floor-size-same : (s : Bool) (a c b d n : ℕ) → 0 < c → 0 < d → a * d ≡ b * c → IsFloor s a c n → IsFloor s b d n
-floor-size-same false a c b d n c-pos d-pos e h = (le-up n c d a b c-pos d-pos e (h .0), lt-down (suc n) c d a b c-pos d-pos e (h .1))
-floor-size-same true a c b d n c-pos d-pos e h = (
-  le-down n c d a b c-pos d-pos e (h .0),
-  lt-up n c d (a + c) (b + d) c-pos d-pos (rw (add-mul a c d, add-mul b d c, mul-comm d c, e)) (h .1),
-)
 
 -- the size is at most a
 floor-size-le : (s : Bool) (a c n : ℕ) → 0 < c → IsFloor s a c n → n ≤ a
@@ -75,33 +53,26 @@ floor-size-le true a c n p h =
 -- ---- `round` changes nothing
 module _ (f : Format) (s : Bool) where
   whole-size : (a : ℕ) → floorSize s a 1 ≡ a
-  whole-size a = floor-size-unique s a 1 (floorSize s a 1) a (size-floor s a 1 (omega arith)) (whole-floor s a)
+  whole-size a = floor-size-unique s a 1 a 1 (floorSize s a 1) a (omega arith) (omega arith) refl (size-floor s a 1 (omega arith)) (whole-floor s a)
+
+  small-exact : (a c : ℕ) → 0 < c → a ≤ 2 ^ prec f → HasValue (round f s (floorSize s a c) 1) s (floorSize s a c) 1
+  small-exact a c p l = round-whole f s (floorSize s a c) (le-trans (floor-size-le s a c (floorSize s a c) p (size-floor s a c p)) l)
 
   floor-exact : (m : ℕ) (e : ℤ) → T (fits f (fin s m e)) → HasValue (floorOf f (fin s m e)) s (floorSize s (m * up e) (down e)) 1
   unfolding floorOf
-  floor-exact zero e h =
-      let n = floorSize s (0 * up e) (down e) in
-      let l : n ≤ 0 * up e = floor-size-le s (0 * up e) (down e) n (down-pos e) (size-floor s (0 * up e) (down e) (down-pos e)) in
-      round-whole f s n (omega arith)
+  floor-exact zero e h = small-exact (0 * up e) (down e) (down-pos e) (omega arith)
   floor-exact (suc m) (pos i) h =
       let z = holds f s m (pos i) h in
       rw (whole-size (suc m * 2 ^ i))
-      (round-exact f s (suc m * 2 ^ i) 1 (suc m) (i + low f) (omega arith) (z .0)
-      (rw (pow-add 2 i (low f), pow-add 2 (low f) (suc (emax f)), mul-comm (2 ^ low f) (2 ^ suc (emax f)), ← mul-assoc (suc m) (2 ^ i) (2 ^ low f))
-      (mul-lt-mul-of-pos-right (rw mul-one at (z .2)) (pow-pos (low f))))
-      (rw (pow-add 2 i (low f), mul-one) (mul-assoc (suc m) (2 ^ i) (2 ^ low f))))
-  floor-exact (suc m) (negsuc i) h =
-      let z = holds f s m (negsuc i) h in
-      let n = floorSize s (suc m * 1) (2 ^ suc i) in
-      let l : n ≤ suc m * 1 = floor-size-le s (suc m * 1) (2 ^ suc i) n (pow-pos (suc i)) (size-floor s (suc m * 1) (2 ^ suc i) (pow-pos (suc i))) in
-      round-whole f s n (omega arith)
+      (exact-under f s (suc m * 2 ^ i) 1 (suc m) (i + low f) (omega arith) (z .0) (z .2) (rw (pow-add 2 i (low f), mul-one) (mul-assoc (suc m) (2 ^ i) (2 ^ low f))))
+  floor-exact (suc m) (negsuc i) h = small-exact (suc m * 1) (2 ^ suc i) (pow-pos (suc i)) (omega (arith, holds f s m (negsuc i) h .0))
 
 -- the same of any fraction that x equals
 pub floor-value : (f : Format) (x : Float) (s : Bool) (a c n : ℕ) → T (fits f x) → 0 < c → HasValue x s a c → IsFloor s a c n → HasValue (floorOf f x) s n 1
 floor-value f nan s a c n h p v k = absurd v
 floor-value f (inf t) s a c n h p v k = absurd v
 floor-value f (fin t m e) s a c n h p v k =
-    let same = floor-size-unique s (m * up e) (down e) (floorSize s (m * up e) (down e)) n (size-floor s (m * up e) (down e) (down-pos e)) (floor-size-same s a c (m * up e) (down e) n p (down-pos e) (sym (v .1)) k) in
+    let same = floor-size-unique s (m * up e) (down e) a c (floorSize s (m * up e) (down e)) n (down-pos e) p (v .1) (size-floor s (m * up e) (down e) (down-pos e)) k in
     rw (v .0, ← same) (floor-exact f s m e (rw (v .0) at h))
 
 pub floor-fits : (f : Format) (x : Float) → T (fits f (floorOf f x))
@@ -144,11 +115,9 @@ floor-greatest f (fin s m e) h t =
           (rw (mul-one a) at (le→fractions (w .0) s (w .1) a 1 c (omega arith) (down-pos e) y x (w .2) (refl, refl) l))));
     }
 
-level : (s t : Bool) (n m : ℕ) → s ≡ t → Le s (n * 1) t (m * 1) → Le t (m * 1) s (n * 1) → n ≡ m
-level false false n m e g h = omega arith
-level false true n m e g h = omega arith
-level true false n m e g h = omega arith
-level true true n m e g h = omega arith
+level : (s : Bool) (n m : ℕ) → Le s (n * 1) s (m * 1) → Le s (m * 1) s (n * 1) → n ≡ m
+level false n m g h = omega arith
+level true n m g h = omega arith
 
 -- There is only one such value, so `GreatestWhole` says all of `floorOf` at a finite x.
 pub greatest-unique : (f : Format) (x q r : Float) → GreatestWhole f x q → GreatestWhole f x r → q ≡ r
@@ -158,7 +127,7 @@ greatest-unique f x q r a b =
     let signs : a .whole .0 ≡ b .whole .0 = sym (sign-of q _ _ 1 v) ∙ a .sign ∙ sym (b .sign) ∙ sign-of r _ _ 1 w in
     let up = le→fractions _ _ _ _ 1 1 (omega arith) (omega arith) q r v w (b .greatest q (a .whole) (a .not-above)) in
     let down = le→fractions _ _ _ _ 1 1 (omega arith) (omega arith) r q w v (a .greatest r (b .whole) (b .not-above)) in
-    let sizes = level _ _ _ _ signs up down in
+    let sizes = level (b .whole .0) (a .whole .1) (b .whole .1) (rw signs at up) (rw signs at down) in
     whole-unique f q r (b .whole .0) (b .whole .1) (a .of-format) (b .of-format) (rw (← signs, ← sizes) v) w
 
 pub floor-other : (f : Format) (x : Float) → T (not (finite x)) → floorOf f x ≡ x

@@ -1,6 +1,6 @@
 -- Document 01's sentence on the inverse cdf, "Then cdf(lo) < p ≤ cdf(hi)": the 64 steps end with p between the cdf's values at the two ends, for every
 -- p strictly between 0 and 1 and under every rule set. The cdf need not be monotone for it. Assumes nothing.
-use mathlib.Core.Path.{_≡_, refl, sym, _∙_}
+use mathlib.Core.Path.{_≡_, refl, sym}
 use mathlib.Core.Bool.{Bool, true, false, cond, true≢false}
 use Prim.Native.Nat.{ℕ, zero, suc}
 use lib.Dec.{T, lit≤}
@@ -13,10 +13,10 @@ use Rattle.elementary.specs.Floor.{floorOf}
 use Rattle.elementary.specs.Exp.{expOf, expInner, expSum, scaled}
 use Rattle.elementary.specs.Cody.{erfcOf, erfcAbs, smoothenedExponentialOfNegativeSquare, tildeOf}
 use Rattle.elementary.specs.NormalDistribution.{cdfOf, midOf, bisectionEnds, lowest, highest, endsOf, inverseOf}
-use Rattle.elementary.proofs.Laws.Bounds.{side-finite, small-exact, half-at-most, add-at-most}
+use Rattle.elementary.proofs.Laws.Bounds.{side-finite, unsigned, small-exact, half-at-most, add-at-most}
 use Rattle.elementary.specs.Promises.{Brackets}
-use Rattle.elementary.specs.Inside.Bounds.{AtMost}
-use Rattle.elementary.proofs.Laws.Compare.{lt-asym, le-of-not-lt, not-le-of-lt, not-lt-of-not-le, equal-itself}
+use Rattle.elementary.specs.Inside.Bounds.{AtMost, sized}
+use Rattle.elementary.proofs.Laws.Compare.{lt-asym, lt-of-not-le, le-of-not-lt, not-le-of-lt, not-lt-of-not-le, equal-itself}
 use Rattle.elementary.proofs.Laws.Finite.{cdf-at-most}
 
 -- a p strictly between 0 and 1 is finite, and no end of the inverse's range
@@ -35,7 +35,7 @@ record Around (cdf : Float → Float) (p lo hi : Float) : Type 0 where
   hi-range : AtMost hi 39
 
 mid-range : {lo hi : Float} → AtMost lo 39 → AtMost hi 39 → AtMost (midOf lo hi) 39
-mid-range h k = half-at-most 39 (small-exact 39 (lit≤ tt)) (add-at-most 78 (small-exact 78 (lit≤ tt)) (lit≤ tt) h k)
+mid-range h k = half-at-most 39 (small-exact 39 (lit≤ tt)) (add-at-most 78 (small-exact 78 (lit≤ tt)) (lit≤ tt) (h .side) (k .side) .side)
 
 around : (cdf : Float → Float) (n : ℕ) (p lo hi : Float) → Around cdf p lo hi → Around cdf p (bisectionEnds cdf n p lo hi .lo) (bisectionEnds cdf n p lo hi .hi)
 unfolding bisectionEnds
@@ -47,29 +47,16 @@ around cdf (suc n) p lo hi h = around cdf n p _ _ (go (lt (cdf (midOf lo hi)) p)
     go false t = record { under = h .under; over = t; lo-range = h .lo-range; hi-range = mid-range (h .lo-range) (h .hi-range) }
 
 -- ---- at the two first ends
-at-lowest : (set : RuleSet) → cdfOf set lowest ≡ +0
+at-ends : (set : RuleSet) → (cdfOf set lowest ≡ +0) × (cdfOf set highest ≡ one)
 unfolding cdfOf erfcOf absOf erfcAbs smoothenedExponentialOfNegativeSquare tildeOf expOf expInner expSum scaled floorOf mul sub div neg ofBits ofInt toSigned lt le ne
-at-lowest set = go (set .«far_factor»)
+at-ends set = go (set .«far_factor»)
   where
-    go : (b : Bool) → cdfOf (record { «textbook_cap» = set .«textbook_cap»; «far_factor» = b }) lowest ≡ +0
-    go true = refl
-    go false = refl
+    under : Bool → RuleSet
+    under b = record { «textbook_cap» = set .«textbook_cap»; «far_factor» = b }
 
-at-highest : (set : RuleSet) → cdfOf set highest ≡ one
-unfolding cdfOf erfcOf absOf erfcAbs smoothenedExponentialOfNegativeSquare tildeOf expOf expInner expSum scaled floorOf mul sub div neg ofBits ofInt toSigned lt le ne
-at-highest set = go (set .«far_factor»)
-  where
-    go : (b : Bool) → cdfOf (record { «textbook_cap» = set .«textbook_cap»; «far_factor» = b }) highest ≡ one
-    go true = refl
-    go false = refl
-
-lowest-range : AtMost lowest 39
-unfolding neg ofBits
-lowest-range = record { sign = true; side = record { bound = (refl, lit≤ tt) } }
-
-highest-range : AtMost highest 39
-unfolding ofBits
-highest-range = record { sign = false; side = record { bound = (refl, lit≤ tt) } }
+    go : (b : Bool) → (cdfOf (under b) lowest ≡ +0) × (cdfOf (under b) highest ≡ one)
+    go true = (refl, refl)
+    go false = (refl, refl)
 
 -- ---- where the inverse bisects, the first ends lie on both sides of p
 positive : (p : Float) → ne p p ≡ false → le p +0 ≡ false → lt +0 p ≡ true
@@ -77,32 +64,24 @@ unfolding ne eq le lt ofBits
 positive nan n h = absurd (true≢false n)
 positive (inf true) n h = absurd (true≢false h)
 positive (inf false) n h = refl
-positive (fin s m e) n h = go (lt +0 (fin s m e)) refl
-  where
-    go : (b : Bool) → lt +0 (fin s m e) ≡ b → lt +0 (fin s m e) ≡ true
-    go true t = t
-    go false t = absurd (true≢false (sym (le-of-not-lt +0 (fin s m e) tt tt t) ∙ h))
+positive (fin s m e) n h = lt-of-not-le +0 (fin s m e) tt tt h
 
 pub lowest-under : (set : RuleSet) (p : Float) → ne p p ≡ false → le p +0 ≡ false → lt (cdfOf set lowest) p ≡ true
-lowest-under set p n h = rw (at-lowest set) (positive p n h)
+lowest-under set p n h = rw (at-ends set .0) (positive p n h)
 
 pub highest-over : (set : RuleSet) (p : Float) → le one p ≡ false → lt (cdfOf set highest) p ≡ false
-highest-over set p h = rw (at-highest set) (not-lt-of-not-le one p h)
+highest-over set p h = rw (at-ends set .1) (not-lt-of-not-le one p h)
 
 -- ---- the theorem
-inverse-is-hi : (set : RuleSet) (p : Float) → lt +0 p ≡ true → lt p one ≡ true → inverseOf set p ≡ endsOf set p .hi
-unfolding inverseOf
-inverse-is-hi set p above-0 below-1 = rw (equal-itself p (between-finite p above-0 below-1), not-le-of-lt +0 p above-0, not-le-of-lt p one below-1)
-
 pub inverse-brackets : (set : RuleSet) (p : Float) → lt +0 p ≡ true → lt p one ≡ true → Brackets set p (endsOf set p .lo) (endsOf set p .hi)
-unfolding endsOf
+unfolding inverseOf endsOf neg ofBits
 inverse-brackets set p above-0 below-1 =
     let start : Around (cdfOf set) p lowest highest =
-    record { under = rw (at-lowest set) above-0; over = rw (at-highest set) (lt-asym p one below-1); lo-range = lowest-range; hi-range = highest-range } in
+    record { under = rw (at-ends set .0) above-0; over = rw (at-ends set .1) (lt-asym p one below-1); lo-range = unsigned (sized _ _ (lit≤ tt)); hi-range = unsigned (sized _ _ (lit≤ tt)) } in
     let h = around (cdfOf set) 64 p lowest highest start in
     let hi = bisectionEnds (cdfOf set) 64 p lowest highest .hi in
     record {
       under = h .under;
       over = le-of-not-lt (cdfOf set hi) p (side-finite (cdf-at-most set (h .hi-range) .side)) (between-finite p above-0 below-1) (h .over);
-      inverse = inverse-is-hi set p above-0 below-1;
+      inverse = rw (equal-itself p (between-finite p above-0 below-1), not-le-of-lt +0 p above-0, not-le-of-lt p one below-1);
     }

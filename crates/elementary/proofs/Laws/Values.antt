@@ -1,17 +1,20 @@
 -- A bit pattern's value, as a number of units of the smallest value, 2 ^ -1074, and that a float is known by its value. Assumes nothing.
 use mathlib.Core.Path.{_≡_, refl, sym, ap, _∙_}
-use mathlib.Core.Logic.{_⊎_, inl, inr}
+use mathlib.Core.Logic.{inl, inr}
 use mathlib.Core.Bool.{Bool, true, false, cond}
 use Prim.Native.Nat.{ℕ, suc, _+_, _-_, _*_, _/_, _%_, _^_, _≤_, _<_}
-use native.Mathlib.Nat.{mul-one, zero-add, pow-suc, mul-right-comm, eq-of-mul-eq-mul-right, eq-or-lt-of-le, eq-zero-or-pos}
+use native.Mathlib.Nat.{mul-one, eq-of-mul-eq-mul-right, eq-or-lt-of-le, eq-zero-or-pos}
 use native.Mathlib.Omega.{arith}
-use lib.Dec.{T, leb, eqb, eqb→eq, le→leb, not-T}
+use lib.Dec.{T, leb, le→leb}
+use borrow.Author.Tests.{ne-eqb}
+use lib.IntN.{pos}
 use lib.Arith.{lt→nleb}
-use lib.Ieee.{Float, nan, inf, fin, binary64, up, down, odd, fits, ofFields, ofBits, ofInt}
+use lib.Ieee.{Float, inf, binary64, up, down, fits, ofFields, ofBits, ofInt, inFloat}
 use lib.Ieee.Back.{round-whole}
 use lib.Ieee.Exact.{HasValue, odd-sign}
-use lib.Ieee.Bits.{is-true, is-false, cond-no}
+use lib.Ieee.Bits.{is-true, is-false}
 use Rattle.elementary.specs.Ops.{float}
+use Rattle.elementary.proofs.Laws.Order.{valued, finite-by}
 use Rattle.elementary.proofs.Laws.Places.{place-of, sign-of, is-number, same-value}
 
 -- the same value said otherwise
@@ -19,21 +22,17 @@ pub recast : (x : Float) (c : ℕ) {s t : Bool} {a b : ℕ} → s ≡ t → a �
 recast x c p q h = rw (← p, ← q) h
 
 pub revalue : (x : Float) (s : Bool) (a c b d : ℕ) → 0 < c → a * d ≡ b * c → HasValue x s a c → HasValue x s b d
-revalue nan s a c b d p e h = h
-revalue (inf t) s a c b d p e h = h
-revalue (fin t m k) s a c b d p e h = (
-  h .0,
-  eq-of-mul-eq-mul-right c p (m * up k * d) (b * down k)
-      (mul-right-comm (m * up k) d c
-      ∙ ap (λ (z : ℕ). z * d) (h .1)
-      ∙ mul-right-comm a (down k) d
-      ∙ ap (λ (z : ℕ). z * down k) e
-      ∙ mul-right-comm b c (down k)),
-)
+revalue x s a c b d p e h =
+    let to = eq-of-mul-eq-mul-right c p in
+    elim (finite-by x h) [ valued m k i ↦ (refl, to (m * up k * d) (b * down k) (omega (arith, ap (λ (z : ℕ). z * d) i, ap (λ (z : ℕ). z * down k) e))) ]
 
 pub whole-value : (n : ℕ) → n ≤ 2 ^ 53 → HasValue (float n) false n 1
 unfolding ofInt
 whole-value n h = round-whole binary64 false n h
+
+pub in-float : (n : ℕ) → n ≤ 2 ^ 53 → T (inFloat binary64 (pos n))
+unfolding inFloat
+in-float n h = le→leb n (2 ^ 53) h
 
 -- ---- reading a pattern: its sign, its exponent's field, its digits
 fields : (b x t : ℕ) → b % 2 ^ 63 / 2 ^ 52 ≡ x → b % 2 ^ 52 ≡ t → ofBits binary64 b ≡ ofFields binary64 (leb (2 ^ 63) b) x t
@@ -52,9 +51,7 @@ pub value-mid : (b k : ℕ) → b % 2 ^ 63 / 2 ^ 52 ≡ suc k → k < 2046 → H
 unfolding ofFields
 value-mid b k e l =
     let s = leb (2 ^ 63) b in
-    let t = b % 2 ^ 52 in
-    rw (fields b (suc k) t e refl, cond-no (eqb (suc k) 2047) (cond (eqb t 0) (inf s) nan) (odd 53 s (2 ^ 52 + t) k 1074) (not-T (eqb (suc k) 2047) (λ v. let i = eqb→eq (suc k) 2047 v in omega arith)))
-    (odd-sign 53 s (2 ^ 52 + t) k 1074)
+    rw (fields b (suc k) (b % 2 ^ 52) e refl, ne-eqb (suc k) 2047 (λ (i : suc k ≡ 2047). omega arith)) (odd-sign 53 s (2 ^ 52 + b % 2 ^ 52) k 1074)
 
 -- an infinity's
 pub value-inf : (b : ℕ) → b % 2 ^ 63 ≡ 2047 * 2 ^ 52 → ofBits binary64 b ≡ inf (leb (2 ^ 63) b)
@@ -73,31 +70,24 @@ sign-parts true n l = (is-true _ (le→leb (2 ^ 63) (2 ^ 63 + n) (omega arith)),
 sign-parts false n l = (is-false _ (lt→nleb (2 ^ 63) n (omega arith)), omega arith, omega arith)
 
 pub value-of-pattern : (s : Bool) (k q : ℕ) → (0 < k → 2 ^ 52 ≤ q) → q ≤ 2 ^ 53 → k * 2 ^ 52 + q < 2047 * 2 ^ 52 → HasValue (ofBits binary64 (bit-pattern s k q)) s (q * 2 ^ k) (2 ^ 1074)
-value-of-pattern s k q lo hi small = by-lead (eq-zero-or-pos (2 ^ 52 - q))
-  where
-    b : ℕ
-    b = bit-pattern s k q
-
-    parts : (leb (2 ^ 63) b ≡ s) × (b % 2 ^ 63 ≡ k * 2 ^ 52 + q) × (b % 2 ^ 52 ≡ (k * 2 ^ 52 + q) % 2 ^ 52)
-    parts = sign-parts s (k * 2 ^ 52 + q) (omega arith)
-
-    by-carry : 2 ^ 52 ≤ q → (q ≡ 2 ^ 53) ⊎ (q < 2 ^ 53) → HasValue (ofBits binary64 b) s (q * 2 ^ k) (2 ^ 1074)
-    by-carry l (inl e) =
-        let zero : b % 2 ^ 52 ≡ 0 = omega (arith, parts .2) in
-        let twice : q * 2 ^ k ≡ (2 ^ 52 + b % 2 ^ 52) * 2 ^ suc k =
-        omega (arith, ap (λ (z : ℕ). z * 2 ^ k) e, pow-suc 2 k, ap (λ (z : ℕ). (2 ^ 52 + z) * 2 ^ suc k) zero) in
-        recast (ofBits binary64 b) (2 ^ 1074) (parts .0) (sym twice) (value-mid b (suc k) (omega (arith, parts .1)) (omega arith))
-    by-carry l (inr h) =
-        let same : 2 ^ 52 + b % 2 ^ 52 ≡ q = omega (arith, parts .2) in
-        recast (ofBits binary64 b) (2 ^ 1074) (parts .0) (ap (λ (z : ℕ). z * 2 ^ k) same) (value-mid b k (omega (arith, parts .1)) (omega arith))
-
-    -- a subnormal's digits have no field
-    by-lead : (2 ^ 52 - q ≡ 0) ⊎ (0 < 2 ^ 52 - q) → HasValue (ofBits binary64 b) s (q * 2 ^ k) (2 ^ 1074)
-    by-lead (inl e) = by-carry (omega arith) (eq-or-lt-of-le hi)
-    by-lead (inr l) =
-        let zero : k ≡ 0 = elim (eq-zero-or-pos k) [ inl e ↦ e | inr p ↦ let g = lo p in absurd (omega arith) ] in
-        let none : q * 2 ^ k ≡ q = rw zero (mul-one q) in
-        recast (ofBits binary64 b) (2 ^ 1074) (parts .0) (parts .1 ∙ ap (λ (z : ℕ). z * 2 ^ 52 + q) zero ∙ zero-add q ∙ sym none) (value-low b (omega (arith, parts .1)))
+value-of-pattern s k q lo hi small =
+    let b = bit-pattern s k q in
+    let parts = sign-parts s (k * 2 ^ 52 + q) (omega arith) in
+    elim (eq-zero-or-pos (2 ^ 52 - q)) [
+      | inl l ↦ elim (eq-or-lt-of-le hi) [
+        | inl e ↦
+            let zero : b % 2 ^ 52 ≡ 0 = omega (arith, parts .2) in
+            let twice : (2 ^ 52 + b % 2 ^ 52) * 2 ^ suc k ≡ q * 2 ^ k = rw (zero, e) (omega arith) in
+            recast (ofBits binary64 b) (2 ^ 1074) (parts .0) twice (value-mid b (suc k) (omega (arith, parts .1)) (omega arith))
+        | inr h ↦
+            let same : 2 ^ 52 + b % 2 ^ 52 ≡ q = omega (arith, parts .2) in
+            recast (ofBits binary64 b) (2 ^ 1074) (parts .0) (rw same) (value-mid b k (omega (arith, parts .1)) (omega arith))
+      ]
+      -- a subnormal's digits have no field
+      | inr l ↦
+          let zero : k ≡ 0 = elim (eq-zero-or-pos k) [ inl e ↦ e | inr p ↦ absurd (omega (arith, lo p)) ] in
+          recast (ofBits binary64 b) (2 ^ 1074) (parts .0) (parts .1 ∙ rw (zero, mul-one) (omega arith)) (value-low b (omega (arith, parts .1)))
+    ]
 
 -- ---- a float by its value
 pub value-unique : (x y : Float) (s : Bool) (a : ℕ) → T (fits binary64 x) → T (fits binary64 y) → HasValue x s a (2 ^ 1074) → HasValue y s a (2 ^ 1074) → x ≡ y

@@ -1,44 +1,40 @@
 -- p × 2^(e − l), rounded once: from p's value, and as a product with the float 2^(e − l). Assumes nothing.
 use mathlib.Core.Path.{_≡_, refl, sym, ap, _∙_, subst}
-use mathlib.Core.Bool.{Bool, true, false, cond}
+use mathlib.Core.Bool.{Bool, true, false}
 use Prim.Native.Nat.{ℕ, _+_, _-_, _*_, _^_, _≤_, _<_}
-use native.Mathlib.Nat.{mul-assoc, mul-comm, mul-left-comm, mul-pos, one-mul, zero-add, lt-irrefl}
+use native.Mathlib.Nat.{mul-assoc, mul-comm, mul-pos, one-mul, zero-add}
 use native.Mathlib.Omega.{arith}
-use lib.Dec.{T, eqb, eqb→eq}
+use lib.Dec.{T}
 use lib.IntN.{ℤ}
 use lib.Pow.{pow-add, pow-pos}
-use lib.Ieee.{Float, nan, inf, fin, Format, binary64, unlike, up, down, minus, round, mul}
+use lib.Ieee.{Float, nan, inf, fin, Format, binary64, up, down, minus, round, mul}
 use lib.Ieee.Digits.{minus-val}
 use lib.Ieee.Fits.{down-pos}
 use lib.Ieee.Exact.{HasValue}
-use lib.Ieee.Positive.{first-pos}
+use borrow.Author.Tests.{ne-eqb}
 use lib.Ieee.Scale.{round-same, finite}
 use Rattle.elementary.specs.Exp.{scaled}
+use Rattle.elementary.proofs.Laws.Order.{valued, finite-by}
 use Rattle.elementary.proofs.Laws.Decode.{same-power}
 use Rattle.elementary.proofs.Laws.Values.{revalue}
+use Rattle.elementary.proofs.Laws.Bounds.{like}
 
 -- 2 ^ (e - l) as a fraction
 power : (e l : ℕ) → up (minus e l) * 2 ^ l ≡ 2 ^ e * down (minus e l)
-power e l =
-    ap (λ (z : ℕ). z * 2 ^ l) (sym (one-mul (up (minus e l))))
-    ∙ minus-val 1 e l
-    ∙ ap (λ (z : ℕ). z * down (minus e l)) (one-mul (2 ^ e))
+power e l = simp one-mul at (minus-val 1 e l)
 
 cross : (M K L A D G E J : ℕ) → M * D ≡ A * G → K * L ≡ E * J → M * K * (D * L) ≡ A * E * (G * J)
-cross M K L A D G E J p q =
-    let l : M * K * (D * L) ≡ M * D * (K * L) = simp (mul-assoc, mul-comm, mul-left-comm) in
-    let r : A * E * (G * J) ≡ A * G * (E * J) = simp (mul-assoc, mul-comm, mul-left-comm) in
-    l ∙ ap (λ (z : ℕ). z * (K * L)) p ∙ ap (λ (z : ℕ). A * G * z) q ∙ sym r
+cross M K L A D G E J p q = omega (arith, ap (λ (z : ℕ). z * (K * L)) p, ap (λ (z : ℕ). A * G * z) q)
 
 pub scaled-at : (f : Format) (x : Float) (s : Bool) (a d e l : ℕ) → 0 < d → HasValue x s a d → scaled f x (minus e l) ≡ round f s (a * 2 ^ e) (d * 2 ^ l)
 unfolding scaled
-scaled-at f nan s a d e l P h = absurd h
-scaled-at f (inf t) s a d e l P h = absurd h
-scaled-at f (fin t m g) s a d e l P h =
-    let k = minus e l in
-    round-same f t (m * up g * up k) (down g * down k) (a * 2 ^ e) (d * 2 ^ l) (mul-pos (down-pos g) (down-pos k)) (mul-pos P (pow-pos l))
-    (cross (m * up g) (up k) (2 ^ l) a d (down g) (2 ^ e) (down k) (h .1) (power e l))
-    ∙ ap (λ (z : Bool). round f z (a * 2 ^ e) (d * 2 ^ l)) (h .0)
+scaled-at f x s a d e l P h =
+    elim (finite-by x h) [
+      | valued m g i ↦
+          let k = minus e l in
+          round-same f s (m * up g * up k) (down g * down k) (a * 2 ^ e) (d * 2 ^ l) (mul-pos (down-pos g) (down-pos k)) (mul-pos P (pow-pos l))
+          (cross (m * up g) (up k) (2 ^ l) a d (down g) (2 ^ e) (down k) i (power e l))
+    ]
 
 -- ---- the digits at their new place
 pub far-is : (x : Float) (s : Bool) (m i e : ℕ) → 960 ≤ e → HasValue x s (m * 2 ^ i) (2 ^ 1138)
@@ -57,30 +53,18 @@ far-special f (inf s) k h = refl
 far-special f (fin s m e) k h = let z : _≡_ {A = Bool} true false = h in absurd (subst T z tt)
 
 -- ---- the product with a power of two
-like : (s : Bool) → unlike s false ≡ s
-like true = refl
-like false = refl
-
 pub mul-power : (f : Format) (x y : Float) (e l : ℕ) → HasValue y false (2 ^ e) (2 ^ l) → mul f x y ≡ scaled f x (minus e l)
 unfolding scaled mul
 mul-power f x nan e l h = absurd h
 mul-power f x (inf t) e l h = absurd h
 mul-power f nan (fin t n d) e l h = refl
-mul-power f (inf s) (fin t n d) e l h = go (eqb n 0) (eqb→eq n 0)
-  where
-    some : n ≡ 0 → ⊥
-    some z =
-        let p : 0 < n * up d * 2 ^ l = subst (λ (w : ℕ). 0 < w) (sym (h .1)) (mul-pos (pow-pos e) (down-pos d)) in
-        lt-irrefl 0 (subst (λ (w : ℕ). 0 < w) z (first-pos n (up d) (first-pos (n * up d) (2 ^ l) p)))
-
-    go : (b : Bool) → (T b → n ≡ 0) → cond b nan (inf (unlike s t)) ≡ inf s
-    go true g = absurd (some (g tt))
-    go false g = ap inf (ap (unlike s) (h .0) ∙ like s)
+mul-power f (inf s) (fin t n d) e l h =
+    rw (ne-eqb n 0 (λ (z : n ≡ 0). omega (arith, h .1, ap (λ (w : ℕ). w * up d * 2 ^ l) z, mul-pos (pow-pos e) (down-pos d))), h .0, like s)
 mul-power f (fin s m g) (fin t n d) e l h =
-    ap (λ (z : Bool). round f z (m * up g * (n * up d)) (down g * down d)) (ap (unlike s) (h .0) ∙ like s)
-    ∙ round-same f s (m * up g * (n * up d)) (down g * down d) (m * up g * 2 ^ e) (down g * 2 ^ l) (mul-pos (down-pos g) (down-pos d)) (mul-pos (down-pos g) (pow-pos l))
+    rw (h .0, like s)
+    (round-same f s (m * up g * (n * up d)) (down g * down d) (m * up g * 2 ^ e) (down g * 2 ^ l) (mul-pos (down-pos g) (down-pos d)) (mul-pos (down-pos g) (pow-pos l))
     (cross (m * up g) (n * up d) (2 ^ l) (m * up g) (down g) (down g) (2 ^ e) (down d) refl (h .1))
-    ∙ sym (scaled-at f (fin s m g) s (m * up g) (down g) e l (down-pos g) (refl, refl))
+    ∙ sym (scaled-at f (fin s m g) s (m * up g) (down g) e l (down-pos g) (refl, refl)))
 
 -- a normal float's field says which power of two it is
 pub field-power : (x : Float) (e : ℕ) → 1026 ≤ e → HasValue x false ((2 ^ 52 + 0) * 2 ^ (e - 1025 + 1329)) (2 ^ 2404) → HasValue x false (2 ^ e) (2 ^ 2048)

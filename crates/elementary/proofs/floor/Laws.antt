@@ -30,34 +30,28 @@ floor-is b r s a c n f p v k w =
 -- ---- from 2 ^ 52 on
 pub floor-large : (b : ℕ) → 1075 ≤ b % 2 ^ 63 / 2 ^ 52 → ofBits binary64 b ≡ floorOf binary64 (ofBits binary64 b)
 unfolding floorOf
-floor-large b l = by-field (decLe (2047 * 2 ^ 52) (b % 2 ^ 63))
-  where
-    x : Float
-    x = ofBits binary64 b
-
-    top : (2047 * 2 ^ 52 ≡ b % 2 ^ 63) ⊎ (2047 * 2 ^ 52 < b % 2 ^ 63) → x ≡ floorOf binary64 x
-    top (inl e) = rw (value-inf b (sym e)) refl
-    top (inr g) = rw (nan-pattern b g) refl
-
-    by-field : Dec (2047 * 2 ^ 52 ≤ b % 2 ^ 63) → x ≡ floorOf binary64 x
-    by-field (yes h) = top (eq-or-lt-of-le h)
-    by-field (no h) =
-        let j = b % 2 ^ 63 / 2 ^ 52 - 1075 in
-        let m = 2 ^ 52 + b % 2 ^ 52 in
-        let v = value-mid b (j + 1074) (omega arith) (omega arith) in
-        let w = revalue x (leb (2 ^ 63) b) (m * 2 ^ (j + 1074)) (2 ^ 1074) (m * 2 ^ j) 1 (pow-pos 1074) (rw (pow-add 2 j 1074, mul-one) (sym (mul-assoc m (2 ^ j) (2 ^ 1074)))) v in
-        floor-is b x (leb (2 ^ 63) b) (m * 2 ^ j) 1 (m * 2 ^ j) (ofBits-fits binary64 b) (omega arith) w (whole-floor (leb (2 ^ 63) b) (m * 2 ^ j)) w
+floor-large b l =
+    elim (decLe (2047 * 2 ^ 52) (b % 2 ^ 63)) [
+      | yes h ↦ elim (eq-or-lt-of-le h) [ inl e ↦ rw (value-inf b (sym e)) refl | inr g ↦ rw (nan-pattern b g) refl ]
+      | no h ↦
+          let x = ofBits binary64 b in
+          let s = leb (2 ^ 63) b in
+          let j = b % 2 ^ 63 / 2 ^ 52 - 1075 in
+          let m = 2 ^ 52 + b % 2 ^ 52 in
+          let w = revalue x s (m * 2 ^ (j + 1074)) (2 ^ 1074) (m * 2 ^ j) 1 (pow-pos 1074) (rw (pow-add 2 j 1074, mul-one) (sym (mul-assoc m (2 ^ j) (2 ^ 1074)))) (value-mid b (j + 1074) (omega arith) (omega arith)) in
+          floor-is b x s (m * 2 ^ j) 1 (m * 2 ^ j) (ofBits-fits binary64 b) (omega arith) w (whole-floor s (m * 2 ^ j)) w
+    ]
 
 -- ---- below 1
 size-below : (b : ℕ) → b % 2 ^ 63 < 1023 * 2 ^ 52 → (a : ℕ) × (a < 2 ^ 1074) × (0 < b % 2 ^ 63 → 0 < a) × HasValue (ofBits binary64 b) (leb (2 ^ 63) b) a (2 ^ 1074)
-size-below b l = by-field (decLe (2 ^ 52) (b % 2 ^ 63))
-  where
-    by-field : Dec (2 ^ 52 ≤ b % 2 ^ 63) → (a : ℕ) × (a < 2 ^ 1074) × (0 < b % 2 ^ 63 → 0 < a) × HasValue (ofBits binary64 b) (leb (2 ^ 63) b) a (2 ^ 1074)
-    by-field (no h) = (b % 2 ^ 63, lt-of-lt-of-le (omega arith) (pow-mono {i = 52} {j = 1074} (omega arith)), (λ p. p), value-low b (omega arith))
-    by-field (yes h) =
-        let k = b % 2 ^ 63 / 2 ^ 52 - 1 in
-        let m = 2 ^ 52 + b % 2 ^ 52 in
-        (m * 2 ^ k, lt-of-lt-of-le (shl-lt {a = m} 53 k (omega arith)) (pow-mono {i = 53 + k} {j = 1074} (omega arith)), (λ p. mul-pos {m = m} (omega arith) (pow-pos k)), value-mid b k (omega arith) (omega arith))
+size-below b l =
+    elim (decLe (2 ^ 52) (b % 2 ^ 63)) [
+      | no h ↦ (b % 2 ^ 63, lt-of-lt-of-le (omega arith) (pow-mono {i = 52} {j = 1074} (omega arith)), (λ p. p), value-low b (omega arith))
+      | yes h ↦
+          let k = b % 2 ^ 63 / 2 ^ 52 - 1 in
+          let m = 2 ^ 52 + b % 2 ^ 52 in
+          (m * 2 ^ k, lt-of-lt-of-le (shl-lt {a = m} 53 k (omega arith)) (pow-mono {i = 53 + k} {j = 1074} (omega arith)), (λ p. mul-pos {m = m} (omega arith) (pow-pos k)), value-mid b k (omega arith) (omega arith))
+    ]
 
 floor-none : (a c : ℕ) → a < c → IsFloor false a c 0
 floor-none a c l = (omega arith, omega arith)
@@ -65,30 +59,20 @@ floor-none a c l = (omega arith, omega arith)
 floor-one : (a c : ℕ) → 0 < a → a < c → IsFloor true a c 1
 floor-one a c p l = (omega arith, omega arith)
 
-zero-value : HasValue (ofBits binary64 0) false 0 1
-unfolding ofBits
-zero-value = (refl, refl)
-
-minus-one-value : HasValue (neg (ofBits binary64 0x3ff0_0000_0000_0000)) true 1 1
-unfolding neg ofBits
-minus-one-value = (refl, refl)
-
 pub floor-small : (b : ℕ) → b < 2 ^ 63 → b % 2 ^ 63 < 1023 * 2 ^ 52 → ofBits binary64 0 ≡ floorOf binary64 (ofBits binary64 b)
+unfolding ofBits
 floor-small b plus l =
     let z = size-below b l in
     let v = recast (ofBits binary64 b) (2 ^ 1074) (is-false _ (lt→nleb (2 ^ 63) b plus)) refl (z .3) in
-    floor-is b (ofBits binary64 0) false (z .0) (2 ^ 1074) 0 (ofBits-fits binary64 0) (pow-pos 1074) v (floor-none (z .0) (2 ^ 1074) (z .1)) zero-value
+    floor-is b (ofBits binary64 0) false (z .0) (2 ^ 1074) 0 (ofBits-fits binary64 0) (pow-pos 1074) v (floor-none (z .0) (2 ^ 1074) (z .1)) (refl, refl)
 
 pub floor-small-negative : (b : ℕ) → 2 ^ 63 < b → b < 2 ^ 64 → b % 2 ^ 63 < 1023 * 2 ^ 52 → neg (ofBits binary64 0x3ff0_0000_0000_0000) ≡ floorOf binary64 (ofBits binary64 b)
+unfolding neg ofBits
 floor-small-negative b minus w l =
     let z = size-below b l in
     let v = recast (ofBits binary64 b) (2 ^ 1074) (is-true _ (le→leb (2 ^ 63) b (omega arith))) refl (z .3) in
     floor-is b _ true (z .0) (2 ^ 1074) 1 (neg-fits binary64 _ (ofBits-fits binary64 0x3ff0_0000_0000_0000)) (pow-pos 1074) v
-    (floor-one (z .0) (2 ^ 1074) (z .2 (omega arith)) (z .1)) minus-one-value
-
-pub floor-minus-zero : neg (ofBits binary64 0) ≡ floorOf binary64 (ofBits binary64 (2 ^ 63))
-unfolding neg ofBits floorOf
-floor-minus-zero = refl
+    (floor-one (z .0) (2 ^ 1074) (z .2 (omega arith)) (z .1)) (refl, refl)
 
 -- ---- from 1 to 2 ^ 52: the last digits are cut off
 cut-off : (P Q q u c : ℕ) → P ≡ Q * u → c ≡ P + q → c - c % u ≡ P + q / u * u

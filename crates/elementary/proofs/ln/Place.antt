@@ -1,8 +1,8 @@
 -- The place of a float's first significant digit, and its significand, from the float taken apart. Assumes nothing.
-use mathlib.Core.Path.{_≡_, refl, sym, ap, _∙_, subst}
+use mathlib.Core.Path.{_≡_, refl, sym, ap, _∙_}
 use mathlib.Core.Bool.{Bool, true, false, cond}
 use Prim.Native.Nat.{ℕ, suc, _+_, _-_, _*_, _/_, _^_, _≤_, _<_}
-use native.Mathlib.Nat.{mul-assoc, mul-le-mul-right, le-of-mul-le-mul-right, lt-of-mul-lt-mul-right, mul-div-mul-right, div-add-mod', add-zero, lt-of-lt-of-le}
+use native.Mathlib.Nat.{mul-assoc, mul-le-mul-right, le-of-mul-le-mul-right, lt-of-mul-lt-mul-right, mul-div-mul-right, lt-of-lt-of-le}
 use native.Mathlib.Numerals.{add-one}
 use native.Mathlib.Omega.{arith}
 use lib.Dec.{T}
@@ -28,32 +28,24 @@ module _ (y : Float) (s : Bool) (m i : ℕ) (D : PartsOf y s m i) (G : Digits m 
 
   -- y is u of the smallest values, and its digits stand at m
   units-parts : u * 2 ^ 64 ≡ m * 2 ^ i
-  units-parts =
-      ap (λ (z : ℕ). z * 2 ^ 64) units-are
-      ∙ sym (add-zero (m * 2 ^ i / 2 ^ 64 * 2 ^ 64))
-      ∙ ap (λ (z : ℕ). m * 2 ^ i / 2 ^ 64 * 2 ^ 64 + z) (sym (D .whole))
-      ∙ div-add-mod' (m * 2 ^ i) (2 ^ 64)
+  units-parts = omega (arith, units-are, D .whole)
 
   further : (j k l : ℕ) → j + l ≡ i + k → u * 2 ^ (64 + k) ≡ m * 2 ^ j * 2 ^ l
   further j k l e = ap (λ (z : ℕ). u * z) (pow-add 2 64 k) ∙ sym (mul-assoc u (2 ^ 64) (2 ^ k)) ∙ ap (λ (z : ℕ). z * 2 ^ k) units-parts ∙ same-power m i k j l (sym e)
 
   low-end : 2 ^ (i - 12) ≤ u
-  low-end = le-of-mul-le-mul-right {k = 2 ^ 64}
-      (subst (λ (z : ℕ). z ≤ u * 2 ^ 64) (sym (pow-add 2 52 i) ∙ ap (λ (z : ℕ). 2 ^ z) (sym (omega arith)) ∙ pow-add 2 (i - 12) 64)
-      (subst (λ (z : ℕ). 2 ^ 52 * 2 ^ i ≤ z) (sym units-parts) (mul-le-mul-right (2 ^ i) (G .lead))))
-      (pow-pos 64)
+  low-end =
+      let e : 2 ^ (i - 12) * 2 ^ 64 ≡ 2 ^ 52 * 2 ^ i = sym (pow-add 2 (i - 12) 64) ∙ ap (λ (z : ℕ). 2 ^ z) (omega arith) ∙ pow-add 2 52 i in
+      le-of-mul-le-mul-right {k = 2 ^ 64} (rw (e, units-parts) (mul-le-mul-right (2 ^ i) (G .lead))) (pow-pos 64)
 
   high-end : u < 2 ^ suc (i - 12)
-  high-end = lt-of-mul-lt-mul-right (2 ^ 64)
-      (subst (λ (z : ℕ). u * 2 ^ 64 < z) (ap (λ (z : ℕ). 2 ^ z) (omega arith) ∙ pow-add 2 (suc (i - 12)) 64)
-      (subst (λ (z : ℕ). z < 2 ^ (53 + i)) (sym units-parts) (shl-lt 53 i (G .top))))
+  high-end =
+      let e : 2 ^ suc (i - 12) * 2 ^ 64 ≡ 2 ^ (53 + i) = sym (pow-add 2 (suc (i - 12)) 64) ∙ ap (λ (z : ℕ). 2 ^ z) (omega arith) in
+      lt-of-mul-lt-mul-right (2 ^ 64) (rw (e, units-parts) (shl-lt 53 i (G .top)))
 
   pub place-is : i - 12 ≡ placeOf y
   unfolding placeOf
-  place-is = sym (ap (λ (z : ℕ). z - 1) (size-of u (i - 12) low-end high-end) ∙ less (i - 12))
-    where
-      less : (n : ℕ) → suc n - 1 ≡ n
-      less n = omega arith
+  place-is = omega (arith, size-of u (i - 12) low-end high-end)
 
   -- both are m * 2 ^ 1022 of the smallest values
   exact : HasValue (round binary64 false u (2 ^ (i - 12))) false (m * 2 ^ 1022) (2 ^ 1074)

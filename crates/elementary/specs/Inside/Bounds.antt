@@ -1,30 +1,18 @@
 -- How large a float is. Definitions only.
-use mathlib.Core.Path.{_≡_}
 use mathlib.Core.Bool.{Bool, false}
 use Prim.Native.Nat.{ℕ, _*_, _^_, _≤_}
-use lib.Ieee.{Float, nan, inf, fin, up, down}
+use lib.IntN.{ℤ}
+use lib.Ieee.{Float, fin, up, down}
 
 -- x is finite, has the sign s, and is at most b in size
-abbrev pub SizeAtMost : Float → Bool → ℕ → Type 0
-SizeAtMost nan s b = ⊥
-SizeAtMost (inf t) s b = ⊥
-SizeAtMost (fin t m e) s b = (t ≡ s) × (m * up e ≤ b * down e)
-
--- x is finite, not negative, and 2 ^ -j or more
-abbrev pub Large : Float → ℕ → Type 0
-Large nan j = ⊥
-Large (inf t) j = ⊥
-Large (fin t m e) j = (t ≡ false) × (down e ≤ m * up e * 2 ^ j)
-
--- x is finite, has the sign s, and is at most b in size
-pub record Side (x : Float) (s : Bool) (b : ℕ) : Type 0 where
-  pub bound : SizeAtMost x s b
+pub data Side : Float → Bool → ℕ → Type 0 where
+  sized : {s : Bool} {b : ℕ} (m : ℕ) (e : ℤ) → m * up e ≤ b * down e → Side (fin s m e) s b
 
 -- the same, whatever the sign
 pub record AtMost (x : Float) (b : ℕ) : Type 0 where
   pub sign : Bool
   pub side : Side x sign b
 
--- x is finite and 2 ^ -j or more
-pub record Over (x : Float) (j : ℕ) : Type 0 where
-  pub large : Large x j
+-- x is finite, not negative, and 2 ^ -j or more
+pub data Over : Float → ℕ → Type 0 where
+  reaches : {j : ℕ} (m : ℕ) (e : ℤ) → down e ≤ m * up e * 2 ^ j → Over (fin false m e) j

@@ -9,18 +9,18 @@ use native.Mathlib.Omega.{arith}
 use lib.Arith.{lt→nleb}
 use lib.Dec.{T, leb, lit<, lit≤}
 use lib.Pow.{pow-add, pow-pos, pow-mono, pow-lt, shl-lt}
-use lib.Ieee.{Float, nan, inf, fin, binary64, down, isNan, nanBits, fits, neg, toBits}
+use lib.Ieee.{Float, binary64, down, isNan, nanBits, fits, neg, toBits}
 use lib.Ieee.Fits.{down-pos}
 use lib.Ieee.Exact.{HasValue}
 use lib.Ieee.Scale.{finite}
 use lib.Ieee.Bits.{is-false, ofBits-toBits, toBits-lt}
 use Rattle.elementary.specs.Ops.{_⊕_, _⊖_, _⊗_, _⊘_, bits, float}
-use Rattle.elementary.specs.Inside.Bounds.{AtMost, Over}
+use Rattle.elementary.specs.Inside.Bounds.{Side, sized, Over}
 use Rattle.elementary.specs.Inside.Errors.{CanSplit, productError, sumError, orderedSumError, roundedHigh, cutHigh, outward, inward}
 use Rattle.elementary.proofs.Laws.Bits.{no-nan-pattern}
 use Rattle.elementary.proofs.Laws.Decode.{finite-no-nan, finite-field}
 use Rattle.elementary.proofs.Laws.Values.{recast, value-low, value-mid, whole-value}
-use Rattle.elementary.proofs.Laws.Bounds.{pow-exact, unsigned, wider, side-finite, value-side, value-over, neg-side, mul-at-most, add-at-most, sub-at-most, div-side}
+use Rattle.elementary.proofs.Laws.Bounds.{pow-exact, unsigned, wider, side-finite, value-side, value-over, neg-side, mul-side, add-at-most, sub-at-most, div-side}
 use Rattle.prices.specs.Inside.SmallT.{Within}
 
 -- ---- the operations
@@ -38,13 +38,13 @@ two-powers a b zero p q = absurd (omega arith)
 two-powers a b (suc c) p q = omega (arith, pow-suc 2 c, pow-mono {i = a} {j = c} (omega arith), pow-mono {i = b} {j = c} (omega arith))
 
 pub plus : {x y : Float} {a b : ℕ} (c : ℕ) → a < c → b < c → c < 1024 → Within x a → Within y b → Within (x ⊕ y) c
-plus {a} {b} c p q t h k = record { size = add-at-most (2 ^ c) (pow-exact c t) (two-powers a b c p q) (h .size) (k .size) }
+plus {a} {b} c p q t h k = record { size = add-at-most (2 ^ c) (pow-exact c t) (two-powers a b c p q) (h .size .side) (k .size .side) }
 
 pub minus : {x y : Float} {a b : ℕ} (c : ℕ) → a < c → b < c → c < 1024 → Within x a → Within y b → Within (x ⊖ y) c
-minus {a} {b} c p q t h k = record { size = sub-at-most (2 ^ c) (pow-exact c t) (two-powers a b c p q) (h .size) (k .size) }
+minus {a} {b} c p q t h k = record { size = sub-at-most (2 ^ c) (pow-exact c t) (two-powers a b c p q) (h .size .side) (k .size .side) }
 
 pub times : {x y : Float} {a b : ℕ} (c : ℕ) → a + b ≤ c → c < 1024 → Within x a → Within y b → Within (x ⊗ y) c
-times {a} {b} c l t h k = record { size = mul-at-most (2 ^ c) (pow-exact c t) (le-trans (le-of-eq (sym (pow-add 2 a b))) (pow-mono l)) (h .size) (k .size) }
+times {a} {b} c l t h k = record { size = unsigned (mul-side (2 ^ c) (pow-exact c t) (le-trans (le-of-eq (sym (pow-add 2 a b))) (pow-mono l)) (h .size .side) (k .size .side)) }
 
 -- by a number of 1 or more
 pub over : {x y : Float} {a : ℕ} → a < 1024 → Within x a → Over y 0 → Within (x ⊘ y) a
@@ -86,11 +86,9 @@ one-or-more b l h =
     lead : (b : ℕ) → 2 ^ 52 ≤ 2 ^ 52 + b % 2 ^ 52
     lead b = omega arith
 
-value-at-most : (x : Float) (s : Bool) (v c b : ℕ) → AtMost x b → HasValue x s v c → v ≤ b * c
-value-at-most nan s v c b h k = absurd k
-value-at-most (inf t) s v c b h k = absurd k
-value-at-most (fin t m e) s v c b h k =
-    le-of-mul-le-mul-right {k = down e} (le-trans (le-of-eq (sym (k .1))) (le-trans (mul-le-mul-right c (h .side .bound .1)) (le-of-eq (mul-right-comm b (down e) c)))) (down-pos e)
+value-at-most : {x : Float} {t : Bool} (s : Bool) (v c b : ℕ) → Side x t b → HasValue x s v c → v ≤ b * c
+value-at-most s v c b (sized m e h) k =
+    le-of-mul-le-mul-right {k = down e} (le-trans (le-of-eq (sym (k .1))) (le-trans (mul-le-mul-right c h) (le-of-eq (mul-right-comm b (down e) c)))) (down-pos e)
 
 -- the exponent of what is at most 2 ^ n
 module _ (x : Float) {n : ℕ} (F : T (fits binary64 x)) (h : Within x n) where
@@ -107,7 +105,7 @@ module _ (x : Float) {n : ℕ} (F : T (fits binary64 x)) (h : Within x n) where
       (le-trans (le-of-eq (pow-add 2 52 k))
       (le-trans (mul-le-mul-right (2 ^ k) (lead b))
       (le-trans
-      (value-at-most x (leb (2 ^ 63) b) ((2 ^ 52 + b % 2 ^ 52) * 2 ^ k) (2 ^ 1074) (2 ^ n) (h .size)
+      (value-at-most (leb (2 ^ 63) b) ((2 ^ 52 + b % 2 ^ 52) * 2 ^ k) (2 ^ 1074) (2 ^ n) (h .size .side)
       (rw (ofBits-toBits binary64 x F) at (value-mid b k (omega arith) (omega (arith, finite-field x F (is-finite h))))))
       (le-of-eq (sym (pow-add 2 n 1074)))))))
     where

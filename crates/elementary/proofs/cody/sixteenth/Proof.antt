@@ -1,11 +1,11 @@
 -- `cody::sixteenth` meets its contract. Assumes nothing.
 use borrow.Author.Needs.{needs}
-use Rattle.elementary.proofs.Laws.Close.{in-float}
+use Rattle.elementary.proofs.Laws.Values.{in-float}
 use Rattle.elementary.proofs.cody.sixteenth.Statement.{statement}
 use Rattle.elementary.proofs.cody.sixteenth.Tie as tie
 
 int-to-float-result : tie.Need-int-to-float-result
-int-to-float-result c = in-float _ (c .before .pre)
+int-to-float-result c = in-float _ (search needs)
 
 returns : tie.Need-returns
 returns c = search needs

@@ -6,14 +6,8 @@ use Rattle.elementary.specs.Exp.{expSum}
 use Rattle.elementary.proofs.exp.exp.Statement.{statement}
 use Rattle.elementary.proofs.exp.exp.Tie as tie
 
-multiple-requires : tie.Need-multiple-requires
-multiple-requires c κs = search needs
-
 remainder-requires : tie.Need-remainder-requires
 remainder-requires c κs = c .multiple .ensures
-
-sum-requires : tie.Need-sum-requires
-sum-requires c κs = search needs
 
 exp-from-sum-requires : tie.Need-exp-from-sum-requires
 exp-from-sum-requires c κs = (c .before .before .multiple .ensures, c .sum .ensures ∙ ap (λ r. expSum 13 r one) (c .before .remainder .ensures))
@@ -24,4 +18,4 @@ returns c = c .exp-from-sum .ensures
 pub exp-spec : {M : Type 1} → statement M
 exp-spec =
     tie.close
-    (tie.spec multiple-requires remainder-requires sum-requires exp-from-sum-requires returns)
+    (tie.spec (λ c κs. search needs) remainder-requires (λ c κs. search needs) exp-from-sum-requires returns)

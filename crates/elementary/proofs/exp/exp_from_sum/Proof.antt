@@ -31,9 +31,6 @@ biased-exponent-requires : tie.Need-biased-exponent-requires
 biased-exponent-requires c κs =
     rw (c .before .before .before .pre .0) (whole-k _ (in-range _ (c .before .before .if1 .left) (c .before .if2 .left) (c .if3 .left)))
 
-scale-by-power-requires : tie.Need-scale-by-power-requires
-scale-by-power-requires c κs = search needs
-
 returns-4 : tie.Need-returns-4
 unfolding expOf
 returns-4 c =
@@ -42,4 +39,4 @@ returns-4 c =
     (inner-is _ _ _ _ _ (h .0) (h .1) (c .before .biased-exponent .ensures) (c .scale-by-power .ensures))
 
 pub exp-from-sum-spec : {M : Type 1} → statement M
-exp-from-sum-spec = tie.close (tie.spec returns returns-2 returns-3 biased-exponent-requires scale-by-power-requires returns-4)
+exp-from-sum-spec = tie.close (tie.spec returns returns-2 returns-3 biased-exponent-requires (λ c κs. search needs) returns-4)

@@ -1,6 +1,6 @@
 -- `exp::next_sum` meets its contract. Assumes nothing.
 use native.Mathlib.Omega.{arith}
-use Rattle.elementary.proofs.Laws.Close.{in-float}
+use Rattle.elementary.proofs.Laws.Values.{in-float}
 use Rattle.elementary.proofs.exp.Steps.{sum-step}
 use Rattle.elementary.proofs.exp.next_sum.Statement.{statement}
 use Rattle.elementary.proofs.exp.next_sum.Tie as tie

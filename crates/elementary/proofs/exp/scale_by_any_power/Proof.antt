@@ -7,20 +7,8 @@ use borrow.Author.Needs.{needs}
 use Rattle.elementary.proofs.exp.scale_by_any_power.Statement.{statement}
 use Rattle.elementary.proofs.exp.scale_by_any_power.Tie as tie
 
-is-finite-requires : tie.Need-is-finite-requires
-is-finite-requires c κs = search needs
-
 parts-of-requires : tie.Need-parts-of-requires
 parts-of-requires c κs = subst T (sym (sym (c .before .is-finite .ensures) ∙ c .if1 .taken)) tt
-
-add-round-exact : tie.Need-add-round-exact
-add-round-exact c = search needs
-
-sub-round-exact : tie.Need-sub-round-exact
-sub-round-exact c = search needs
-
-round-exact-requires : tie.Need-round-exact-requires
-round-exact-requires c κs = search needs
 
 returns : tie.Need-returns
 returns c =
@@ -32,13 +20,4 @@ returns-2 : tie.Need-returns-2
 returns-2 c = power.far-special binary64 (c .before .before .args .p) _ (sym (c .before .is-finite .ensures) ∙ c .if1 .left)
 
 pub scale-by-any-power-spec : {M : Type 1} → statement M
-scale-by-any-power-spec =
-    tie.close
-    (tie.spec
-    is-finite-requires
-    parts-of-requires
-    add-round-exact
-    sub-round-exact
-    round-exact-requires
-    returns
-    returns-2)
+scale-by-any-power-spec = tie.close (tie.spec (λ c κs. search needs) parts-of-requires (λ c. search needs) (λ c. search needs) (λ c κs. search needs) returns returns-2)

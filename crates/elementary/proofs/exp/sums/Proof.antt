@@ -18,15 +18,6 @@ abbrev μ-loop : tie.MeasureT-loop
 loop-holds : tie.Need-loop-holds Inv-loop μ-loop
 loop-holds c = (omega arith, record { at0 = refl; at1 = refl; at2 = refl; at3 = refl; at4 = refl; at5 = refl; at6 = refl; at7 = refl })
 
-next-sums-requires : tie.Need-next-sums-requires Inv-loop μ-loop
-next-sums-requires c κs = search needs
-
-sub-n : tie.Need-sub-n Inv-loop μ-loop
-sub-n c = omega arith
-
-loop-less : tie.Need-loop-less Inv-loop μ-loop
-loop-less c = omega arith
-
 loop-again : tie.Need-loop-again Inv-loop μ-loop
 loop-again c = (omega arith, c .next-sums .ensures)
 
@@ -47,4 +38,4 @@ returns c =
     }
 
 pub sums-spec : {M : Type 1} → statement M
-sums-spec = tie.close (tie.spec Inv-loop μ-loop loop-holds next-sums-requires sub-n loop-less loop-again returns)
+sums-spec = tie.close (tie.spec Inv-loop μ-loop loop-holds (λ c κs. search needs) (λ c. omega arith) (λ c. omega arith) loop-again returns)

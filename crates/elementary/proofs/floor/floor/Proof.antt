@@ -23,20 +23,11 @@ float-to-bits-b c = no-nan (c .before .args .x) (c .if1 .left)
 returns-2 : tie.Need-returns-2
 returns-2 c = rw (back (c .before .before)) at (floor-large (toBits binary64 (c .before .before .args .x)) (omega arith))
 
-floor-below-one-requires : tie.Need-floor-below-one-requires
-floor-below-one-requires c κs = search needs
-
 returns-3 : tie.Need-returns-3
 returns-3 c = c .floor-below-one .ensures ∙ ap (floorOf binary64) (back (c .before .before .before .before))
-
-sub-floor-from-one : tie.Need-sub-floor-from-one
-sub-floor-from-one c = search needs
-
-floor-from-one-requires : tie.Need-floor-from-one-requires
-floor-from-one-requires c κs = search needs
 
 returns-4 : tie.Need-returns-4
 returns-4 c = c .floor-from-one .ensures ∙ ap (floorOf binary64) (back (c .before .before .before .before))
 
 pub floor-spec : {M : Type 1} → statement M
-floor-spec = tie.close (tie.spec returns float-to-bits-b returns-2 floor-below-one-requires returns-3 sub-floor-from-one floor-from-one-requires returns-4)
+floor-spec = tie.close (tie.spec returns float-to-bits-b returns-2 (λ c κs. search needs) returns-3 (λ c. search needs) (λ c κs. search needs) returns-4)

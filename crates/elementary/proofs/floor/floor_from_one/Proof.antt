@@ -12,9 +12,6 @@ use Rattle.elementary.proofs.floor.floor_from_one.Tie as tie
 use Rattle.elementary.proofs.floor.floor_from_one.Reads as reads
 use Rattle.elementary.proofs.floor.floor_from_one.Lts as lts
 
-shl-unit : tie.Need-shl-unit
-shl-unit c = search needs
-
 sub-c : tie.Need-sub-c
 sub-c c = omega (arith, unit-is (c .before .args .d) (c .before .pre .1), pow-pos (c .before .args .d))
 
@@ -51,4 +48,4 @@ returns c =
     rw (unit-is (d c) (p .1)) (floor-cut (b c) (d c) (p .0) (p .1) (width c) (p .2) (c .before .if1 .c) (add-unit c))
 
 pub floor-from-one-spec : {M : Type 1} → statement M
-floor-from-one-spec = tie.close (tie.spec shl-unit sub-c add-c rem-result sub-result float-from-bits-result returns)
+floor-from-one-spec = tie.close (tie.spec (λ c. search needs) sub-c add-c rem-result sub-result float-from-bits-result returns)

@@ -1,6 +1,6 @@
 -- `inverse::point` meets its contract. Assumes nothing.
 use native.Mathlib.Omega.{arith}
-use Rattle.elementary.proofs.Laws.Close.{in-float}
+use Rattle.elementary.proofs.Laws.Values.{in-float}
 use borrow.Author.Needs.{needs}
 use Rattle.elementary.proofs.inverse.point.Statement.{statement}
 use Rattle.elementary.proofs.inverse.point.Tie as tie

@@ -8,7 +8,8 @@ use lib.Ieee.Exact.{HasValue}
 use lib.Ieee.Positive.{positive-finite}
 use Rattle.elementary.specs.Inside.Round.{Digits}
 use Rattle.elementary.specs.Ln.{lnAt, placeOf, significandOf}
-use Rattle.elementary.proofs.ln.Steps.{in-float, difference, unit}
+use Rattle.elementary.proofs.Laws.Values.{in-float}
+use Rattle.elementary.proofs.ln.Steps.{difference, unit}
 use Rattle.elementary.proofs.ln.Ends.{digits-of}
 use Rattle.elementary.proofs.ln.Place.{place-is, significand-is, in-upper-part, in-lower-part}
 use borrow.Author.Needs.{needs}
@@ -38,23 +39,14 @@ sub-float-of-fields : tie.Need-sub-float-of-fields
 sub-float-of-fields c = digits (c .before) .lead
 
 float-of-fields-requires : tie.Need-float-of-fields-requires
-float-of-fields-requires c κs = (lit< tt, (lit< tt, under (c .before .parts-of .result .m) (digits (c .before) .lead) (digits (c .before) .top)))
-  where
-    under : (m : ℕ) → 2 ^ 52 ≤ m → m < 2 ^ 53 → m - 2 ^ 52 < 2 ^ 52
-    under m h k = omega arith
+float-of-fields-requires c κs = let g = digits (c .before) in (lit< tt, (lit< tt, omega arith))
 
 sub-place : tie.Need-sub-place
 sub-place c = digits (c .before .before .before) .least
 
-add-place : tie.Need-add-place
-add-place c = search needs
-
 int-to-float-ln-near-one : tie.Need-int-to-float-ln-near-one
 int-to-float-ln-near-one c =
     let g = digits (c .before .before .before .before .before) in in-float _ (⊎-elim (λ w. omega arith) (λ w. omega arith) (c .before .if1 .came))
-
-ln-near-one-requires : tie.Need-ln-near-one-requires
-ln-near-one-requires c κs = search needs
 
 returns : tie.Need-returns
 returns c =
@@ -70,14 +62,4 @@ returns c =
     (j .if1 .came)
 
 pub ln-inner-spec : {M : Type 1} → statement M
-ln-inner-spec =
-    tie.close
-    (tie.spec
-    parts-of-requires
-    sub-float-of-fields
-    float-of-fields-requires
-    sub-place
-    add-place
-    int-to-float-ln-near-one
-    ln-near-one-requires
-    returns)
+ln-inner-spec = tie.close (tie.spec parts-of-requires sub-float-of-fields float-of-fields-requires sub-place (λ c. search needs) int-to-float-ln-near-one (λ c κs. search needs) returns)

@@ -1,7 +1,8 @@
 -- `ln::series` meets its contract. The loop's invariant: q is the sum after the steps down to i. Assumes nothing.
 use Prim.Native.Nat.{_≤_}
 use native.Mathlib.Omega.{arith}
-use Rattle.elementary.proofs.ln.Steps.{in-float, first, Down, horner-step, no-steps-left}
+use Rattle.elementary.proofs.Laws.Values.{in-float}
+use Rattle.elementary.proofs.ln.Steps.{first, Down, horner-step, no-steps-left}
 use Rattle.elementary.proofs.ln.series.Statement.{statement}
 use Rattle.elementary.proofs.ln.series.Tie as tie
 
@@ -14,20 +15,8 @@ abbrev μ-loop : tie.MeasureT-loop
 loop-holds : tie.Need-loop-holds Inv-loop μ-loop
 loop-holds c = (omega arith, rw first)
 
-sub-i : tie.Need-sub-i Inv-loop μ-loop
-sub-i c = omega arith
-
-mul-q : tie.Need-mul-q Inv-loop μ-loop
-mul-q c = omega arith
-
-add-q : tie.Need-add-q Inv-loop μ-loop
-add-q c = omega arith
-
 int-to-float-q : tie.Need-int-to-float-q Inv-loop μ-loop
 int-to-float-q c = in-float _ (omega arith)
-
-loop-less : tie.Need-loop-less Inv-loop μ-loop
-loop-less c = omega arith
 
 loop-again : tie.Need-loop-again Inv-loop μ-loop
 loop-again c = (omega arith, horner-step _ _ _ (c .before .loop-test .taken) (c .before .before .loop .inv .1))
@@ -36,16 +25,4 @@ returns : tie.Need-returns Inv-loop μ-loop
 returns c = no-steps-left _ _ _ (c .loop-test .left) (c .before .loop .inv .1)
 
 pub series-spec : {M : Type 1} → statement M
-series-spec =
-    tie.close
-    (tie.spec
-    Inv-loop
-    μ-loop
-    loop-holds
-    sub-i
-    mul-q
-    add-q
-    int-to-float-q
-    loop-less
-    loop-again
-    returns)
+series-spec = tie.close (tie.spec Inv-loop μ-loop loop-holds (λ c. omega arith) (λ c. omega arith) (λ c. omega arith) int-to-float-q (λ c. omega arith) loop-again returns)
