@@ -1,10 +1,10 @@
--- `sum`, `add` and `sub` by the values of their operands. Assumes nothing.
+-- `sum`, `add`, `sub` and `mul` by the values of their operands. Assumes nothing.
 use mathlib.Core.Path.{_≡_, sym, ap, _∙_, subst}
 use mathlib.Core.Bool.{Bool, not, _&&_, Bool·beq, cond}
 use Prim.Native.Nat.{ℕ, _+_, _-_, _*_, _<_}
-use native.Mathlib.Nat.{mul-assoc, mul-comm, mul-right-comm, mul-pos, mul-sub, mul-lt-mul-of-pos-right, lt-of-mul-lt-mul-right, add-mul}
+use native.Mathlib.Nat.{mul-assoc, mul-comm, mul-left-comm, mul-right-comm, mul-pos, mul-sub, mul-lt-mul-of-pos-right, lt-of-mul-lt-mul-right, add-mul}
 use lib.Dec.{ltb, lt→ltb, ltb→lt}
-use lib.Ieee.{Float, nan, inf, fin, Format, binary64, up, down, round, neg, sum, add, sub}
+use lib.Ieee.{Float, nan, inf, fin, Format, binary64, unlike, up, down, round, neg, sum, add, sub, mul}
 use lib.Ieee.Fits.{down-pos}
 use lib.Ieee.Exact.{HasValue}
 use lib.Ieee.Scale.{round-same}
@@ -64,3 +64,15 @@ neg-value (fin t m e) s a d h = (ap not (h .0), h .1)
 pub sub-at : (x y : Float) (s t : Bool) (a b d : ℕ) → 0 < d → HasValue x s a d → HasValue y t b d → sub binary64 x y ≡ sum binary64 s a (not t) b d
 unfolding sub
 sub-at x y s t a b d P p q = add-at x (neg y) s (not t) a b d P p (neg-value y t b d q)
+
+-- ---- a product
+pub mul-value : (x y : Float) (s t : Bool) (a b c d : ℕ) → 0 < c → 0 < d → HasValue x s a c → HasValue y t b d → mul binary64 x y ≡ round binary64 (unlike s t) (a * b) (c * d)
+unfolding mul
+mul-value nan y s t a b c d C D p q = absurd p
+mul-value (inf _) y s t a b c d C D p q = absurd p
+mul-value (fin _ m e) nan s t a b c d C D p q = absurd q
+mul-value (fin _ m e) (inf _) s t a b c d C D p q = absurd q
+mul-value (fin _ m e) (fin _ n g) s t a b c d C D p q =
+    let l : m * up e * (n * up g) * (c * d) ≡ m * up e * c * (n * up g * d) = simp (mul-assoc, mul-comm, mul-left-comm) in
+    let r : a * b * (down e * down g) ≡ a * down e * (b * down g) = simp (mul-assoc, mul-left-comm) in
+    rw (p .0, q .0) (round-same binary64 (unlike s t) (m * up e * (n * up g)) (down e * down g) (a * b) (c * d) (mul-pos (down-pos e) (down-pos g)) (mul-pos C D) (l ∙ rw (p .1, q .1) (sym r)))

@@ -13,8 +13,7 @@ use lib.Pow.{pow-add, pow-pos}
 use Rattle.elementary.specs.MulAdd.{fma}
 use Rattle.elementary.specs.Inside.Round.{PartsOf, wide}
 use Rattle.elementary.proofs.mul_add.Sums.{sum-same, sum-more}
-use Rattle.elementary.proofs.Laws.Adding.{sum-value, add-at}
-use Rattle.elementary.proofs.Laws.Errors.TwoProduct.{mul-value}
+use Rattle.elementary.proofs.Laws.Adding.{sum-value, add-at, mul-value}
 
 -- ---- finite operands by their values
 pub fma-at : (f : Format) (x y z : Float) (s t v : Bool) (A B C D H : ℕ) → 0 < D → 0 < H → HasValue x s A D → HasValue y t B D → HasValue z v C D

@@ -16,7 +16,7 @@ use borrow.Author.Tests.{le-ltb}
 use Rattle.elementary.specs.MulAdd.{fma}
 use Rattle.elementary.proofs.Laws.Places.{place-of, sign-of}
 use Rattle.elementary.proofs.Laws.Values.{recast, value-unique}
-use Rattle.elementary.proofs.Laws.Adding.{sum-value, add-at, neg-value}
+use Rattle.elementary.proofs.Laws.Adding.{sum-value, add-at, neg-value, mul-value}
 use Rattle.elementary.proofs.mul_add.Sums.{sum-same, sum-more, sum-comm}
 use Rattle.elementary.proofs.mul_add.Exactly.{fma-at}
 use Rattle.elementary.proofs.Laws.Errors.Digits.{ex, dist, dist-mul, Short, short-zero, near, near-best, near-sides, near-dist, near-part}
@@ -148,17 +148,6 @@ module _ {x y : Float} {a b c d i j : ℕ} (X : Is x a b i) (Y : Is y c d j) (n 
   sub-near h = add-near X (neg-is Y) n m E h
 
 -- ---- x * y is n - m
-pub mul-value : (x y : Float) (s t : Bool) (a b c d : ℕ) → 0 < c → 0 < d → HasValue x s a c → HasValue y t b d → mul binary64 x y ≡ round binary64 (unlike s t) (a * b) (c * d)
-unfolding mul
-mul-value nan y s t a b c d C D p q = absurd p
-mul-value (inf _) y s t a b c d C D p q = absurd p
-mul-value (fin _ m e) nan s t a b c d C D p q = absurd q
-mul-value (fin _ m e) (inf _) s t a b c d C D p q = absurd q
-mul-value (fin _ m e) (fin _ n g) s t a b c d C D p q =
-    let l : m * up e * (n * up g) * (c * d) ≡ m * up e * c * (n * up g * d) = simp (mul-assoc, mul-comm, mul-left-comm) in
-    let r : a * b * (down e * down g) ≡ a * down e * (b * down g) = simp (mul-assoc, mul-left-comm) in
-    rw (p .0, q .0) (round-same binary64 (unlike s t) (m * up e * (n * up g)) (down e * down g) (a * b) (c * d) (mul-pos (down-pos e) (down-pos g)) (mul-pos C D) (l ∙ rw (p .1, q .1) (sym r)))
-
 pub fma-value : (x y z : Float) (s t r : Bool) (a b c d n : ℕ) → 0 < d → HasValue x s a d → HasValue y t b d → HasValue z r c d → a * b ≡ n * d → fma binary64 x y z ≡ sum binary64 (unlike s t) n r c d
 fma-value x y z s t r a b c d n D X Y Z e =
     fma-at binary64 x y z s t r a b c d 1 D (zero-lt-suc 0) X Y Z

@@ -17,10 +17,10 @@ use Rattle.elementary.specs.Inside.Errors.{CanSplit}
 use Rattle.elementary.proofs.Laws.Bits.{no-nan-pattern}
 use Rattle.elementary.proofs.Laws.Values.{recast, revalue, value-mid, whole-value}
 use Rattle.elementary.proofs.Laws.Decode.{same-power}
-use Rattle.elementary.proofs.Laws.Adding.{add-at, sub-at, neg-value}
+use Rattle.elementary.proofs.Laws.Adding.{add-at, sub-at, mul-value, neg-value}
 use Rattle.elementary.proofs.mul_add.Sums.{sum-same, sum-comm}
 use Rattle.elementary.proofs.mul_add.Carry.{mul-lt}
-use Rattle.elementary.proofs.Laws.Errors.Pairs.{Signed, minus-more, minus-less, mul-value, fma-value}
+use Rattle.elementary.proofs.Laws.Errors.Pairs.{Signed, minus-more, minus-less, fma-value}
 
 -- a - b, whose sign and size are s and v, and c
 sum-after : (s : Bool) (a b v c d : ℕ) → Signed s a b v → sum binary64 s v false c d ≡ sum binary64 false (a + c) true b d
