@@ -2,13 +2,13 @@
 use mathlib.Core.Path.{_≡_, refl, sym, ap, _∙_, subst}
 use mathlib.Core.Bool.{Bool, true, false, not, cond}
 use Prim.Native.Nat.{ℕ, _+_, _-_, _*_, _^_, _≤_, _<_}
-use native.Mathlib.Nat.{le-trans, le-of-eq, lt-of-le-of-lt, mul-assoc, mul-comm, mul-left-comm, mul-div-cancel, mul-pos, mul-le-mul-right, le-of-mul-le-mul-right, one-mul, add-mul, zero-lt-suc}
+use native.Mathlib.Nat.{le-trans, le-of-eq, lt-of-le-of-lt, mul-assoc, mul-div-cancel, mul-pos, mul-le-mul-right, le-of-mul-le-mul-right, one-mul, add-mul, zero-lt-suc}
 use native.Mathlib.Decide.{decLe}
 use native.Mathlib.Omega.{arith}
 use lib.Dec.{T}
 use lib.Pow.{pow-add, pow-pos, pow-mono, pow-lt}
-use lib.Ieee.{Float, nan, inf, fin, binary64, size, units, unlike, up, down, round, sum, add, sub, mul, neg, fits}
-use lib.Ieee.Fits.{round-is, down-pos}
+use lib.Ieee.{Float, binary64, size, units, unlike, round, sum, add, sub, mul, neg, fits}
+use lib.Ieee.Fits.{round-is}
 use lib.Ieee.Nearest.{closest, closest-same}
 use lib.Ieee.Exact.{HasValue, units-val}
 use lib.Ieee.Scale.{round-same}
