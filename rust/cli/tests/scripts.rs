@@ -82,3 +82,28 @@ fn links() {
     symlink("../gintubalos", elsewhere.join("volatility")).expect("linked");
     assert_eq!(shell(&elsewhere, "./volatility --help"), (0, HELP.to_owned(), String::new()));
 }
+
+/// A right command line goes on to build, which without Rattle's kit and cargo is told and nothing more.
+#[test]
+fn right_lines_build() {
+    let tree = tree("right");
+    // What the script needs, and neither rt nor cargo.
+    let tools = "mkdir tools; for t in bash cat dirname env find grep mkdir readlink tail tee; do \
+                 ln -s \"$(command -v $t)\" tools/$t; done";
+    assert_eq!(shell(&tree, tools).0, 0);
+    for line in [
+        "demo",
+        "solve 10 100 95 1 call --limit 10 --steps",
+        "solve -- 10 100 95 1 call",
+        "black 100 95 0.2 1 put",
+        "file book --limit=1 10 100 95 1 call",
+        "file --repair book",
+        "recheck one two three --jobs 1 --all",
+        "list -",
+        "show book 1",
+    ] {
+        let (status, out, err) = shell(&tree, &format!("PATH=$PWD/tools bash ./gintubalos {line}"));
+        assert_eq!((status, &*out), (74, ""), "{line}: {err}");
+        assert!(err.starts_with("gintubalos: proving and building the library"), "{line}: {err}");
+    }
+}
