@@ -290,7 +290,7 @@ pub fn implied_volatility_from_a_transformed_rational_guess(
 }
 
 // What the quote's loop seeks.
-pub fn target(set: RuleSet, quote: Quote) -> Target
+pub fn loop_target(set: RuleSet, quote: Quote) -> Target
     ensures { λ r. ⌜ r ≡ targetOf set quote ⌝ }
 {
     let cause = input_number(quote);

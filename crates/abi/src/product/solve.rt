@@ -16,10 +16,10 @@ use solver::book::is_kind;
 use solver::book::kind_from;
 use solver::numbers;
 use solver::quote::Quote;
+use solver::solve::loop_target;
 use solver::solve::solve_quote;
 use solver::solve::solve_quote_with_trail;
 use solver::solve::steps_of;
-use solver::solve::target;
 
 // Number, branch, ending and steps in one word.
 pub(crate) fn outcome_from(number: u8, branch: u8, ending: u8, steps: u32) -> u64
@@ -153,7 +153,7 @@ fn target_for(kind: u8, quote: Quote) -> Target
     ensures { λ r. ⌜ r ≡ targetFor kind quote ⌝ }
 {
     if is_kind(kind) {
-        return target(RULE_SET_0, quote);
+        return loop_target(RULE_SET_0, quote);
     }
     Target::Refused(numbers::OUTSIDE_THE_LAYOUT)
 }

@@ -6,7 +6,7 @@ use Rattle.abi.proofs.product.solve.target_for.Tie as tie
 
 returns : tie.Need-returns
 unfolding targetFor
-returns c = rw (← c .before .before .is-kind .ensures, c .before .if1 .taken) (c .target .ensures)
+returns c = rw (← c .before .before .is-kind .ensures, c .before .if1 .taken) (c .loop-target .ensures)
 
 returns-2 : tie.Need-returns-2
 unfolding targetFor
