@@ -56,7 +56,7 @@ fn market(words: &mut Words, x: f64, s: f64) -> Option<Market> {
         (out, _) => out,
     };
     let price = black(forward, strike, s / expiry.sqrt(), expiry, kind).ok()?;
-    Some(Market { floats: [price, forward, strike, expiry], kind: kind as u8 })
+    Some(Market { floats: [price, forward, strike, expiry], kind: kind.byte() })
 }
 
 /// What a class of markets for solve has: a branch, and where the prices lie that are computed on the way.
@@ -146,7 +146,7 @@ pub fn quotes(count: usize) -> Vec<Market> {
         let strike = forward * (words.uniform(-1.5, 1.5) * sigma * expiry.sqrt()).exp();
         let kind = if forward < strike { OptionType::Call } else { OptionType::Put };
         if let Ok(price) = black(forward, strike, sigma, expiry, kind) {
-            found.push(Market { floats: [price, forward, strike, expiry], kind: kind as u8 });
+            found.push(Market { floats: [price, forward, strike, expiry], kind: kind.byte() });
         }
     }
     found
