@@ -299,6 +299,8 @@ fn price_from_normalised(intrinsic: f64, factor: f64, price: Answer) -> Answer
     }
 }
 
+// s and x come first: the normalised price waits for them, and for the other two roots only the last
+// product does.
 fn price(
     set: RuleSet,
     forward: f64,
@@ -310,9 +312,10 @@ fn price(
     ensures { λ r. ⌜ r ≡ priceOf set forward strike sigma expiry «option_type» ⌝ }
 {
     let intrinsic = max(option_type.times(forward - strike), 0.0);
-    let factor = sqrt(forward) * sqrt(strike);
+    let s = sigma * sqrt(expiry);
     let x = ln(forward / strike);
-    let b = normalised_black_under(set, x, sigma * sqrt(expiry), option_type);
+    let factor = sqrt(forward) * sqrt(strike);
+    let b = normalised_black_under(set, x, s, option_type);
     price_from_normalised(intrinsic, factor, b)
 }
 

@@ -26,16 +26,17 @@ use prices::black::is_positive_normal;
 use prices::inputs::OptionType;
 use prices::refusals;
 ghost use mathlib.Core.Path.{_≡_};
-ghost use mathlib.Core.Bool.{true};
+ghost use mathlib.Core.Bool.{true, _&&_};
 ghost use Prim.Native.Nat.{_*_, _≤_};
+ghost use lib.Dec.{ltb};
 ghost use lib.ListN.{length};
 ghost use Rattle.elementary.specs.RuleSets.{rule-set-0};
 ghost use Rattle.solver.specs.Loop.{run as runOf};
 ghost use Rattle.solver.specs.Step.{nextBy};
 ghost use Rattle.solver.specs.Inside.Branch.{branchStep};
-ghost use Rattle.solver.specs.Inside.Start.{HasExponentials, HasExponentialsIn, startMeaning, Implements};
+ghost use Rattle.solver.specs.Inside.Start.{HasExponentials, HasExponentialsIn, startMeaning, Implements, soughtAfter};
 ghost use Rattle.solver.specs.Inside.Trail.{trailIfKept};
-ghost use Rattle.solver.specs.Solve.{capOf, overExpiry, acceptedStart, inputNumber, solutionOf, resultOfRun, solveKeeping, solveOf, solveWithTrail, targetOf, quoteOf, stepsOf};
+ghost use Rattle.solver.specs.Solve.{capOf, overExpiry, acceptedStart, startOf, inputNumber, solutionOf, resultOfRun, solveKeeping, solveOf, solveWithTrail, targetOf, quoteOf, stepsOf};
 ghost use Rattle.solver.specs.Trail.{trailAfter};
 
 const IMPLIED_VOLATILITY_MAXIMUM_ITERATIONS: u32 = 2;
@@ -180,10 +181,20 @@ fn run(
 
 // ---- solve
 
-// With a trail where `keep` is true, else without one.
-fn solve(set: RuleSet, quote: Quote, limit: u32, trail: &mut [u8], keep: bool) -> Solution
+// With a trail where `keep` is true, else without one. What the loop seeks, if there is one, goes to
+// `target`: a function of its own for it would be a second caller of `accepted_start`, which then
+// stays out of line and is slower.
+fn solve(
+    set: RuleSet,
+    quote: Quote,
+    limit: u32,
+    trail: &mut [u8],
+    keep: bool,
+    target: &mut f64,
+) -> Solution
     ensures { λ r. ⌜ r ≡ solveKeeping set keep (length (now (trail .entry))) quote limit .answer ⌝ }
     ensures { λ _. ⌜ now (trail .exit) ≡ trailIfKept keep (solveKeeping set keep (length (now (trail .entry))) quote limit .records) (now (trail .entry)) ⌝ }
+    ensures { λ _. ⌜ now (target .exit) ≡ soughtAfter (startOf set (keep && ltb (length (now (trail .entry))) (48 * limit)) quote) (now (target .entry)) ⌝ }
 {
     let number = input_number(quote);
     if number != 0 {
@@ -196,6 +207,7 @@ fn solve(set: RuleSet, quote: Quote, limit: u32, trail: &mut [u8], keep: bool) -
         Start::Answered(v) => solution_of(v, numbers::NO_BRANCH, numbers::NO_LOOP, 0),
         Start::Stopped(n) => Solution::Refused(n, 0),
         Start::Looping(branch, m, st) => {
+            *target = m.beta;
             run(set, branch, m, sqrt(quote.expiry), st, limit, trail, keep)
         }
     }
@@ -214,7 +226,8 @@ pub fn solve_quote_with_trail(set: RuleSet, quote: Quote, limit: u32, trail: &mu
     ensures { λ r. ⌜ r ≡ solveWithTrail set quote limit (length (now (trail .entry))) .answer ⌝ }
     ensures { λ _. ⌜ now (trail .exit) ≡ trailAfter (solveWithTrail set quote limit (length (now (trail .entry))) .records) (now (trail .entry)) ⌝ }
 {
-    solve(set, quote, limit, trail, true)
+    let mut target = 0.0;
+    solve(set, quote, limit, trail, true, &mut target)
 }
 
 // The same by document 01's rules.
@@ -245,7 +258,8 @@ pub fn solve_quote(set: RuleSet, quote: Quote, limit: u32) -> Solution
     ensures { λ r. ⌜ r ≡ solveOf set quote limit .answer ⌝ }
 {
     let mut none = [0u8; 1];
-    solve(set, quote, limit, &mut none, false)
+    let mut target = 0.0;
+    solve(set, quote, limit, &mut none, false, &mut target)
 }
 
 // The same by document 01's rules.
@@ -289,17 +303,20 @@ pub fn implied_volatility_from_a_transformed_rational_guess(
     )
 }
 
-// What the quote's loop seeks.
+// What the quote's loop seeks: a run of no steps has it.
 pub fn loop_target(set: RuleSet, quote: Quote) -> Target
     ensures { λ r. ⌜ r ≡ targetOf set quote ⌝ }
 {
-    let cause = input_number(quote);
-    if cause != 0 {
-        return Target::Refused(cause);
-    }
-    match accepted_start(set, quote) {
-        Start::Answered(_) => Target::NoLoop,
-        Start::Stopped(n) => Target::Refused(n),
-        Start::Looping(_, m, _) => Target::Sought(m.beta),
+    let mut none = [0u8; 1];
+    let mut target = 0.0;
+    match solve(set, quote, 0, &mut none, false, &mut target) {
+        Solution::Solved(a) => {
+            if a.ending == numbers::NO_LOOP {
+                Target::NoLoop
+            } else {
+                Target::Sought(target)
+            }
+        }
+        Solution::Refused(n, _) => Target::Refused(n),
     }
 }

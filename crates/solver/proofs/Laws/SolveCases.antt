@@ -1,51 +1,51 @@
 -- What solve is once its input is looked at: a number, 21, or what the start leads to. Assumes nothing.
-use mathlib.Core.Path.{_≡_, refl, sym, _∙_}
+use mathlib.Core.Path.{_≡_, refl, sym, _∙_, ap}
 use mathlib.Core.Bool.{Bool, true, false, true≢false, _&&_}
-use mathlib.Core.List.{List, []}
+use mathlib.Core.List.{List}
 use mathlib.Core.Logic.{_⊎_, inl, inr}
 use Prim.Native.Nat.{ℕ, _*_, _≤_}
 use native.Mathlib.Omega.{arith}
 use native.Mathlib.Nat.{mul-comm}
 use borrow.Author.Tests.{ne-eqb, ltb-false}
 use lib.Dec.{ltb}
+use lib.Ieee.{Float}
 use Rattle.elementary.specs.declared.rule_set.RuleSet.{RuleSet}
 use Rattle.solver.specs.declared.quote.Quote.{Quote}
+use Rattle.solver.specs.declared.answers.ImpliedVolatility.{ImpliedVolatility}
 use Rattle.solver.specs.declared.answers.Solution.{Solution}
-use Rattle.solver.specs.declared.answers.Solution.the-variants.{Refused}
-use Rattle.solver.specs.declared.answers.Target.{Target}
-use Rattle.solver.specs.declared.answers.Target.the-variants.{Refused as NoTarget}
+use Rattle.solver.specs.declared.answers.Solution.the-variants.{Solved, Refused}
+use Rattle.solver.specs.declared.answers.Target.the-variants.{Sought, NoLoop, Refused as NoTarget}
 use Rattle.solver.specs.declared.state.Start.{Start as CodeStart}
-use Rattle.solver.specs.Inside.Start.{startMeaning}
-use Rattle.solver.specs.Solve.{acceptedStart, inputNumber, startOf, targetIn, targetOf, SolveResult, resultFrom, solveKeeping}
+use Rattle.solver.specs.Inside.Start.{startMeaning, soughtAfter}
 use Rattle.solver.specs.Inside.Trail.{trailIfKept}
-use Rattle.solver.proofs.Laws.LoopInvariant.{no-record}
+use Rattle.solver.specs.Loop.{run}
+use Rattle.solver.specs.Guess.{Start, answered, stopped, looping}
+use Rattle.solver.specs.Answers.{isSolved, numberIn, endingIn}
+use Rattle.solver.specs.Solve.{acceptedStart, inputNumber, startOf, targetIn, resultFrom, solveKeeping}
 
 module _ (keep : Bool) (bytes : ℕ) (set : RuleSet) (q : Quote) (n : ℕ) where
-  abbrev w : SolveResult
-  w = solveKeeping set keep bytes q n
+  abbrev start : Start
+  start = startOf set (keep && ltb bytes (48 * n)) q
 
-  pub by-number : (k : ℕ) → k ≡ inputNumber q → (k ≡ 0 → ⊥) → w ≡ record { records = []; answer = Refused k 0 }
-  unfolding solveKeeping resultFrom startOf
+  pub by-number : (k : ℕ) → k ≡ inputNumber q → (k ≡ 0 → ⊥) → start ≡ stopped k
+  unfolding startOf
   by-number k e h = rw (← e, ne-eqb k 0 h)
 
   module _ (k : ℕ) (e : k ≡ inputNumber q) (h : k ≡ 0) where
-    pub by-trail : (keep && ltb bytes (48 * n)) ≡ true → w ≡ record { records = []; answer = Refused 21 0 }
-    unfolding solveKeeping resultFrom startOf
+    pub by-trail : (keep && ltb bytes (48 * n)) ≡ true → start ≡ stopped 21
+    unfolding startOf
     by-trail t = rw (← e, h, t)
 
-    pub by-start : (keep && ltb bytes (48 * n)) ≡ false → (s : CodeStart) → startMeaning set s ≡ acceptedStart set q → (s′ : CodeStart) → s ≡ s′ → w ≡ resultFrom (startMeaning set s′) (q .expiry) n
-    unfolding solveKeeping startOf
+    pub by-start : (keep && ltb bytes (48 * n)) ≡ false → (s : CodeStart) → startMeaning set s ≡ acceptedStart set q → (s′ : CodeStart) → s ≡ s′ → start ≡ startMeaning set s′
+    unfolding startOf
     by-start t s b s′ g = rw (← g, b, ← e, h, t)
 
--- and what target is
-module _ (set : RuleSet) (q : Quote) (k : ℕ) (e : k ≡ inputNumber q) where
-  pub no-target : (k ≡ 0 → ⊥) → NoTarget k ≡ targetOf set q
-  unfolding targetOf startOf
-  no-target h = rw (← e, ne-eqb k 0 h)
-
-  pub target-of : k ≡ 0 → (s : CodeStart) → startMeaning set s ≡ acceptedStart set q → (s′ : CodeStart) → s ≡ s′ → (r : Target) → r ≡ targetIn (startMeaning set s′) → r ≡ targetOf set q
-  unfolding targetOf startOf
-  target-of h s b s′ g r t = rw (t, ← g, b, ← e, h)
+  -- what a start leads to, as solve's answer, trail and target
+  pub leads-to : (s : Start) → start ≡ s → (answer : Solution) (old trail : List ℕ) (before target : Float)
+      → (answer ≡ resultFrom s (q .expiry) n .answer) × ((trail ≡ trailIfKept keep (resultFrom s (q .expiry) n .records) old) × (target ≡ soughtAfter s before))
+      → (answer ≡ solveKeeping set keep bytes q n .answer) × ((trail ≡ trailIfKept keep (solveKeeping set keep bytes q n .records) old) × (target ≡ soughtAfter start before))
+  unfolding solveKeeping
+  leads-to s e answer old trail before target h = rw e h
 
 -- whether the trail is too short, from what the code compared
 module _ (keep : Bool) (bytes n : ℕ) where
@@ -63,11 +63,22 @@ module _ (keep : Bool) (bytes n : ℕ) where
   room (inl (k, h)) t = omega (arith, ltb-false bytes (n * 48) h)
   room (inr k) t = absurd (true≢false (sym t ∙ k))
 
--- an answer without a record leaves the trail as it was
-pub untouched : (w : SolveResult) (answer : Solution) (keep : Bool) (old : List ℕ) → w ≡ record { records = []; answer = answer } → (answer ≡ w .answer) × (old ≡ trailIfKept keep (w .records) old)
-untouched w answer keep old e = (rw e refl, rw e (no-record keep old))
+-- what a run of no steps says of the target: its ending is 0 where there is no loop, and 2 where there is one
+module _ (expiry : Float) where
+  pub no-loop : (s : Start) (a : ImpliedVolatility) → Solved a ≡ resultFrom s expiry 0 .answer → a .ending ≡ 0 → NoLoop ≡ targetIn s
+  unfolding resultFrom run
+  no-loop (answered v) a e h = refl
+  no-loop (stopped n) a e h = absurd (true≢false (ap isSolved e))
+  no-loop (looping branch beta step st) a e h = absurd (omega (arith, h, ap endingIn e))
 
--- what the run answered and left, as solve's own
-pub result-of : (keep : Bool) (w q : SolveResult) (answer : Solution) (old trail : List ℕ) → w ≡ q → (answer ≡ q .answer) × (trail ≡ trailIfKept keep (q .records) old)
-    → (answer ≡ w .answer) × (trail ≡ trailIfKept keep (w .records) old)
-result-of keep w q answer old trail e h = rw e h
+  pub sought : (s : Start) (a : ImpliedVolatility) → Solved a ≡ resultFrom s expiry 0 .answer → (a .ending ≡ 0 → ⊥) → (target old : Float) → target ≡ soughtAfter s old → Sought target ≡ targetIn s
+  unfolding resultFrom run
+  sought (answered v) a e h target old t = absurd (h (ap endingIn e))
+  sought (stopped n) a e h target old t = absurd (true≢false (ap isSolved e))
+  sought (looping branch beta step st) a e h target old t = rw t refl
+
+  pub refused : (s : Start) (n steps : ℕ) → Refused n steps ≡ resultFrom s expiry 0 .answer → NoTarget n ≡ targetIn s
+  unfolding resultFrom run
+  refused (answered v) n steps e = absurd (true≢false (sym (ap isSolved e)))
+  refused (stopped k) n steps e = ap NoTarget (ap numberIn e)
+  refused (looping branch beta step st) n steps e = absurd (true≢false (sym (ap isSolved e)))

@@ -1,5 +1,6 @@
 -- The exponentials that travel with x, and what the code's start of a run means. Definitions only.
 use mathlib.Core.Path.{_≡_}
+use lib.Ieee.{Float}
 use Rattle.elementary.specs.declared.rule_set.RuleSet.{RuleSet}
 use Rattle.prices.specs.Inside.Exponentials.{upOf, downOf}
 use Rattle.solver.specs.declared.normalised_market.NormalisedMarket.{NormalisedMarket}
@@ -29,3 +30,9 @@ startMeaning set (Looping branch m st) = looping branch (m .beta) (branchStep se
 pub record Implements (set : RuleSet) (start : CodeStart) (b : Start) : Type 0 where
   pub meaning : startMeaning set start ≡ b
   pub exponentials : HasExponentialsIn start
+
+-- what a start's loop seeks; where there is no loop, what stood in its place before
+abbrev pub soughtAfter : Start → Float → Float
+soughtAfter (answered v) old = old
+soughtAfter (stopped n) old = old
+soughtAfter (looping branch beta step st) old = beta

@@ -14,11 +14,11 @@ max-requires c κs = search needs
 sqrt-requires : tie.Need-sqrt-requires
 sqrt-requires c κs = search needs
 
-sqrt-requires-2 : tie.Need-sqrt-requires-2
-sqrt-requires-2 c κs = search needs
-
 ln-requires : tie.Need-ln-requires
 ln-requires c κs = search needs
+
+sqrt-requires-2 : tie.Need-sqrt-requires-2
+sqrt-requires-2 c κs = search needs
 
 sqrt-requires-3 : tie.Need-sqrt-requires-3
 sqrt-requires-3 c κs = search needs
@@ -31,7 +31,7 @@ price-from-normalised-requires c κs = search needs
 
 returns : tie.Need-returns
 unfolding priceOf
-returns c = c .price-from-normalised .ensures ∙ rw (c .before .normalised-black-under .ensures, c .before .before .sqrt3 .ensures, c .before .before .before .ln .ensures, c .before .before .before .before .sqrt2 .ensures, c .before .before .before .before .before .sqrt .ensures, c .before .before .before .before .before .before .max .ensures, c .before .before .before .before .before .before .before .times .ensures)
+returns c = c .price-from-normalised .ensures ∙ rw (c .before .normalised-black-under .ensures, c .before .before .sqrt3 .ensures, c .before .before .before .sqrt2 .ensures, c .before .before .before .before .ln .ensures, c .before .before .before .before .before .sqrt .ensures, c .before .before .before .before .before .before .max .ensures, c .before .before .before .before .before .before .before .times .ensures)
 
 pub price-spec : {M : Type 1} → statement M
 price-spec =
@@ -40,8 +40,8 @@ price-spec =
     times-requires
     max-requires
     sqrt-requires
-    sqrt-requires-2
     ln-requires
+    sqrt-requires-2
     sqrt-requires-3
     normalised-black-under-requires
     price-from-normalised-requires

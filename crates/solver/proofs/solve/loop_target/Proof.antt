@@ -1,53 +1,50 @@
--- `solve::loop_target` meets its contract: a number, or what the start says. Assumes nothing.
-use mathlib.Core.Path.{refl}
+-- `solve::loop_target` meets its contract: a run of no steps says whether there is a loop, and what it seeks. Assumes nothing.
+use mathlib.Core.Path.{sym, _∙_}
 use borrow.Author.Needs.{needs}
-use Rattle.solver.proofs.Laws.SolveCases.{no-target, target-of}
+use Rattle.solver.specs.Solve.{targetOf, solveKeeping}
+use Rattle.solver.proofs.Laws.SolveCases.{no-loop, sought, refused}
 use Rattle.solver.proofs.solve.loop_target.Statement.{statement}
 use Rattle.solver.proofs.solve.loop_target.Tie as tie
 
-input-number-requires : tie.Need-input-number-requires
-input-number-requires c κs = search needs
+slice-aggregate-solve : tie.Need-slice-aggregate-solve
+slice-aggregate-solve c = search needs
 
-returns : tie.Need-returns
-returns c = no-target _ _ _ (c .before .input-number .ensures) (c .if1 .taken)
+solve-requires : tie.Need-solve-requires
+solve-requires c κs = search needs
 
-accepted-start-requires : tie.Need-accepted-start-requires
-accepted-start-requires c κs = search needs
-
-enum-told : tie.Need-enum-told
-enum-told c = search needs
+enum-known-a : tie.Need-enum-known-a
+enum-known-a c = search needs
 
 enum-known-n : tie.Need-enum-known-n
 enum-known-n c = search needs
 
-enum-known-m : tie.Need-enum-known-m
-enum-known-m c = search needs
+returns : tie.Need-returns
+unfolding targetOf solveKeeping
+returns c =
+    let met = c .before .before .before in
+    no-loop _ _ _ (sym (met .a .given .1) ∙ met .before .before .before .solve .ensures .0) (c .if1 .taken)
 
 returns-2 : tie.Need-returns-2
+unfolding targetOf solveKeeping
 returns-2 c =
-    let start = c .before .before in
-    target-of _ _ _ (start .before .before .input-number .ensures) (start .before .if1 .left) _ (start .accepted-start .ensures .meaning) _ (c .enum-told .given .1) _ refl
+    let met = c .before .before .before in
+    let call = met .before .before .before in
+    sought _ _ _ (sym (met .a .given .1) ∙ call .solve .ensures .0) (c .if1 .left) _ _ (call .solve .ensures .1 .1)
 
 returns-3 : tie.Need-returns-3
+unfolding targetOf solveKeeping
 returns-3 c =
-    let start = c .before .before .before in
-    target-of _ _ _ (start .before .before .input-number .ensures) (start .before .if1 .left) _ (start .accepted-start .ensures .meaning) _ (c .before .n .given .1) _ refl
-
-returns-4 : tie.Need-returns-4
-returns-4 c =
-    let start = c .before .before .before in
-    target-of _ _ _ (start .before .before .input-number .ensures) (start .before .if1 .left) _ (start .accepted-start .ensures .meaning) _ (c .before .m .given .1) _ refl
+    let met = c .before in
+    refused _ _ _ _ (sym (met .n .given .1) ∙ met .before .before .before .solve .ensures .0)
 
 pub loop-target-spec : {M : Type 1} → statement M
 loop-target-spec =
     tie.close
     (tie.spec
-    input-number-requires
-    returns
-    accepted-start-requires
-    enum-told
+    slice-aggregate-solve
+    solve-requires
+    enum-known-a
     enum-known-n
-    enum-known-m
+    returns
     returns-2
-    returns-3
-    returns-4)
+    returns-3)

@@ -1,10 +1,12 @@
 -- `solve::solve` meets its contract: a number, 21, or what the start leads to. Assumes nothing.
+use mathlib.Core.Path.{refl}
 use mathlib.Core.Logic.{inl, inr, ⊎-elim}
 use lib.ListN.{length}
 use denote.Ref.{now}
 use borrow.Author.Needs.{needs}
 use Rattle.solver.specs.Solve.{resultFrom}
-use Rattle.solver.proofs.Laws.SolveCases.{by-number, by-trail, by-start, Long, short, long, room, untouched, result-of}
+use Rattle.solver.proofs.Laws.LoopInvariant.{no-record}
+use Rattle.solver.proofs.Laws.SolveCases.{by-number, by-trail, by-start, leads-to, Long, short, long, room}
 use Rattle.solver.proofs.solve.solve.Statement.{statement}
 use Rattle.solver.proofs.solve.solve.Tie as tie
 
@@ -12,19 +14,24 @@ input-number-requires : tie.Need-input-number-requires
 input-number-requires c κs = search needs
 
 returns : tie.Need-returns
+unfolding resultFrom
 returns c =
     let a = c .before .before .before .args in
-    untouched _ _ (a .keep) (now (a .trail)) (by-number (a .keep) (length (now (a .trail))) (a .set) (a .quote) (a .limit) _ (c .before .input-number .ensures) (c .if1 .taken))
+    let bytes = length (now (a .trail)) in
+    leads-to (a .keep) bytes (a .set) (a .quote) (a .limit) _ (by-number (a .keep) bytes (a .set) (a .quote) (a .limit) _ (c .before .input-number .ensures) (c .if1 .taken)) _ (now (a .trail)) (now (a .trail)) (now (a .target)) (now (a .target)) (refl, (no-record (a .keep) (now (a .trail)), refl))
 
 mul-if3 : tie.Need-mul-if3
 mul-if3 c = search needs
 
 returns-2 : tie.Need-returns-2
+unfolding resultFrom
 returns-2 c =
     let a = c .before .before .before .before .before .args in
-    untouched _ _ (a .keep) (now (a .trail))
-    (by-trail (a .keep) (length (now (a .trail))) (a .set) (a .quote) (a .limit) _ (c .before .before .before .input-number .ensures) (c .before .before .if1 .left)
-    (short (a .keep) (length (now (a .trail))) (a .limit) (c .before .if2 .taken) (c .if3 .taken)))
+    let bytes = length (now (a .trail)) in
+    leads-to (a .keep) bytes (a .set) (a .quote) (a .limit) _
+    (by-trail (a .keep) bytes (a .set) (a .quote) (a .limit) _ (c .before .before .before .input-number .ensures) (c .before .before .if1 .left)
+    (short (a .keep) bytes (a .limit) (c .before .if2 .taken) (c .if3 .taken)))
+    _ (now (a .trail)) (now (a .trail)) (now (a .target)) (now (a .target)) (refl, (no-record (a .keep) (now (a .trail)), refl))
 
 -- where the trail was not too short
 came : (c : tie.Joined2) → Long (c .before .before .before .before .args .keep) (length (now (c .before .before .before .before .args .trail))) (c .before .before .before .before .args .limit)
@@ -63,7 +70,10 @@ returns-3 c =
     let start = met .before .before in
     let test = start .before in
     let a = test .before .before .before .before .args in
-    rw (c .solution-of .ensures) (untouched _ _ (a .keep) (now (a .trail)) (by-start (a .keep) (length (now (a .trail))) (a .set) (a .quote) (a .limit) _ (test .before .before .input-number .ensures) (test .before .if1 .left) (long (a .keep) (length (now (a .trail))) (a .limit) (came test)) _ (start .accepted-start .ensures .meaning) _ (met .v .given .1)))
+    let bytes = length (now (a .trail)) in
+    leads-to (a .keep) bytes (a .set) (a .quote) (a .limit) _
+    (by-start (a .keep) bytes (a .set) (a .quote) (a .limit) _ (test .before .before .input-number .ensures) (test .before .if1 .left) (long (a .keep) bytes (a .limit) (came test)) _ (start .accepted-start .ensures .meaning) _ (met .v .given .1))
+    _ (now (a .trail)) (now (a .trail)) (now (a .target)) (now (a .target)) (c .solution-of .ensures, (no-record (a .keep) (now (a .trail)), refl))
 
 returns-4 : tie.Need-returns-4
 unfolding resultFrom
@@ -71,7 +81,10 @@ returns-4 c =
     let start = c .before .before .before in
     let test = start .before in
     let a = test .before .before .before .before .args in
-    untouched _ _ (a .keep) (now (a .trail)) (by-start (a .keep) (length (now (a .trail))) (a .set) (a .quote) (a .limit) _ (test .before .before .input-number .ensures) (test .before .if1 .left) (long (a .keep) (length (now (a .trail))) (a .limit) (came test)) _ (start .accepted-start .ensures .meaning) _ (c .before .n .given .1))
+    let bytes = length (now (a .trail)) in
+    leads-to (a .keep) bytes (a .set) (a .quote) (a .limit) _
+    (by-start (a .keep) bytes (a .set) (a .quote) (a .limit) _ (test .before .before .input-number .ensures) (test .before .if1 .left) (long (a .keep) bytes (a .limit) (came test)) _ (start .accepted-start .ensures .meaning) _ (c .before .n .given .1))
+    _ (now (a .trail)) (now (a .trail)) (now (a .target)) (now (a .target)) (refl, (no-record (a .keep) (now (a .trail)), refl))
 
 same-length : tie.Need-same-length
 same-length c = search needs
@@ -85,9 +98,11 @@ returns-5 c =
     let start = ahead .before .before in
     let test = start .before in
     let a = test .before .before .before .before .args in
-    result-of (a .keep) _ _ _ _ _
-    (by-start (a .keep) (length (now (a .trail))) (a .set) (a .quote) (a .limit) _ (test .before .before .input-number .ensures) (test .before .if1 .left) (long (a .keep) (length (now (a .trail))) (a .limit) (came test)) _ (start .accepted-start .ensures .meaning) _ (ahead .branch .given .1))
-    (rw (root .sqrt .ensures) at (call .run .ensures))
+    let bytes = length (now (a .trail)) in
+    let ran = rw (root .sqrt .ensures) at (call .run .ensures) in
+    leads-to (a .keep) bytes (a .set) (a .quote) (a .limit) _
+    (by-start (a .keep) bytes (a .set) (a .quote) (a .limit) _ (test .before .before .input-number .ensures) (test .before .if1 .left) (long (a .keep) bytes (a .limit) (came test)) _ (start .accepted-start .ensures .meaning) _ (ahead .branch .given .1))
+    _ (now (a .trail)) _ (now (a .target)) _ (ran .0, (ran .1, refl))
 
 pub solve-spec : {M : Type 1} → statement M
 solve-spec =

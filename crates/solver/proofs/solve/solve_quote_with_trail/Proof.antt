@@ -12,7 +12,7 @@ same-length c = search needs
 
 returns : tie.Need-returns
 unfolding solveWithTrail
-returns c = c .before .before .solve .ensures
+returns c = (c .before .before .solve .ensures .0, c .before .before .solve .ensures .1 .0)
 
 pub solve-quote-with-trail-spec : {M : Type 1} → statement M
 solve-quote-with-trail-spec = tie.close (tie.spec solve-requires same-length returns)
