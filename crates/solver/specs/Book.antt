@@ -1,5 +1,5 @@
 -- The book: records of 64 bytes, little-endian, no header. What file, recheck and read answer, and every byte that they leave. Definitions only.
-use mathlib.Core.Bool.{Bool, true, false, cond, _&&_, _||_}
+use mathlib.Core.Bool.{Bool, true, false, cond, _&&_}
 use mathlib.Core.List.{List, [], _∷_, _++_}
 use Prim.Native.Nat.{ℕ, suc, _+_, _-_, _*_, _/_, _^_}
 use lib.Dec.{leb, ltb, eqb}
@@ -8,6 +8,8 @@ use lib.ListN.{length, getD, replicate}
 use Rattle.prices.specs.declared.inputs.OptionType.{OptionType}
 use Rattle.prices.specs.declared.inputs.OptionType.the-variants.{Call, Put}
 use Rattle.solver.specs.declared.quote.Quote.{Quote}
+use Rattle.solver.specs.declared.quote.Kind.{Kind}
+use Rattle.solver.specs.declared.quote.Kind.the-variants.{Known, Unknown}
 use Rattle.solver.specs.declared.answers.ImpliedVolatility.{ImpliedVolatility}
 use Rattle.solver.specs.declared.answers.Solution.{Solution}
 use Rattle.solver.specs.declared.answers.Solution.the-variants.{Solved, Refused}
@@ -49,34 +51,39 @@ bookRecordBytes q limit a =
 abbrev pub stepsFrom : ℕ → ℕ
 stepsFrom bits = cond (ltb bits (2 ^ 31)) bits 0
 
--- a byte says a kind
-abbrev pub isKind : ℕ → Bool
-isKind byte = eqb byte 1 || eqb byte 2
+-- the kind that a byte says: 1 Call, 2 Put, and no other
+unfoldable pub kindOf : ℕ → Kind
+kindOf byte = cond (eqb byte 1) (Known Call) (cond (eqb byte 2) (Known Put) Unknown)
 
--- the kind that it says
-abbrev pub kindFrom : ℕ → OptionType
-kindFrom byte = cond (eqb byte 1) Call Put
+-- what is answered of a kind, or where there is none
+abbrev pub byKind : {A : Type 0} → Kind → (OptionType → A) → A → A
+byKind (Known kind) answer none = answer kind
+byKind Unknown answer none = none
 
 -- every byte is 0
 abbrev pub allZero : List ℕ → Bool
 allZero [] = true
 allZero (b ∷ bs) = eqb b 0 && allZero bs
 
--- kind 1 or 2, branch to 5, ending to 2, spare bytes zero: no 24
+-- branch to 5, ending to 2, spare bytes zero: no 24 but for the kind
 abbrev pub inLayout : List ℕ → Bool
-inLayout r = isKind (getD r 48 0) && leb (getD r 49 0) 5 && leb (getD r 50 0) 2 && allZero (part 51 13 r)
+inLayout r = leb (getD r 49 0) 5 && leb (getD r 50 0) 2 && allZero (part 51 13 r)
 
 -- ---- solving a record again: 24, then solve's own numbers
 
--- the quote of a record
-abbrev pub quoteIn : List ℕ → Quote
-quoteIn r = quoteOf (floatAt 0 r) (floatAt 8 r) (floatAt 16 r) (floatAt 24 r) (kindFrom (getD r 48 0))
+-- the quote of a record of this kind
+abbrev pub quoteIn : List ℕ → OptionType → Quote
+quoteIn r kind = quoteOf (floatAt 0 r) (floatAt 8 r) (floatAt 16 r) (floatAt 24 r) kind
 
--- the answer of a record's own input and limit
-unfoldable pub solveRecord : RuleSet → List ℕ → Solution
-solveRecord set r =
-    let again = solveOf set (quoteIn r) (stepsFrom (numberAt 40 4 r)) .answer in
+-- the answer of its own input and limit
+abbrev pub solveRecordOf : RuleSet → List ℕ → OptionType → Solution
+solveRecordOf set r kind =
+    let again = solveOf set (quoteIn r kind) (stepsFrom (numberAt 40 4 r)) .answer in
     cond (inLayout r) again (Refused 24 0)
+
+-- of a record, whose kind is byte 48
+unfoldable pub solveRecord : RuleSet → List ℕ → Solution
+solveRecord set r = byKind (kindOf (getD r 48 0)) (solveRecordOf set r) (Refused 24 0)
 
 -- byte for byte
 abbrev pub sameBytes : List ℕ → List ℕ → Bool

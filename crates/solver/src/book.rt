@@ -8,6 +8,7 @@ use crate::little_endian::number_at;
 use crate::little_endian::put_float;
 use crate::little_endian::put_number_at;
 use crate::numbers;
+use crate::quote::Kind;
 use crate::quote::Quote;
 use crate::solve::input_number;
 use crate::solve::solve_quote;
@@ -23,7 +24,7 @@ ghost use lib.ListN.{length, drop};
 ghost use Rattle.elementary.specs.RuleSets.{rule-set-0};
 ghost use Rattle.solver.specs.Solve.{solveOf, quoteOf, stepsOf};
 ghost use Rattle.solver.specs.LittleEndian.{part};
-ghost use Rattle.solver.specs.Book.{kindByte, limitBits, bookRecordBytes, stepsFrom, isKind, kindFrom, quoteIn, allZero, inLayout, recordExists, solveRecord, agrees as agreesOf, checkingOf, readOf, recheckOf, fileAnswer, fileOf};
+ghost use Rattle.solver.specs.Book.{kindByte, limitBits, bookRecordBytes, stepsFrom, kindOf, quoteIn, allZero, inLayout, recordExists, solveRecord, agrees as agreesOf, checkingOf, readOf, recheckOf, fileAnswer, fileOf};
 
 // A record's bytes in the book.
 const RECORD_BYTES: usize = 64;
@@ -71,22 +72,17 @@ fn put_book_record(out: &mut [u8], quote: Quote, limit: i32, a: ImpliedVolatilit
 
 // ---- a record read
 
-// Whether a byte says a kind.
-pub fn is_kind(byte: u8) -> bool
-    ensures { λ r. ⌜ r ≡ isKind byte ⌝ }
-{
-    byte == 1 || byte == 2
-}
-
-// The kind that a byte says; Put where it says none.
-pub fn kind_from(byte: u8) -> OptionType
-    ensures { λ r. ⌜ r ≡ kindFrom byte ⌝ }
+// The kind that a byte says.
+pub fn kind_of(byte: u8) -> Kind
+    ensures { λ r. ⌜ r ≡ kindOf byte ⌝ }
 {
     if byte == 1 {
-        OptionType::Call
-    } else {
-        OptionType::Put
+        return Kind::Known(OptionType::Call);
     }
+    if byte == 2 {
+        return Kind::Known(OptionType::Put);
+    }
+    Kind::Unknown
 }
 
 // max(limit, 0) of a limit's 32 bits.
@@ -111,14 +107,11 @@ fn is_spare_zero(r: &[u8]) -> bool
     true
 }
 
-// No 24: kind, branch, ending and spare bytes are inside the layout.
+// No 24: branch, ending and spare bytes are inside the layout.
 fn in_layout(r: &[u8]) -> bool
     requires { ⌜ 64 ≤ length (now r) ⌝ }
     ensures { λ b. ⌜ b ≡ inLayout (now (r .entry)) ⌝ }
 {
-    if !is_kind(r[48]) {
-        return false;
-    }
     if r[49] > numbers::UPPER_REST {
         return false;
     }
@@ -128,17 +121,17 @@ fn in_layout(r: &[u8]) -> bool
     is_spare_zero(r)
 }
 
-// The quote of a record whose bytes are inside the layout.
-fn quote_in(r: &[u8]) -> Quote
+// The quote of a record of this kind.
+fn quote_in(r: &[u8], option_type: OptionType) -> Quote
     requires { ⌜ 64 ≤ length (now r) ⌝ }
-    ensures { λ q. ⌜ q ≡ quoteIn (now (r .entry)) ⌝ }
+    ensures { λ q. ⌜ q ≡ quoteIn (now (r .entry)) «option_type» ⌝ }
 {
     Quote {
         price: float_at(r, 0),
         forward: float_at(r, 8),
         strike: float_at(r, 16),
         expiry: float_at(r, 24),
-        option_type: kind_from(r[48]),
+        option_type,
     }
 }
 
@@ -147,10 +140,16 @@ pub(crate) fn solve_record(set: RuleSet, r: &[u8]) -> Solution
     requires { ⌜ 64 ≤ length (now r) ⌝ }
     ensures { λ a. ⌜ a ≡ solveRecord set (now (r .entry)) ⌝ }
 {
-    if in_layout(r) {
-        return solve_quote(set, quote_in(r), steps_from(number_at(r, 40, 4)));
+    match kind_of(r[48]) {
+        Kind::Known(option_type) => {
+            if in_layout(r) {
+                let limit = steps_from(number_at(r, 40, 4));
+                return solve_quote(set, quote_in(r, option_type), limit);
+            }
+            Solution::Refused(numbers::OUTSIDE_THE_LAYOUT, 0)
+        }
+        Kind::Unknown => Solution::Refused(numbers::OUTSIDE_THE_LAYOUT, 0),
     }
-    Solution::Refused(numbers::OUTSIDE_THE_LAYOUT, 0)
 }
 
 // Whether bytes 32 to 39, 44 to 47, 49 and 50 are this answer's.

@@ -8,3 +8,9 @@ pub struct Quote {
     pub expiry: f64,
     pub option_type: OptionType,
 }
+
+// What a kind's byte says, in a record or from another language.
+pub enum Kind {
+    Known(OptionType),
+    Unknown,
+}

@@ -63,22 +63,22 @@ module _ (keep : Bool) (bytes n : ℕ) where
   room (inl (k, h)) t = omega (arith, ltb-false bytes (n * 48) h)
   room (inr k) t = absurd (true≢false (sym t ∙ k))
 
--- what a run of no steps says of the target: its ending is 0 where there is no loop, and 2 where there is one
-module _ (expiry : Float) where
-  pub no-loop : (s : Start) (a : ImpliedVolatility) → Solved a ≡ resultFrom s expiry 0 .answer → a .ending ≡ 0 → NoLoop ≡ targetIn s
+-- what the answer of a run of no steps says of the target: its ending is 0 where there is no loop, and 2 where there is one
+module _ (expiry : Float) (answer : Solution) where
+  pub no-loop : (s : Start) → answer ≡ resultFrom s expiry 0 .answer → (a : ImpliedVolatility) → answer ≡ Solved a → a .ending ≡ 0 → NoLoop ≡ targetIn s
   unfolding resultFrom run
-  no-loop (answered v) a e h = refl
-  no-loop (stopped n) a e h = absurd (true≢false (ap isSolved e))
-  no-loop (looping branch beta step st) a e h = absurd (omega (arith, h, ap endingIn e))
+  no-loop (answered v) e a g h = refl
+  no-loop (stopped n) e a g h = absurd (true≢false (ap isSolved (sym g ∙ e)))
+  no-loop (looping branch beta step st) e a g h = absurd (omega (arith, h, ap endingIn (sym g ∙ e)))
 
-  pub sought : (s : Start) (a : ImpliedVolatility) → Solved a ≡ resultFrom s expiry 0 .answer → (a .ending ≡ 0 → ⊥) → (target old : Float) → target ≡ soughtAfter s old → Sought target ≡ targetIn s
+  pub sought : (s : Start) → answer ≡ resultFrom s expiry 0 .answer → (a : ImpliedVolatility) → answer ≡ Solved a → (a .ending ≡ 0 → ⊥) → (target old : Float) → target ≡ soughtAfter s old → Sought target ≡ targetIn s
   unfolding resultFrom run
-  sought (answered v) a e h target old t = absurd (h (ap endingIn e))
-  sought (stopped n) a e h target old t = absurd (true≢false (ap isSolved e))
-  sought (looping branch beta step st) a e h target old t = rw t refl
+  sought (answered v) e a g h target old t = absurd (h (ap endingIn (sym g ∙ e)))
+  sought (stopped n) e a g h target old t = absurd (true≢false (ap isSolved (sym g ∙ e)))
+  sought (looping branch beta step st) e a g h target old t = rw t refl
 
-  pub refused : (s : Start) (n steps : ℕ) → Refused n steps ≡ resultFrom s expiry 0 .answer → NoTarget n ≡ targetIn s
+  pub refused : (s : Start) → answer ≡ resultFrom s expiry 0 .answer → (n steps : ℕ) → answer ≡ Refused n steps → NoTarget n ≡ targetIn s
   unfolding resultFrom run
-  refused (answered v) n steps e = absurd (true≢false (sym (ap isSolved e)))
-  refused (stopped k) n steps e = ap NoTarget (ap numberIn e)
-  refused (looping branch beta step st) n steps e = absurd (true≢false (sym (ap isSolved e)))
+  refused (answered v) e n steps g = absurd (true≢false (ap isSolved (sym e ∙ g)))
+  refused (stopped k) e n steps g = ap NoTarget (ap numberIn (sym g ∙ e))
+  refused (looping branch beta step st) e n steps g = absurd (true≢false (ap isSolved (sym e ∙ g)))

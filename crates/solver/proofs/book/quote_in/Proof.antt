@@ -15,19 +15,11 @@ float-at-requires-3 c κs = search needs
 float-at-requires-4 : tie.Need-float-at-requires-4
 float-at-requires-4 c κs = search needs
 
-shared-slice-read-kind-from : tie.Need-shared-slice-read-kind-from
-shared-slice-read-kind-from c = search needs
-
-kind-from-requires : tie.Need-kind-from-requires
-kind-from-requires c κs = search needs
-
 returns : tie.Need-returns
 returns c =
-    let f₄ = c .before .before in
-    let f₃ = f₄ .before in
+    let f₃ = c .before in
     let f₂ = f₃ .before in
-    let f₁ = f₂ .before in
-    rw (c .kind-from .ensures, f₁ .float-at .ensures, f₂ .float-at2 .ensures, f₃ .float-at3 .ensures, f₄ .float-at4 .ensures)
+    rw (f₂ .before .float-at .ensures, f₂ .float-at2 .ensures, f₃ .float-at3 .ensures, c .float-at4 .ensures)
 
 pub quote-in-spec : {M : Type 1} → statement M
-quote-in-spec = tie.close (tie.spec float-at-requires float-at-requires-2 float-at-requires-3 float-at-requires-4 shared-slice-read-kind-from kind-from-requires returns)
+quote-in-spec = tie.close (tie.spec float-at-requires float-at-requires-2 float-at-requires-3 float-at-requires-4 returns)
