@@ -9,11 +9,11 @@ use Rattle.prices.specs.declared.answer.Answer.the-variants.{Value, Refused}
 use Rattle.prices.specs.declared.rational_cubic.Side.{Side}
 use Rattle.prices.specs.declared.rational_cubic.Side.the-variants.{Left, Right}
 use Rattle.prices.specs.Intrinsic.{intrinsicOf}
-use Rattle.solver.specs.Book.{isKind, kindFrom}
+use Rattle.solver.specs.Book.{kindOf, byKind}
 
--- A kind is document 01's byte, 1 Call and 2 Put. Any other byte is refused, before all else, with its number for a kind outside the layout.
+-- A kind is document 01's byte. One that says no kind is refused, before all else, with its number for a kind outside the layout.
 abbrev pub ofKind : ℕ → (OptionType → Answer) → Answer
-ofKind kind answer = let known = answer (kindFrom kind) in cond (isKind kind) known (Refused 24)
+ofKind kind answer = byKind (kindOf kind) answer (Refused 24)
 
 -- 0 is Left, any other byte Right
 abbrev pub sideOf : ℕ → Side

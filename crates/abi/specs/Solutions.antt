@@ -5,7 +5,6 @@ use Prim.Native.Nat.{ℕ, _+_, _*_, _^_}
 use lib.Dec.{eqb}
 use lib.IntN.{ℤ}
 use lib.Ieee.{binary64, ofBits}
-use Rattle.solver.specs.declared.quote.Quote.{Quote}
 use Rattle.solver.specs.declared.answers.Solution.{Solution}
 use Rattle.solver.specs.declared.answers.Solution.the-variants.{Refused}
 use Rattle.solver.specs.declared.answers.Target.{Target}
@@ -16,7 +15,9 @@ use Rattle.solver.specs.declared.answers.Checking.{Checking}
 use Rattle.solver.specs.Answers.{numberIn, branchIn, endingIn, stepsIn, filingNumber, filingSteps, checkingNumber, checkingAgrees, checkingSteps}
 use Rattle.elementary.specs.RuleSets.{rule-set-0}
 use Rattle.solver.specs.Solve.{SolveResult, solveOf, solveWithTrail, targetOf, quoteOf, stepsOf}
-use Rattle.solver.specs.Book.{isKind, kindFrom, FileResult, fileOf, Read}
+use Rattle.solver.specs.Book.{kindOf, byKind, FileResult, fileOf, Read}
+use Rattle.abi.specs.declared.product.solve.Asked.{Asked}
+use Rattle.abi.specs.declared.product.solve.Asked.the-variants.{AQuote, NoKind}
 
 -- number, branch, ending and steps in one word: bytes 0, 1 and 2, and from byte 4 on the steps
 abbrev pub outcomeFrom : ℕ → ℕ → ℕ → ℕ → ℕ
@@ -38,27 +39,31 @@ checkingOutcome a = outcomeFrom (checkingNumber a) 0 0 (checkingSteps a)
 abbrev pub agreesByte : Checking → ℕ
 agreesByte a = cond (checkingAgrees a) 1 0
 
--- ---- a quote from bits and a kind's byte; another byte is refused before all else, with document 01's number for a kind outside the layout
+-- ---- a quote from bits and a kind's byte; one that says no kind is refused before all else, with document 01's number for a kind outside the layout
 
--- the quote that these bits and this byte say
-abbrev pub quoteFrom : ℕ → ℕ → ℕ → ℕ → ℕ → Quote
-quoteFrom price forward strike expiry kind = quoteOf (ofBits binary64 price) (ofBits binary64 forward) (ofBits binary64 strike) (ofBits binary64 expiry) (kindFrom kind)
+-- what these bits and this byte ask
+abbrev pub askedBy : ℕ → ℕ → ℕ → ℕ → ℕ → Asked
+askedBy price forward strike expiry kind = byKind (kindOf kind) (λ k. AQuote (quoteOf (ofBits binary64 price) (ofBits binary64 forward) (ofBits binary64 strike) (ofBits binary64 expiry) k)) NoKind
 
 -- solve with a trail of so many bytes
-unfoldable pub solveWithTrailFor : ℕ → Quote → ℤ → ℕ → SolveResult
-solveWithTrailFor kind q limit bytes = let known = solveWithTrail rule-set-0 q (stepsOf limit) bytes in cond (isKind kind) known (record { records = []; answer = Refused 24 0 })
+abbrev pub solveWithTrailFor : Asked → ℤ → ℕ → SolveResult
+solveWithTrailFor (AQuote q) limit bytes = solveWithTrail rule-set-0 q (stepsOf limit) bytes
+solveWithTrailFor NoKind limit bytes = record { records = []; answer = Refused 24 0 }
 
 -- solve without a trail, for so many steps
-unfoldable pub solveFor : ℕ → Quote → ℕ → Solution
-solveFor kind q n = let known = solveOf rule-set-0 q n .answer in cond (isKind kind) known (Refused 24 0)
+abbrev pub solveFor : Asked → ℕ → Solution
+solveFor (AQuote q) n = solveOf rule-set-0 q n .answer
+solveFor NoKind n = Refused 24 0
 
 -- the target of its loop
-unfoldable pub targetFor : ℕ → Quote → Target
-targetFor kind q = let known = targetOf rule-set-0 q in cond (isKind kind) known (NoTarget 24)
+abbrev pub targetFor : Asked → Target
+targetFor (AQuote q) = targetOf rule-set-0 q
+targetFor NoKind = NoTarget 24
 
 -- file, into slot `used` of the book
-unfoldable pub fileFor : ℕ → Quote → ℤ → List ℕ → ℕ → FileResult
-fileFor kind q limit book used = let known = fileOf q limit book used rule-set-0 in cond (isKind kind) known (record { answer = NotFiled 24 0; book = book })
+abbrev pub fileFor : Asked → ℤ → List ℕ → ℕ → FileResult
+fileFor (AQuote q) limit book used = fileOf q limit book used rule-set-0
+fileFor NoKind limit book used = record { answer = NotFiled 24 0; book = book }
 
 -- ---- read
 

@@ -2,7 +2,7 @@
 use crate::list::Line;
 use crate::records;
 use crate::records::Word;
-use crate::records::kind_byte;
+use crate::records::kind_in;
 use elementary::cody;
 use elementary::methods::bits_of;
 use elementary::methods::float_of;
@@ -13,9 +13,8 @@ use prices::intrinsic;
 use prices::rational_cubic;
 use prices::rational_cubic::Side;
 use prices::vega;
-use solver::book::is_kind;
-use solver::book::kind_from;
 use solver::numbers::OUTSIDE_THE_LAYOUT;
+use solver::quote::Kind;
 
 // How many there are.
 pub const COUNT: u64 = 41;
@@ -126,26 +125,25 @@ fn price(line: Line) -> Answer {
     let x = float_of(line.a);
     let s = float_of(line.b);
     match function {
-        24 => price_of_kind(line, kind_byte(line.b)),
+        24 => price_of_kind(line, line.b),
         25 => Answer::Value(vega::normalised_vega(x, s)),
         26 => Answer::Value(black::normalised_black_call_with_optimal_use_of_codys_functions(x, s)),
         27 => Answer::Value(black::normalised_black_call_using_erfcx(x, s)),
         28 => black::small_t_expansion_of_normalised_black_call(x, s),
         29 => black::asymptotic_expansion_of_normalised_black_call(x, s),
         30 => black::normalised_black_call(x, s),
-        31 => price_of_kind(line, kind_byte(line.c)),
-        32 => price_of_kind(line, kind_byte(line.e)),
+        31 => price_of_kind(line, line.c),
+        32 => price_of_kind(line, line.e),
         _ => cubic(function, line),
     }
 }
 
 // A kind is document 01's byte; its number for any other is 24.
-fn price_of_kind(line: Line, byte: u8) -> Answer {
-    if !is_kind(byte) {
+fn price_of_kind(line: Line, word: u64) -> Answer {
+    let Kind::Known(kind) = kind_in(word) else {
         return Answer::Refused(OUTSIDE_THE_LAYOUT);
-    }
+    };
     let function = line.function;
-    let kind = kind_from(byte);
     let a = float_of(line.a);
     let b = float_of(line.b);
     match function {

@@ -5,9 +5,11 @@ use elementary::methods::float_of;
 use solver::answers::Checking;
 use solver::answers::Filing;
 use solver::answers::Solution;
-use solver::book::kind_from;
+use solver::book::kind_of;
 use solver::little_endian::number_at;
 use solver::little_endian::put_number_at;
+use solver::numbers::OUTSIDE_THE_LAYOUT;
+use solver::quote::Kind;
 use solver::solve::implied_volatility_from_a_transformed_rational_guess_with_limited_iterations;
 
 // A word, and document 01's number, 0 for none.
@@ -33,9 +35,13 @@ fn limit_of(word: u64) -> i32 {
     if word < 1000 { word as i32 } else { -1 }
 }
 
-// A kind's byte; 0, which says no kind, for a word that is no byte.
-pub fn kind_byte(word: u64) -> u8 {
-    if word < 256 { word as u8 } else { 0 }
+// The kind that a word says; none where it is no byte.
+pub fn kind_in(word: u64) -> Kind {
+    if word < 256 {
+        kind_of(word as u8)
+    } else {
+        Kind::Unknown
+    }
 }
 
 // ---- solve
@@ -71,12 +77,15 @@ fn word_of(answer: Solution, which: u64, trail: &[u8]) -> Word {
 }
 
 fn solve_line(line: Line, trail: &mut [u8]) -> Solution {
+    let Kind::Known(option_type) = kind_in(line.e) else {
+        return Solution::Refused(OUTSIDE_THE_LAYOUT, 0);
+    };
     implied_volatility_from_a_transformed_rational_guess_with_limited_iterations(
         float_of(line.a),
         float_of(line.b),
         float_of(line.c),
         float_of(line.d),
-        kind_from(kind_byte(line.e)),
+        option_type,
         limit_of(line.f),
         trail,
     )
@@ -104,12 +113,15 @@ pub fn solve(line: Line) -> Word {
 // ---- the book
 
 fn file_line(line: Line, book: &mut [u8]) -> Filing {
+    let Kind::Known(option_type) = kind_in(line.e) else {
+        return Filing::Refused(OUTSIDE_THE_LAYOUT, 0);
+    };
     solver::book::file(
         float_of(line.a),
         float_of(line.b),
         float_of(line.c),
         float_of(line.d),
-        kind_from(kind_byte(line.e)),
+        option_type,
         limit_of(line.f),
         book,
         line.g,

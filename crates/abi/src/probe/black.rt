@@ -10,9 +10,9 @@ use crate::export::export_answer;
 use elementary::methods::bits_of;
 use elementary::methods::float_of;
 use prices::answer::Answer;
-use solver::book::is_kind;
-use solver::book::kind_from;
+use solver::book::kind_of;
 use solver::numbers;
+use solver::quote::Kind;
 
 #[no_mangle]
 pub extern "C" fn gintubalos_probe_normalised_black_call_with_optimal_use_of_codys_functions(
@@ -80,10 +80,10 @@ pub extern "C" fn gintubalos_probe_normalised_black_call(x: u64, s: u64, number:
 fn normalised_black(x: f64, s: f64, kind: u8) -> Answer
     ensures { λ r. ⌜ r ≡ ofKind kind (normalisedBlackOf rule-set-0 x s) ⌝ }
 {
-    if is_kind(kind) {
-        return prices::black::normalised_black(x, s, kind_from(kind));
+    match kind_of(kind) {
+        Kind::Known(option_type) => prices::black::normalised_black(x, s, option_type),
+        Kind::Unknown => Answer::Refused(numbers::OUTSIDE_THE_LAYOUT),
     }
-    Answer::Refused(numbers::OUTSIDE_THE_LAYOUT)
 }
 
 #[no_mangle]

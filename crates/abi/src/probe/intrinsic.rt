@@ -6,17 +6,19 @@ ghost use Rattle.abi.specs.Bytes.{ofKind, intrinsicAnswer};
 use crate::export::export_answer;
 use elementary::methods::float_of;
 use prices::answer::Answer;
-use solver::book::is_kind;
-use solver::book::kind_from;
+use solver::book::kind_of;
 use solver::numbers;
+use solver::quote::Kind;
 
 fn intrinsic(x: f64, kind: u8) -> Answer
     ensures { λ r. ⌜ r ≡ ofKind kind (intrinsicAnswer x) ⌝ }
 {
-    if is_kind(kind) {
-        return Answer::Value(prices::intrinsic::normalised_intrinsic(x, kind_from(kind)));
+    match kind_of(kind) {
+        Kind::Known(option_type) => {
+            Answer::Value(prices::intrinsic::normalised_intrinsic(x, option_type))
+        }
+        Kind::Unknown => Answer::Refused(numbers::OUTSIDE_THE_LAYOUT),
     }
-    Answer::Refused(numbers::OUTSIDE_THE_LAYOUT)
 }
 
 #[no_mangle]

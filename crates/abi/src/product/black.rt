@@ -9,17 +9,19 @@ ghost use Rattle.abi.specs.Bytes.{ofKind};
 use crate::export::export_answer;
 use elementary::methods::float_of;
 use prices::answer::Answer;
-use solver::book::is_kind;
-use solver::book::kind_from;
+use solver::book::kind_of;
 use solver::numbers;
+use solver::quote::Kind;
 
 fn black(forward: f64, strike: f64, sigma: f64, expiry: f64, kind: u8) -> Answer
     ensures { λ r. ⌜ r ≡ ofKind kind (blackOf rule-set-0 forward strike sigma expiry) ⌝ }
 {
-    if is_kind(kind) {
-        return prices::black::black(forward, strike, sigma, expiry, kind_from(kind));
+    match kind_of(kind) {
+        Kind::Known(option_type) => {
+            prices::black::black(forward, strike, sigma, expiry, option_type)
+        }
+        Kind::Unknown => Answer::Refused(numbers::OUTSIDE_THE_LAYOUT),
     }
-    Answer::Refused(numbers::OUTSIDE_THE_LAYOUT)
 }
 
 // Refused with 2, 3, 5 or 4 for an input that has no price, with 7 at the asymptotic region's edge.

@@ -5,16 +5,15 @@ ghost use Rattle.elementary.specs.RuleSets.{rule-set-0};
 ghost use Rattle.solver.specs.Answers.{filingUsed};
 ghost use Rattle.solver.specs.Book.{recheckOf, readOf};
 ghost use Rattle.solver.specs.Listing.{lineIn};
-ghost use Rattle.abi.specs.Solutions.{filingOutcome, checkingOutcome, agreesByte, quoteFrom, fileFor, placeOf};
+ghost use Rattle.abi.specs.Solutions.{filingOutcome, checkingOutcome, agreesByte, askedBy, fileFor, placeOf};
+use crate::product::solve::Asked;
+use crate::product::solve::asked_by;
 use crate::product::solve::outcome_from;
-use crate::product::solve::quote_from;
 use elementary::rule_set::RULE_SET_0;
 use solver::answers::Checking;
 use solver::answers::Filing;
 use solver::book::file_quote;
-use solver::book::is_kind;
 use solver::numbers;
-use solver::quote::Quote;
 
 // The used count after it, 0 where it is refused.
 fn export_filing(answer: Filing, outcome: &mut u64) -> u64
@@ -33,14 +32,14 @@ fn export_filing(answer: Filing, outcome: &mut u64) -> u64
     }
 }
 
-fn file_for(kind: u8, quote: Quote, limit: i32, book: &mut [u8], used: u64) -> Filing
-    ensures { λ r. ⌜ r ≡ fileFor kind quote limit (now (book .entry)) used .answer ⌝ }
-    ensures { λ _. ⌜ now (book .exit) ≡ fileFor kind quote limit (now (book .entry)) used .book ⌝ }
+fn file_for(asked: Asked, limit: i32, book: &mut [u8], used: u64) -> Filing
+    ensures { λ r. ⌜ r ≡ fileFor asked limit (now (book .entry)) used .answer ⌝ }
+    ensures { λ _. ⌜ now (book .exit) ≡ fileFor asked limit (now (book .entry)) used .book ⌝ }
 {
-    if is_kind(kind) {
-        return file_quote(RULE_SET_0, quote, limit, book, used);
+    match asked {
+        Asked::AQuote(quote) => file_quote(RULE_SET_0, quote, limit, book, used),
+        Asked::NoKind => Filing::Refused(numbers::OUTSIDE_THE_LAYOUT, 0),
     }
-    Filing::Refused(numbers::OUTSIDE_THE_LAYOUT, 0)
 }
 
 #[no_mangle]
@@ -55,12 +54,12 @@ pub extern "C" fn gintubalos_file(
     used: u64,
     outcome: &mut u64,
 ) -> u64
-    ensures { λ r. ⌜ r ≡ filingUsed (fileFor kind (quoteFrom price forward strike expiry kind) limit (now (book .entry)) used .answer) ⌝ }
-    ensures { λ _. ⌜ now (outcome .exit) ≡ filingOutcome (fileFor kind (quoteFrom price forward strike expiry kind) limit (now (book .entry)) used .answer) ⌝ }
-    ensures { λ _. ⌜ now (book .exit) ≡ fileFor kind (quoteFrom price forward strike expiry kind) limit (now (book .entry)) used .book ⌝ }
+    ensures { λ r. ⌜ r ≡ filingUsed (fileFor (askedBy price forward strike expiry kind) limit (now (book .entry)) used .answer) ⌝ }
+    ensures { λ _. ⌜ now (outcome .exit) ≡ filingOutcome (fileFor (askedBy price forward strike expiry kind) limit (now (book .entry)) used .answer) ⌝ }
+    ensures { λ _. ⌜ now (book .exit) ≡ fileFor (askedBy price forward strike expiry kind) limit (now (book .entry)) used .book ⌝ }
 {
-    let quote = quote_from(price, forward, strike, expiry, kind);
-    export_filing(file_for(kind, quote, limit, book, used), outcome)
+    let asked = asked_by(price, forward, strike, expiry, kind);
+    export_filing(file_for(asked, limit, book, used), outcome)
 }
 
 // 1 where it agrees; 0 where it differs or is refused.

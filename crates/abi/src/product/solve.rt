@@ -6,15 +6,15 @@ ghost use lib.ListN.{length};
 ghost use Rattle.solver.specs.Answers.{volatilityIn, targetNumber, targetValue};
 ghost use Rattle.solver.specs.Solve.{stepsOf};
 ghost use Rattle.solver.specs.Trail.{trailAfter};
-ghost use Rattle.abi.specs.Solutions.{outcomeFrom, outcomeOf, quoteFrom, solveWithTrailFor, solveFor, targetFor};
+ghost use Rattle.abi.specs.Solutions.{outcomeFrom, outcomeOf, askedBy, solveWithTrailFor, solveFor, targetFor};
 use elementary::methods::bits_of;
 use elementary::methods::float_of;
 use elementary::rule_set::RULE_SET_0;
 use solver::answers::Solution;
 use solver::answers::Target;
-use solver::book::is_kind;
-use solver::book::kind_from;
+use solver::book::kind_of;
 use solver::numbers;
+use solver::quote::Kind;
 use solver::quote::Quote;
 use solver::solve::loop_target;
 use solver::solve::solve_quote;
@@ -45,26 +45,35 @@ fn export_solution(answer: Solution, outcome: &mut u64) -> u64
     }
 }
 
-pub(crate) fn quote_from(price: u64, forward: u64, strike: u64, expiry: u64, kind: u8) -> Quote
-    ensures { λ r. ⌜ r ≡ quoteFrom price forward strike expiry kind ⌝ }
+// What a caller asks: a quote, or none where the byte says no kind.
+pub(crate) enum Asked {
+    AQuote(Quote),
+    NoKind,
+}
+
+pub(crate) fn asked_by(price: u64, forward: u64, strike: u64, expiry: u64, kind: u8) -> Asked
+    ensures { λ r. ⌜ r ≡ askedBy price forward strike expiry kind ⌝ }
 {
-    Quote {
-        price: float_of(price),
-        forward: float_of(forward),
-        strike: float_of(strike),
-        expiry: float_of(expiry),
-        option_type: kind_from(kind),
+    match kind_of(kind) {
+        Kind::Known(option_type) => Asked::AQuote(Quote {
+            price: float_of(price),
+            forward: float_of(forward),
+            strike: float_of(strike),
+            expiry: float_of(expiry),
+            option_type,
+        }),
+        Kind::Unknown => Asked::NoKind,
     }
 }
 
-fn solve_with_trail_for(kind: u8, quote: Quote, limit: i32, trail: &mut [u8]) -> Solution
-    ensures { λ r. ⌜ r ≡ solveWithTrailFor kind quote limit (length (now (trail .entry))) .answer ⌝ }
-    ensures { λ _. ⌜ now (trail .exit) ≡ trailAfter (solveWithTrailFor kind quote limit (length (now (trail .entry))) .records) (now (trail .entry)) ⌝ }
+fn solve_with_trail_for(asked: Asked, limit: i32, trail: &mut [u8]) -> Solution
+    ensures { λ r. ⌜ r ≡ solveWithTrailFor asked limit (length (now (trail .entry))) .answer ⌝ }
+    ensures { λ _. ⌜ now (trail .exit) ≡ trailAfter (solveWithTrailFor asked limit (length (now (trail .entry))) .records) (now (trail .entry)) ⌝ }
 {
-    if is_kind(kind) {
-        return solve_quote_with_trail(RULE_SET_0, quote, steps_of(limit), trail);
+    match asked {
+        Asked::AQuote(quote) => solve_quote_with_trail(RULE_SET_0, quote, steps_of(limit), trail),
+        Asked::NoKind => Solution::Refused(numbers::OUTSIDE_THE_LAYOUT, 0),
     }
-    Solution::Refused(numbers::OUTSIDE_THE_LAYOUT, 0)
 }
 
 #[no_mangle]
@@ -78,21 +87,21 @@ pub extern "C" fn gintubalos_implied_volatility_from_a_transformed_rational_gues
     trail: &mut [u8],
     outcome: &mut u64,
 ) -> u64
-    ensures { λ r. ⌜ r ≡ toBits binary64 (volatilityIn (solveWithTrailFor kind (quoteFrom price forward strike expiry kind) limit (length (now (trail .entry))) .answer)) ⌝ }
-    ensures { λ _. ⌜ now (outcome .exit) ≡ outcomeOf (solveWithTrailFor kind (quoteFrom price forward strike expiry kind) limit (length (now (trail .entry))) .answer) ⌝ }
-    ensures { λ _. ⌜ now (trail .exit) ≡ trailAfter (solveWithTrailFor kind (quoteFrom price forward strike expiry kind) limit (length (now (trail .entry))) .records) (now (trail .entry)) ⌝ }
+    ensures { λ r. ⌜ r ≡ toBits binary64 (volatilityIn (solveWithTrailFor (askedBy price forward strike expiry kind) limit (length (now (trail .entry))) .answer)) ⌝ }
+    ensures { λ _. ⌜ now (outcome .exit) ≡ outcomeOf (solveWithTrailFor (askedBy price forward strike expiry kind) limit (length (now (trail .entry))) .answer) ⌝ }
+    ensures { λ _. ⌜ now (trail .exit) ≡ trailAfter (solveWithTrailFor (askedBy price forward strike expiry kind) limit (length (now (trail .entry))) .records) (now (trail .entry)) ⌝ }
 {
-    let quote = quote_from(price, forward, strike, expiry, kind);
-    export_solution(solve_with_trail_for(kind, quote, limit, trail), outcome)
+    let asked = asked_by(price, forward, strike, expiry, kind);
+    export_solution(solve_with_trail_for(asked, limit, trail), outcome)
 }
 
-fn solve_for(kind: u8, quote: Quote, steps: u32) -> Solution
-    ensures { λ r. ⌜ r ≡ solveFor kind quote steps ⌝ }
+fn solve_for(asked: Asked, steps: u32) -> Solution
+    ensures { λ r. ⌜ r ≡ solveFor asked steps ⌝ }
 {
-    if is_kind(kind) {
-        return solve_quote(RULE_SET_0, quote, steps);
+    match asked {
+        Asked::AQuote(quote) => solve_quote(RULE_SET_0, quote, steps),
+        Asked::NoKind => Solution::Refused(numbers::OUTSIDE_THE_LAYOUT, 0),
     }
-    Solution::Refused(numbers::OUTSIDE_THE_LAYOUT, 0)
 }
 
 #[no_mangle]
@@ -104,11 +113,11 @@ pub extern "C" fn gintubalos_implied_volatility_from_a_transformed_rational_gues
     kind: u8,
     outcome: &mut u64,
 ) -> u64
-    ensures { λ r. ⌜ r ≡ toBits binary64 (volatilityIn (solveFor kind (quoteFrom price forward strike expiry kind) 2)) ⌝ }
-    ensures { λ _. ⌜ now (outcome .exit) ≡ outcomeOf (solveFor kind (quoteFrom price forward strike expiry kind) 2) ⌝ }
+    ensures { λ r. ⌜ r ≡ toBits binary64 (volatilityIn (solveFor (askedBy price forward strike expiry kind) 2)) ⌝ }
+    ensures { λ _. ⌜ now (outcome .exit) ≡ outcomeOf (solveFor (askedBy price forward strike expiry kind) 2) ⌝ }
 {
-    let quote = quote_from(price, forward, strike, expiry, kind);
-    export_solution(solve_for(kind, quote, 2), outcome)
+    let asked = asked_by(price, forward, strike, expiry, kind);
+    export_solution(solve_for(asked, 2), outcome)
 }
 
 #[no_mangle]
@@ -121,11 +130,11 @@ pub extern "C" fn gintubalos_implied_volatility_from_a_transformed_rational_gues
     limit: i32,
     outcome: &mut u64,
 ) -> u64
-    ensures { λ r. ⌜ r ≡ toBits binary64 (volatilityIn (solveFor kind (quoteFrom price forward strike expiry kind) (stepsOf limit))) ⌝ }
-    ensures { λ _. ⌜ now (outcome .exit) ≡ outcomeOf (solveFor kind (quoteFrom price forward strike expiry kind) (stepsOf limit)) ⌝ }
+    ensures { λ r. ⌜ r ≡ toBits binary64 (volatilityIn (solveFor (askedBy price forward strike expiry kind) (stepsOf limit))) ⌝ }
+    ensures { λ _. ⌜ now (outcome .exit) ≡ outcomeOf (solveFor (askedBy price forward strike expiry kind) (stepsOf limit)) ⌝ }
 {
-    let quote = quote_from(price, forward, strike, expiry, kind);
-    export_solution(solve_for(kind, quote, steps_of(limit)), outcome)
+    let asked = asked_by(price, forward, strike, expiry, kind);
+    export_solution(solve_for(asked, steps_of(limit)), outcome)
 }
 
 // The target's bits, a NaN's where there is none; document 01's number, 0 for none, goes to `number`.
@@ -149,13 +158,13 @@ fn export_target(answer: Target, number: &mut u8) -> u64
     }
 }
 
-fn target_for(kind: u8, quote: Quote) -> Target
-    ensures { λ r. ⌜ r ≡ targetFor kind quote ⌝ }
+fn target_for(asked: Asked) -> Target
+    ensures { λ r. ⌜ r ≡ targetFor asked ⌝ }
 {
-    if is_kind(kind) {
-        return loop_target(RULE_SET_0, quote);
+    match asked {
+        Asked::AQuote(quote) => loop_target(RULE_SET_0, quote),
+        Asked::NoKind => Target::Refused(numbers::OUTSIDE_THE_LAYOUT),
     }
-    Target::Refused(numbers::OUTSIDE_THE_LAYOUT)
 }
 
 // What the loop seeks: NaN and 0 where the answer comes without one.
@@ -168,9 +177,9 @@ pub extern "C" fn gintubalos_target(
     kind: u8,
     number: &mut u8,
 ) -> u64
-    ensures { λ r. ⌜ r ≡ toBits binary64 (targetValue (targetFor kind (quoteFrom price forward strike expiry kind))) ⌝ }
-    ensures { λ _. ⌜ now (number .exit) ≡ targetNumber (targetFor kind (quoteFrom price forward strike expiry kind)) ⌝ }
+    ensures { λ r. ⌜ r ≡ toBits binary64 (targetValue (targetFor (askedBy price forward strike expiry kind))) ⌝ }
+    ensures { λ _. ⌜ now (number .exit) ≡ targetNumber (targetFor (askedBy price forward strike expiry kind)) ⌝ }
 {
-    let quote = quote_from(price, forward, strike, expiry, kind);
-    export_target(target_for(kind, quote), number)
+    let asked = asked_by(price, forward, strike, expiry, kind);
+    export_target(target_for(asked), number)
 }

@@ -4,10 +4,12 @@ use Rattle.abi.proofs.probe.intrinsic.intrinsic.Statement.{statement}
 use Rattle.abi.proofs.probe.intrinsic.intrinsic.Tie as tie
 
 returns : tie.Need-returns
-returns c = rw (← c .before .before .before .is-kind .ensures, c .before .before .if1 .taken, ← c .before .kind-from .ensures, ← c .normalised-intrinsic .ensures)
+returns c =
+    let met = c .before .before in
+    rw (← met .before .before .kind-of .ensures, met .option-type .given .1, ← c .normalised-intrinsic .ensures)
 
 returns-2 : tie.Need-returns-2
-returns-2 c = rw (← c .before .is-kind .ensures, c .if1 .left)
+returns-2 c = rw (← c .before .before .kind-of .ensures, c .enum-told .given .1)
 
 pub intrinsic-spec : {M : Type 1} → statement M
-intrinsic-spec = tie.close (tie.spec (λ c κs. search needs) (λ c κs. search needs) (λ c κs. search needs) returns returns-2)
+intrinsic-spec = tie.close (tie.spec (λ c κs. search needs) (λ c. search needs) (λ c κs. search needs) (λ c. search needs) returns returns-2)

@@ -1,16 +1,13 @@
--- `abi::product::solve::solve_for` meets its contract: the byte says a kind, or none. Assumes nothing.
+-- `abi::product::solve::solve_for` meets its contract: a quote is asked, or none. Assumes nothing.
 use borrow.Author.Needs.{needs}
-use Rattle.abi.specs.Solutions.{solveFor}
 use Rattle.abi.proofs.product.solve.solve_for.Statement.{statement}
 use Rattle.abi.proofs.product.solve.solve_for.Tie as tie
 
 returns : tie.Need-returns
-unfolding solveFor
-returns c = rw (← c .before .before .is-kind .ensures, c .before .if1 .taken) (c .solve-quote .ensures)
+returns c = rw (c .before .before .asked .given .1) (c .solve-quote .ensures)
 
 returns-2 : tie.Need-returns-2
-unfolding solveFor
-returns-2 c = rw (← c .before .is-kind .ensures, c .if1 .left)
+returns-2 c = rw (c .enum-told .given .1)
 
 pub solve-for-spec : {M : Type 1} → statement M
-solve-for-spec = tie.close (tie.spec (λ c κs. search needs) (λ c κs. search needs) returns returns-2)
+solve-for-spec = tie.close (tie.spec (λ c. search needs) (λ c κs. search needs) (λ c. search needs) returns returns-2)

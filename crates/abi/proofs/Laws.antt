@@ -1,2 +1,0 @@
--- Laws, by subject. Nobody has to believe them: each is proved.
-pub mod ByKind
