@@ -69,21 +69,15 @@ allZero (b ∷ bs) = eqb b 0 && allZero bs
 abbrev pub inLayout : List ℕ → Bool
 inLayout r = leb (getD r 49 0) 5 && leb (getD r 50 0) 2 && allZero (part 51 13 r)
 
--- ---- solving a record again: 24, then solve's own numbers
-
 -- the quote of a record of this kind
 abbrev pub quoteIn : List ℕ → OptionType → Quote
 quoteIn r kind = quoteOf (floatAt 0 r) (floatAt 8 r) (floatAt 16 r) (floatAt 24 r) kind
 
--- the answer of its own input and limit
-abbrev pub solveRecordOf : RuleSet → List ℕ → OptionType → Solution
-solveRecordOf set r kind =
-    let again = solveOf set (quoteIn r kind) (stepsFrom (numberAt 40 4 r)) .answer in
-    cond (inLayout r) again (Refused 24 0)
-
--- of a record, whose kind is byte 48
+-- the answer of a record's own input and limit: 24, then solve's own numbers. Byte 48 is its kind.
 unfoldable pub solveRecord : RuleSet → List ℕ → Solution
-solveRecord set r = byKind (kindOf (getD r 48 0)) (solveRecordOf set r) (Refused 24 0)
+solveRecord set r =
+    let again : OptionType → Solution = λ kind. solveOf set (quoteIn r kind) (stepsFrom (numberAt 40 4 r)) .answer in
+    byKind (kindOf (getD r 48 0)) (λ kind. cond (inLayout r) (again kind) (Refused 24 0)) (Refused 24 0)
 
 -- byte for byte
 abbrev pub sameBytes : List ℕ → List ℕ → Bool
