@@ -48,7 +48,7 @@ impl Failure {
 
     /// A file that should be there and is not.
     pub fn missing(path: impl Into<PathBuf>) -> Failure {
-        Failure::file(path)(io::ErrorKind::NotFound.into())
+        Failure::file(path)(io::Error::new(io::ErrorKind::NotFound, "there is no such file"))
     }
 
     pub fn status(&self) -> u8 {

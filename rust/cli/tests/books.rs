@@ -189,9 +189,11 @@ fn repair() {
     let (status, out, _) = output(&["file", "--repair", name(&path)]);
     assert!(status == 0 && out.ends_with(" has 2 whole records and no part at its end\n"), "{out}");
     assert_eq!(fs::read(&path).expect("a book"), book);
-    assert_eq!(output(&["file", "--repair", name(&place("nothing"))]).0, 74);
+    let nothing = place("nothing");
+    let (status, _, err) = output(&["file", "--repair", name(&nothing)]);
+    assert_eq!((status, err), (74, format!("gintubalos: {}: there is no such file\n", name(&nothing))));
+    assert!(!nothing.exists());
     assert_eq!(output(&["file", "--repair", env!("CARGO_TARGET_TMPDIR")]).0, 74);
-    assert!(!place("nothing").exists());
 }
 
 /// A reader has the book together with other readers, and keeps those who add waiting.
