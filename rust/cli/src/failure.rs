@@ -34,6 +34,11 @@ pub enum Failure {
     Output {
         error: io::Error,
     },
+    /// The book is changed, and standard output could not say so.
+    Unshown {
+        change: String,
+        error: io::Error,
+    },
 }
 
 impl Failure {
@@ -57,7 +62,7 @@ impl Failure {
             Failure::Refusal(refusal) | Failure::Part { refusal, .. } | Failure::NoRecord { refusal, .. } => {
                 refusal.number
             }
-            Failure::File { .. } | Failure::Output { .. } => IO_ERROR,
+            Failure::File { .. } | Failure::Output { .. } | Failure::Unshown { .. } => IO_ERROR,
         }
     }
 }
@@ -76,6 +81,7 @@ impl fmt::Display for Failure {
             }
             Failure::File { path, error } => write!(f, "{}: {error}", path.display()),
             Failure::Output { error } => write!(f, "standard output: {error}"),
+            Failure::Unshown { change, error } => write!(f, "standard output: {error}; but {change}"),
         }
     }
 }

@@ -44,10 +44,15 @@ pub fn file(mut arguments: Arguments, out: &mut impl Write) -> Result<(), Failur
     fill(bytes % RECORD)?;
     book.append(&slot)?;
     drop(book);
-    write_filed(out, bytes / RECORD, &Record::from(&slot))
+    let k = bytes / RECORD;
+    write_filed(out, k, &Record::from(&slot)).and_then(|()| out.flush()).map_err(|error| {
+        // Whoever does not know of the record would file it again.
+        let change = format!("record {k} of {} is filed: do not file it again", path.display());
+        Failure::Unshown { change, error }
+    })
 }
 
-fn write_filed(out: &mut impl Write, k: u64, record: &Record) -> Result<(), Failure> {
+fn write_filed(out: &mut impl Write, k: u64, record: &Record) -> io::Result<()> {
     writeln!(out, "record      {k}")?;
     output::volatility(out, record.volatility(), record.sentinel())?;
     if let (Some(branch), Some(ending)) = (record.branch(), record.ending()) {
@@ -71,15 +76,12 @@ fn repair(mut arguments: Arguments, out: &mut impl Write) -> Result<(), Failure>
         writeln!(out, "{} has {records} whole records and no part at its end", path.display())?;
         return Ok(());
     }
-    writeln!(
-        out,
-        "{}: a part of {} bytes is taken away, and {records} whole records stay",
-        path.display(),
-        part.len()
-    )?;
     let digits: String = part.iter().map(|byte| format!("{byte:02X}")).collect();
-    writeln!(out, "its bytes   {digits}")?;
-    Ok(())
+    let change = format!("a part of {} bytes is taken away, and {records} whole records stay", part.len());
+    writeln!(out, "{}: {change}\nits bytes   {digits}", path.display()).and_then(|()| out.flush()).map_err(|error| {
+        // The bytes stand nowhere else any more.
+        Failure::Unshown { change: format!("{}: {change}; its bytes: {digits}", path.display()), error }
+    })
 }
 
 /// Record k's bytes, or as many as are there.

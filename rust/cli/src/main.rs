@@ -25,9 +25,11 @@ use std::{
 
 fn main() -> ExitCode {
     let mut out = BufWriter::new(io::stdout().lock());
-    let result = run(&mut out);
-    // What is written before a refusal comes before its words.
-    let result = out.flush().map_err(|error| Failure::Output { error }).and(result);
+    let result = match run(&mut out) {
+        unshown @ Err(Failure::Unshown { .. }) => unshown,
+        // What is written before a refusal comes before its words.
+        result => out.flush().map_err(Failure::from).and(result),
+    };
     match result {
         Ok(status) => ExitCode::from(status),
         Err(failure) => {

@@ -5,7 +5,7 @@ mod common;
 use common::{output, output_of, place, program, record, results};
 use std::{
     collections::BTreeSet,
-    fs,
+    fs, io,
     path::Path,
     process::{Child, Command, Stdio},
     thread,
@@ -194,6 +194,28 @@ fn repair() {
     assert_eq!((status, err), (74, format!("gintubalos: {}: there is no such file\n", name(&nothing))));
     assert!(!nothing.exists());
     assert_eq!(output(&["file", "--repair", env!("CARGO_TARGET_TMPDIR")]).0, 74);
+}
+
+/// What is done to a book is told on standard error where standard output is full, or where nobody reads it.
+#[test]
+fn unshown() {
+    let path = place("unshown");
+    let name = name(&path);
+    let file = ["file", name, "10", "100", "95", "1", "call"];
+    let full = || fs::OpenOptions::new().write(true).open("/dev/full").expect("a device of Linux");
+    let unread = || io::pipe().expect("a pipe").1;
+    for (k, out) in [(0, Stdio::from(full())), (1, unread().into())] {
+        let (status, _, err) = results(program().args(file).stdout(out).output().expect("the program starts"));
+        assert!(status == 74 && err.starts_with("gintubalos: standard output: "), "{err}");
+        assert!(err.ends_with(&format!("; but record {k} of {name} is filed: do not file it again\n")), "{err}");
+        assert_eq!(fs::read(&path).expect("a book").len(), 64 * (k + 1));
+    }
+    let book = fs::read(&path).expect("a book");
+    fs::write(&path, [&book[..], &[1, 2, 0xAB]].concat()).expect("written");
+    let repaired = program().args(["file", "--repair", name]).stdout(full()).output();
+    let (status, _, err) = results(repaired.expect("the program starts"));
+    assert!(status == 74 && err.ends_with("2 whole records stay; its bytes: 0102AB\n"), "{err}");
+    assert_eq!(fs::read(&path).expect("a book"), book);
 }
 
 /// A reader has the book together with other readers, and keeps those who add waiting.
