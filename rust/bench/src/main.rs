@@ -215,7 +215,8 @@ impl Bench {
         let row = |name: &str, [without, with]: [f64; 2]| {
             println!("| {name}, the look | {without:.1} | {with:.1} | {:.1} |", with - without)
         };
-        row("solve, quotes", measure_look(&inputs::quotes(COUNT), our_solve, turns));
+        // The shortest solves: in longer ones some ns are lost.
+        row("solve, branch 2, no small t", measure_look(&CLASSES[2].markets(COUNT), our_solve, turns));
         row("black, the rest", measure_look(&inputs::calls("the rest", COUNT), our_call, turns));
         row("exp", measure_look(&inputs::arguments("exp", COUNT), |x| bits::exp(x[0].to_bits()), turns));
     }
