@@ -53,7 +53,12 @@ fn wrong_lines_build_nothing() {
         "./gintubalos solve 1 1 1 1",
         "./gintubalos solve 1 1 1 1 put 1",
         "./gintubalos solve 1 1 1 1 put --trail",
+        "./gintubalos solve 1 1 1 1 put --limit",
+        "./gintubalos black 1 1 1 1 put --limit 2",
+        "./gintubalos file --repair book --limit 2",
+        "./gintubalos list book --all",
         "./gintubalos demo now",
+        "./gintubalos --version now",
         "./gintubalos file --repair",
         "./gintubalos recheck --jobs 2",
         "./gintubalos show -- --repair",
@@ -66,9 +71,19 @@ fn wrong_lines_build_nothing() {
         assert_eq!((status, &*out), (64, ""), "{line}");
         assert!(err.contains("--help"), "{line}: {err}");
     }
-    for line in ["./relist missing", "./relist scripts", "./gintubalos --help >&-"] {
+    for (line, expected) in [
+        ("./relist missing", 1),
+        ("./relist -- --missing", 1),
+        ("./relist scripts", 1),
+        ("./relist --help >/dev/full", 1),
+        ("./test --help >/dev/full", 1),
+        ("./gintubalos --help >/dev/full", 74),
+        ("./gintubalos --version >/dev/full", 74),
+        ("./gintubalos --help >&-", 74),
+        ("./gintubalos list - <&-", 74),
+    ] {
         let (status, out, err) = shell(&tree, line);
-        assert!([1, 74].contains(&status) && out.is_empty() && !err.is_empty(), "{line}: {status} {err}");
+        assert!(status == expected && out.is_empty() && !err.is_empty(), "{line}: {status} {err}");
     }
     assert!(!tree.join("target").exists() && !tree.join("rust/target").exists());
 }
