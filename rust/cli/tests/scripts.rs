@@ -98,6 +98,27 @@ fn links() {
     assert_eq!(shell(&elsewhere, "./volatility --help"), (0, HELP.to_owned(), String::new()));
 }
 
+/// relist's statuses, with small programs in the place of the proved one.
+#[test]
+fn statuses_of_relist() {
+    let tree = tree("relist");
+    for (program, line, expected) in [
+        ("cat", "./relist relist", (0, "")),
+        ("cat", "./relist - < relist", (0, "")),
+        ("echo problem >&2", "./relist relist", (1, "problem\n")),
+        ("yes", "./relist relist | true; exit ${PIPESTATUS[0]}", (1, "")),
+    ] {
+        let made = [
+            "mkdir -p target/bin crates/{elementary,prices,solver,relist}/src",
+            &format!("printf '#!/bin/sh\\n{program}\\n' > target/bin/relist"),
+            "chmod +x target/bin/relist",
+        ];
+        assert_eq!(shell(&tree, &made.join(" && ")).0, 0);
+        let (status, _, err) = shell(&tree, line);
+        assert_eq!((status, &*err), expected, "{program}: {line}");
+    }
+}
+
 /// A right command line goes on to build, which without Rattle's kit and cargo is told and nothing more.
 #[test]
 fn right_lines_build() {
