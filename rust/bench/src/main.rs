@@ -1,6 +1,6 @@
 //! Measures the proved functions beside the Rust, over document 01's elementary functions and over std's, and writes a
-//! table: ns per call, and ours divided by theirs; then what the crate's look at the environment costs. Exit status: 2 bad
-//! usage; 3 the Rust's source wasn't at hand when this was built, and there is nothing to compare with.
+//! table: ns per call, and ours divided by theirs; then what the crate's look at the environment costs. Exit status: 2
+//! bad usage; 3 the Rust's source wasn't at hand when this was built, and there is nothing to compare with.
 
 mod clock;
 mod inputs;

@@ -1,5 +1,5 @@
-//! Files that may not be read or written, and folders that may not be entered or added to. Nothing is closed to root: where
-//! root runs this test, another user runs the program.
+//! Files that may not be read or written, and folders that may not be entered or added to. Nothing is closed to root:
+//! where root runs this test, another user runs the program.
 
 mod common;
 

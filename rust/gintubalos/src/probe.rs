@@ -56,9 +56,9 @@ macro_rules! functions {
             }
         }
 
-        /// All functions on the bits of floats and on bytes, as the archive has them, those of [`crate::bits`] too. An answer is the value's bits, a
-        /// NaN's where it is refused, and document 01's number, 0 where it isn't. A kind is 1 or 2, and refused with 24
-        /// where it is neither; a side is Left at 0, a choice false at 0.
+        /// All functions on the bits of floats and on bytes, as the archive has them, those of [`crate::bits`] too. An
+        /// answer is the value's bits, a NaN's where it is refused, and document 01's number, 0 where it isn't. A kind is
+        /// 1 or 2, and refused with 24 where it is neither; a side is Left at 0, a choice false at 0.
         ///
         /// ```
         /// use gintubalos::probe::bits;
