@@ -14,7 +14,7 @@ fn main() {
     println!("cargo:rerun-if-changed=src");
     println!("cargo:rerun-if-env-changed=GINTUBALOS_ABI");
     let here = PathBuf::from(env::var("CARGO_MANIFEST_DIR").expect("cargo sets it"));
-    let folder = env::var_os("GINTUBALOS_ABI").map_or_else(|| here.join("../../target/staticlib"), PathBuf::from);
+    let folder = here.join(env::var_os("GINTUBALOS_ABI").unwrap_or("../../target/staticlib".into()));
     let archive = folder.join("libabi.a");
     println!("cargo:rerun-if-changed={}", archive.display());
     println!("cargo:rustc-env=GINTUBALOS_COMMIT={}", said("git", &["rev-parse", "--short=12", "HEAD"]));

@@ -7,7 +7,8 @@ fn main() {
     println!("cargo:rerun-if-changed=build.rs");
     println!("cargo:rerun-if-env-changed=GINTUBALOS_ABI");
     let here = PathBuf::from(env::var("CARGO_MANIFEST_DIR").expect("cargo sets it"));
-    let folder = env::var_os("GINTUBALOS_ABI").map_or_else(|| here.join("../../target/staticlib"), PathBuf::from);
+    // A path that is not absolute is seen from the crate: the linker has another folder.
+    let folder = here.join(env::var_os("GINTUBALOS_ABI").unwrap_or("../../target/staticlib".into()));
     let archive = folder.join("libabi.a");
     println!("cargo:rerun-if-changed={}", archive.display());
     if !archive.is_file() {

@@ -1,6 +1,8 @@
 //! The same inputs for all sides, in small blocks by turns, and of each side its best block: what else the machine does
 //! slows a block, and nothing makes one faster.
 
+use gintubalos::probe::in_default;
+use random_words::Words;
 use std::{
     hint::black_box,
     time::{Duration, Instant},
@@ -52,6 +54,25 @@ pub fn measure<I>(inputs: &[I], sides: [Side<I>; SIDES], effort: Effort) -> [f64
         }
     }
     std::array::from_fn(|k| best[k].as_nanos() as f64 / f64::from(repeats[k]) / inputs.len() as f64)
+}
+
+/// ns per call without the look at the environment and with it. Their difference is small against what else the machine
+/// does, so that either has the best time of each small part of the inputs, and chance says which of them begins.
+pub fn measure_look<I>(inputs: &[I], call: impl Fn(&I) -> u64, turns: usize) -> [f64; 2] {
+    const PART: usize = 256;
+    let sides: [Side<I>; 2] = [&mut over(&call), &mut over(|input| in_default(|| call(input)))];
+    let mut words = Words::new(1, "turns", 0);
+    let mut best = vec![[Duration::MAX; 2]; inputs.len() / PART];
+    for _ in 0..turns {
+        for (part, best) in inputs.chunks_exact(PART).zip(&mut best) {
+            let first = words.below(2) as usize;
+            for k in [first, 1 - first] {
+                best[k] = best[k].min(time(|| sides[k](part)));
+            }
+        }
+    }
+    let calls = (best.len() * PART) as f64;
+    [0, 1].map(|k| best.iter().map(|best| best[k]).sum::<Duration>().as_nanos() as f64 / calls)
 }
 
 fn time(work: impl FnOnce() -> u64) -> Duration {

@@ -1,12 +1,12 @@
 //! Measures the proved functions beside the Rust, over document 01's elementary functions and over std's, and writes a
-//! table: ns per call, and ours divided by theirs. Exit status: 2 bad usage; 3 the Rust's source wasn't at hand when this
-//! was built, and there is nothing to compare with.
+//! table: ns per call, and ours divided by theirs; then what the crate's look at the environment costs. Exit status: 2
+//! bad usage; 3 the Rust's source wasn't at hand when this was built, and there is nothing to compare with.
 
 mod clock;
 mod inputs;
 mod listing;
 
-use clock::{measure, over, Effort, SIDES};
+use clock::{measure, measure_look, over, Effort, SIDES};
 use gintubalos::probe::bits;
 use inputs::{Class, Market, CLASSES, REGIONS};
 use std::{env, process::exit};
@@ -38,6 +38,17 @@ macro_rules! rust_solve {
 
 rust_solve!(rules_solve, rust_over_rules);
 rust_solve!(std_solve, rust_over_std);
+
+/// Our solve and our price of a call.
+fn our_solve(market: &Market) -> u64 {
+    let [price, forward, strike, expiry] = market.bits();
+    bits::implied_volatility_from_a_transformed_rational_guess(price, forward, strike, expiry, market.kind).0
+}
+
+fn our_call(floats: &[f64; 4]) -> u64 {
+    let [forward, strike, sigma, expiry] = floats.map(f64::to_bits);
+    bits::black(forward, strike, sigma, expiry, 1).0
+}
 
 struct Bench {
     effort: Effort,
@@ -89,11 +100,7 @@ impl Bench {
         let markets = class.markets(COUNT);
         let over_rules = |m: &Market| rules_solve(m.floats, m.kind, LIMIT);
         let over_std = |m: &Market| std_solve(m.floats, m.kind, LIMIT);
-        let ours = |m: &Market| {
-            let [price, forward, strike, expiry] = m.bits();
-            bits::implied_volatility_from_a_transformed_rational_guess(price, forward, strike, expiry, m.kind).0
-        };
-        self.row(&plain, &markets, ours, over_rules, over_std);
+        self.row(&plain, &markets, our_solve, over_rules, over_std);
         let mut trail = [0; 48 * LIMIT as usize];
         let ours = |m: &Market| {
             let [price, forward, strike, expiry] = m.bits();
@@ -109,10 +116,7 @@ impl Bench {
         self.row(
             &format!("black, {region}"),
             &inputs::calls(region, COUNT),
-            |x| {
-                let [forward, strike, sigma, expiry] = x.map(f64::to_bits);
-                bits::black(forward, strike, sigma, expiry, 1).0
-            },
+            our_call,
             |x| rust_over_rules::lets_be_rational::black(x[0], x[1], x[2], x[3], rust_over_rules::OptionType::Call),
             |x| rust_over_std::lets_be_rational::black(x[0], x[1], x[2], x[3], rust_over_std::OptionType::Call),
         );
@@ -199,6 +203,23 @@ impl Bench {
             println!("<!-- records by branch 0 to 5: {:?} -->", inputs::branches(&markets));
         }
     }
+
+    /// What the crate's functions with the types of Rust do before each call, and the rows above do not.
+    fn looks(&self) {
+        if !self.wants("look") {
+            return;
+        }
+        println!("\n| ns per call | without the look | with it | the look |");
+        println!("|---|---:|---:|---:|");
+        let turns = 20 * self.turns;
+        let row = |name: &str, [without, with]: [f64; 2]| {
+            println!("| {name}, the look | {without:.1} | {with:.1} | {:.1} |", with - without)
+        };
+        // The shortest solves: in longer ones some ns are lost.
+        row("solve, branch 2, no small t", measure_look(&CLASSES[2].markets(COUNT), our_solve, turns));
+        row("black, the rest", measure_look(&inputs::calls("the rest", COUNT), our_call, turns));
+        row("exp", measure_look(&inputs::arguments("exp", COUNT), |x| bits::exp(x[0].to_bits()), turns));
+    }
 }
 
 fn usage(problem: &str) -> ! {
@@ -237,6 +258,7 @@ fn main() {
     let bench = options();
     let Some(source) = rust_over_rules::SOURCE else {
         println!("no Rust source: there is nothing to compare with");
+        bench.looks();
         exit(3);
     };
     println!("Rust source {source}; {COUNT} inputs a row, limit {LIMIT}");
@@ -252,4 +274,5 @@ fn main() {
     REGIONS.iter().for_each(|region| bench.prices(region));
     bench.elementary();
     bench.listings();
+    bench.looks();
 }

@@ -1,6 +1,6 @@
 //! The command line's words, in their order, and its options.
 
-use crate::failure::Failure;
+use crate::{failure::Failure, records::is_input};
 use gintubalos::OptionType;
 use std::{
     collections::{BTreeMap, BTreeSet, VecDeque},
@@ -96,7 +96,20 @@ impl Arguments {
     }
 
     pub fn path(&mut self) -> Result<PathBuf, Failure> {
-        self.word("the file's name").map(PathBuf::from)
+        let word = self.word("the file's name")?;
+        if word.is_empty() {
+            return Err(Failure::usage("the file's name is empty"));
+        }
+        Ok(word.into())
+    }
+
+    /// Of a book that is added to.
+    pub fn path_to_add(&mut self) -> Result<PathBuf, Failure> {
+        let path = self.path()?;
+        if is_input(&path) {
+            return Err(Failure::usage("- is standard input, to which nothing can be added: ./- is a file's name"));
+        }
+        Ok(path)
     }
 
     pub fn float(&mut self, name: &str) -> Result<f64, Failure> {
@@ -126,8 +139,11 @@ impl Arguments {
 
     /// All that is left: the files' names, one at least.
     pub fn paths(&mut self) -> Result<Vec<PathBuf>, Failure> {
-        let first = self.path()?;
-        Ok([first].into_iter().chain(self.words.drain(..).map(PathBuf::from)).collect())
+        let mut paths = vec![self.path()?];
+        while !self.words.is_empty() {
+            paths.push(self.path()?);
+        }
+        Ok(paths)
     }
 
     /// A record's number, from 0 on.

@@ -1,5 +1,6 @@
 //! Why a command gives no answer, and the status that says so.
 
+use crate::output::counted;
 use gintubalos::Refusal;
 use std::{fmt, io, path::PathBuf};
 
@@ -34,6 +35,15 @@ pub enum Failure {
     Output {
         error: io::Error,
     },
+    /// No thread could be started.
+    Thread {
+        error: io::Error,
+    },
+    /// The book is changed, and standard output could not say so.
+    Unshown {
+        change: String,
+        error: io::Error,
+    },
 }
 
 impl Failure {
@@ -48,7 +58,7 @@ impl Failure {
 
     /// A file that should be there and is not.
     pub fn missing(path: impl Into<PathBuf>) -> Failure {
-        Failure::file(path)(io::ErrorKind::NotFound.into())
+        Failure::file(path)(io::Error::new(io::ErrorKind::NotFound, "there is no such file"))
     }
 
     pub fn status(&self) -> u8 {
@@ -57,7 +67,9 @@ impl Failure {
             Failure::Refusal(refusal) | Failure::Part { refusal, .. } | Failure::NoRecord { refusal, .. } => {
                 refusal.number
             }
-            Failure::File { .. } | Failure::Output { .. } => IO_ERROR,
+            Failure::File { .. } | Failure::Output { .. } | Failure::Thread { .. } | Failure::Unshown { .. } => {
+                IO_ERROR
+            }
         }
     }
 }
@@ -69,13 +81,16 @@ impl fmt::Display for Failure {
             Failure::Refusal(refusal) => write!(f, "{refusal}"),
             Failure::Part { refusal, path, bytes } => {
                 let path = path.display();
-                write!(f, "{refusal}: {path} ends in a part of {bytes} bytes, which file --repair {path} takes away")
+                let bytes = counted(*bytes, "byte");
+                write!(f, "{refusal}: {path} ends in a part of {bytes}, which file --repair {path} takes away")
             }
             Failure::NoRecord { refusal, path, k } => {
                 write!(f, "{refusal}: {} has no whole record {k}", path.display())
             }
             Failure::File { path, error } => write!(f, "{}: {error}", path.display()),
             Failure::Output { error } => write!(f, "standard output: {error}"),
+            Failure::Thread { error } => write!(f, "no thread could be started: {error}"),
+            Failure::Unshown { change, error } => write!(f, "standard output: {error}; but {change}"),
         }
     }
 }

@@ -4,12 +4,13 @@ use crate::{
     arguments::Arguments,
     book_file::{BookFile, RECORD},
     failure::Failure,
-    output,
+    output::{self, counted},
+    records,
 };
 use gintubalos::{Record, RECORD_BYTES};
 use std::{
     io::{self, Read, Seek, SeekFrom, Write},
-    path::Path,
+    path::{Path, PathBuf},
 };
 
 /// Appends a record, with the book locked from the count of its records on.
@@ -17,7 +18,7 @@ pub fn file(mut arguments: Arguments, out: &mut impl Write) -> Result<(), Failur
     if arguments.flag("--repair") {
         return repair(arguments, out);
     }
-    let path = arguments.path()?;
+    let path = arguments.path_to_add()?;
     let market = arguments.market()?;
     let limit = arguments.limit()?;
     arguments.end()?;
@@ -44,10 +45,15 @@ pub fn file(mut arguments: Arguments, out: &mut impl Write) -> Result<(), Failur
     fill(bytes % RECORD)?;
     book.append(&slot)?;
     drop(book);
-    write_filed(out, bytes / RECORD, &Record::from(&slot))
+    let k = bytes / RECORD;
+    write_filed(out, k, &Record::from(&slot)).and_then(|()| out.flush()).map_err(|error| {
+        // Whoever does not know of the record would file it again.
+        let change = format!("record {k} of {} is filed: do not file it again", path.display());
+        Failure::Unshown { change, error }
+    })
 }
 
-fn write_filed(out: &mut impl Write, k: u64, record: &Record) -> Result<(), Failure> {
+fn write_filed(out: &mut impl Write, k: u64, record: &Record) -> io::Result<()> {
     writeln!(out, "record      {k}")?;
     output::volatility(out, record.volatility(), record.sentinel())?;
     if let (Some(branch), Some(ending)) = (record.branch(), record.ending()) {
@@ -62,24 +68,22 @@ fn write_filed(out: &mut impl Write, k: u64, record: &Record) -> Result<(), Fail
 
 /// Takes a part of a record away from the book's end, and shows its bytes, so that nothing is lost.
 fn repair(mut arguments: Arguments, out: &mut impl Write) -> Result<(), Failure> {
-    let path = arguments.path()?;
+    let path = arguments.path_to_add()?;
     arguments.end()?;
     let mut book = BookFile::to_add(&path, false)?.ok_or_else(|| Failure::missing(&path))?;
     let part = book.take_part_away()?;
-    let records = book.length()? / RECORD;
+    let records = counted(book.length()? / RECORD, "whole record");
     if part.is_empty() {
-        writeln!(out, "{} has {records} whole records and no part at its end", path.display())?;
+        writeln!(out, "{} has {records} and no part at its end", path.display())?;
         return Ok(());
     }
-    writeln!(
-        out,
-        "{}: a part of {} bytes is taken away, and {records} whole records stay",
-        path.display(),
-        part.len()
-    )?;
     let digits: String = part.iter().map(|byte| format!("{byte:02X}")).collect();
-    writeln!(out, "its bytes   {digits}")?;
-    Ok(())
+    let bytes = counted(part.len() as u64, "byte");
+    let change = format!("a part of {bytes} is taken away, which leaves {records}");
+    writeln!(out, "{}: {change}\nits bytes   {digits}", path.display()).and_then(|()| out.flush()).map_err(|error| {
+        // The bytes stand nowhere else any more.
+        Failure::Unshown { change: format!("{}: {change}; its bytes: {digits}", path.display()), error }
+    })
 }
 
 /// Record k's bytes, or as many as are there.
@@ -94,14 +98,24 @@ fn read(path: &Path, k: u64) -> Result<Vec<u8>, Failure> {
     Ok(bytes)
 }
 
+/// The same of standard input, of which all that comes before is read too.
+fn read_input(k: u64) -> io::Result<Vec<u8>> {
+    let mut input = records::input()?;
+    io::copy(&mut Read::by_ref(&mut input).take(k.saturating_mul(RECORD)), &mut io::sink())?;
+    let mut bytes = Vec::new();
+    input.take(RECORD).read_to_end(&mut bytes)?;
+    Ok(bytes)
+}
+
 /// A record as it is filed; nothing is solved.
 pub fn show(mut arguments: Arguments, out: &mut impl Write) -> Result<(), Failure> {
     let path = arguments.path()?;
     let k = arguments.record_number()?;
     arguments.end()?;
-    let bytes = read(&path, k)?;
+    let name = PathBuf::from(records::name(&path));
+    let bytes = if records::is_input(&path) { read_input(k).map_err(Failure::file(&name))? } else { read(&path, k)? };
     // A book of this record alone.
-    let record = gintubalos::read(&bytes, 1, 0).map_err(|refusal| Failure::NoRecord { refusal, path, k })?;
+    let record = gintubalos::read(&bytes, 1, 0).map_err(|refusal| Failure::NoRecord { refusal, path: name, k })?;
     writeln!(out, "record      {k}, as it is filed")?;
     output::float(out, "price", record.price())?;
     output::float(out, "forward", record.forward())?;

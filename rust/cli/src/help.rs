@@ -6,7 +6,8 @@ const TEXT: &str = include_str!("help.txt");
 
 /// Of one command, if it is one's name, else of all.
 pub fn write(out: &mut impl Write, name: &str) -> io::Result<()> {
-    let Some(at) = TEXT.find(&format!("\n  gintubalos {name} ")) else {
+    let ends = [' ', '\n'].map(|end| TEXT.find(&format!("\n  gintubalos {name}{end}")));
+    let Some(at) = ends.into_iter().flatten().next() else {
         return out.write_all(TEXT.as_bytes());
     };
     let commands_end = TEXT.find("\n\nEXPIRY").expect("what all commands share comes after them");

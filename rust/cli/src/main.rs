@@ -1,5 +1,5 @@
-//! `gintubalos`: demo, solve, price, file, recheck, list and show on the command line. Every answer is the proved library's; this
-//! program reads arguments and files, and writes answers down.
+//! `gintubalos`: demo, solve, black, file, recheck, list and show on the command line. Every answer is the proved
+//! library's; this program reads arguments and files, and writes answers down.
 
 #![forbid(unsafe_code)]
 
@@ -19,16 +19,16 @@ use arguments::Arguments;
 use failure::Failure;
 use std::{
     env,
+    fs::File,
     io::{self, BufWriter, ErrorKind, Write},
+    os::fd::AsFd,
     process::ExitCode,
 };
 
 fn main() -> ExitCode {
-    let mut out = BufWriter::new(io::stdout().lock());
-    let result = run(&mut out);
-    // What is written before a refusal comes before its words.
-    let result = out.flush().map_err(|error| Failure::Output { error }).and(result);
-    match result {
+    // As a file: std's own takes an output that is not open for writing for one that takes everything.
+    let out = io::stdout().as_fd().try_clone_to_owned().map(|fd| BufWriter::new(File::from(fd)));
+    match out.map_err(Failure::from).and_then(answer) {
         Ok(status) => ExitCode::from(status),
         Err(failure) => {
             // A reader that has left has seen what it wanted: there is no message.
@@ -41,11 +41,21 @@ fn main() -> ExitCode {
     }
 }
 
+/// The same once all is written.
+fn answer(mut out: impl Write) -> Result<u8, Failure> {
+    match run(&mut out) {
+        unshown @ Err(Failure::Unshown { .. }) => unshown,
+        // What is written before a refusal comes before its words.
+        result => out.flush().map_err(Failure::from).and(result),
+    }
+}
+
 /// The status: 0, or what a recheck found.
 fn run(out: &mut impl Write) -> Result<u8, Failure> {
     let mut words = env::args_os().skip(1);
     let command = words
         .next()
+        .filter(|command| !command.is_empty())
         .ok_or_else(|| Failure::usage("a command is wanted: demo, solve, black, file, recheck, list or show"))?;
     let mut arguments = Arguments::default();
     for word in words {

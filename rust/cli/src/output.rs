@@ -14,6 +14,11 @@ pub fn bits(x: f64) -> String {
     format!("{:016X}", x.to_bits())
 }
 
+/// A number of things.
+pub fn counted(number: u64, thing: &str) -> String {
+    format!("{number} {thing}{}", if number == 1 { "" } else { "s" })
+}
+
 /// A float in both forms, after its name.
 pub fn float(out: &mut impl Write, name: &str, x: f64) -> io::Result<()> {
     writeln!(out, "{name:<10}  {:<24}  {}", decimal(x), bits(x))

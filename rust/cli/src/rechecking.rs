@@ -26,6 +26,9 @@ use std::{
 /// So many differing records are shown and named.
 const MOST_SHOWN: u64 = 10;
 
+/// So many threads work, whatever is asked for: each takes memory.
+const MOST_JOBS: usize = 256;
+
 /// A record that does not agree.
 enum Finding {
     Differs([u8; RECORD_BYTES]),
@@ -197,10 +200,16 @@ fn recheck_records(
     let done = AtomicU64::new(0);
     let mut summary = Summary::default();
     thread::scope(|scope| {
-        let (sender, receiver) = mpsc::sync_channel(4 * options.jobs.get());
-        for _ in 0..options.jobs.get() {
+        let jobs = options.jobs.get().min(MOST_JOBS);
+        let (sender, receiver) = mpsc::sync_channel(4 * jobs);
+        for k in 0..jobs {
             let (records, done, sender) = (&records, &done, sender.clone());
-            scope.spawn(move || work(records, done, sender));
+            match thread::Builder::new().spawn_scoped(scope, move || work(records, done, sender)) {
+                Err(error) if k == 0 => return Err(Failure::Thread { error }),
+                // Those that there are do the work.
+                Err(_) => break,
+                Ok(_) => {}
+            }
         }
         drop(sender);
         // Blocks that came before one of lower records.

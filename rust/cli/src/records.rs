@@ -5,8 +5,9 @@ use crate::{
     failure::Failure,
 };
 use std::{
-    fs,
+    fs::{self, File},
     io::{self, Read},
+    os::fd::AsFd,
     path::{Path, PathBuf},
 };
 
@@ -33,8 +34,13 @@ impl Block {
     }
 }
 
-fn is_input(path: &Path) -> bool {
+pub fn is_input(path: &Path) -> bool {
     path == Path::new("-")
+}
+
+/// Standard input as a file: std's own takes one that is not open for reading for one that is empty.
+pub fn input() -> io::Result<File> {
+    io::stdin().as_fd().try_clone_to_owned().map(File::from)
 }
 
 /// How a file is named to the user.
@@ -56,8 +62,11 @@ pub fn count(path: &Path) -> u64 {
 
 impl Records {
     pub fn open(path: &Path) -> Result<Records, Failure> {
-        let source: Box<dyn Read + Send> =
-            if is_input(path) { Box::new(io::stdin()) } else { Box::new(BookFile::to_read(path)?) };
+        let source: Box<dyn Read + Send> = if is_input(path) {
+            Box::new(input().map_err(Failure::file(name(path)))?)
+        } else {
+            Box::new(BookFile::to_read(path)?)
+        };
         Ok(Records { path: name(path).into(), source, next: 0 })
     }
 

@@ -97,7 +97,7 @@ fn write_steps(
     output::table(out, &heads, &rows)?;
     let more = completed.saturating_sub(steps.len() as u32);
     if more > 0 {
-        writeln!(out, "and {more} steps more, which are not shown")?;
+        writeln!(out, "not shown: {} more", output::counted(more.into(), "step"))?;
     }
     writeln!(out)
 }

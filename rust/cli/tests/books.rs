@@ -5,7 +5,7 @@ mod common;
 use common::{output, output_of, place, program, record, results};
 use std::{
     collections::BTreeSet,
-    fs,
+    fs, io,
     path::Path,
     process::{Child, Command, Stdio},
     thread,
@@ -183,15 +183,42 @@ fn repair() {
     fs::write(&path, [&book[..], &[1, 2, 0xAB]].concat()).expect("written");
     assert_eq!(output(&["file", name(&path), "10", "100", "95", "1", "call"]).0, 23);
     let (status, out, _) = output(&["file", "--repair", name(&path)]);
-    assert!(status == 0 && out.contains("a part of 3 bytes is taken away, and 2 whole records stay"), "{out}");
+    assert!(status == 0 && out.contains("a part of 3 bytes is taken away, which leaves 2 whole records\n"), "{out}");
     assert!(out.ends_with("\nits bytes   0102AB\n"), "{out}");
     assert_eq!(fs::read(&path).expect("a book"), book);
     let (status, out, _) = output(&["file", "--repair", name(&path)]);
     assert!(status == 0 && out.ends_with(" has 2 whole records and no part at its end\n"), "{out}");
     assert_eq!(fs::read(&path).expect("a book"), book);
-    assert_eq!(output(&["file", "--repair", name(&place("nothing"))]).0, 74);
+    fs::write(&path, &book[..65]).expect("written");
+    let (_, out, _) = output(&["file", "--repair", name(&path)]);
+    assert!(out.contains(": a part of 1 byte is taken away, which leaves 1 whole record\n"), "{out}");
+    let nothing = place("nothing");
+    let (status, _, err) = output(&["file", "--repair", name(&nothing)]);
+    assert_eq!((status, err), (74, format!("gintubalos: {}: there is no such file\n", name(&nothing))));
+    assert!(!nothing.exists());
     assert_eq!(output(&["file", "--repair", env!("CARGO_TARGET_TMPDIR")]).0, 74);
-    assert!(!place("nothing").exists());
+}
+
+/// What is done to a book is told on standard error where standard output is full, or where nobody reads it.
+#[test]
+fn unshown() {
+    let path = place("unshown");
+    let name = name(&path);
+    let file = ["file", name, "10", "100", "95", "1", "call"];
+    let full = || fs::OpenOptions::new().write(true).open("/dev/full").expect("a device of Linux");
+    let unread = || io::pipe().expect("a pipe").1;
+    for (k, out) in [(0, Stdio::from(full())), (1, unread().into())] {
+        let (status, _, err) = results(program().args(file).stdout(out).output().expect("the program starts"));
+        assert!(status == 74 && err.starts_with("gintubalos: standard output: "), "{err}");
+        assert!(err.ends_with(&format!("; but record {k} of {name} is filed: do not file it again\n")), "{err}");
+        assert_eq!(fs::read(&path).expect("a book").len(), 64 * (k + 1));
+    }
+    let book = fs::read(&path).expect("a book");
+    fs::write(&path, [&book[..], &[1, 2, 0xAB]].concat()).expect("written");
+    let repaired = program().args(["file", "--repair", name]).stdout(full()).output();
+    let (status, _, err) = results(repaired.expect("the program starts"));
+    assert!(status == 74 && err.ends_with("which leaves 2 whole records; its bytes: 0102AB\n"), "{err}");
+    assert_eq!(fs::read(&path).expect("a book"), book);
 }
 
 /// A reader has the book together with other readers, and keeps those who add waiting.
@@ -249,7 +276,11 @@ limit       2
         let (status, out, err) = output(&["show", name(&path), k]);
         assert_eq!((status, &*out), (23, ""));
         assert!(err.ends_with(&format!("has no whole record {k}\n")), "{err}");
+        let (status, _, err) = output_of(&["show", "-", k], &book);
+        assert!(status == 23 && err.ends_with(&format!(": standard input has no whole record {k}\n")), "{err}");
     }
+    let second = [&[0; 64], &book[..64]].concat();
+    assert_eq!(output_of(&["show", "-", "1"], &second).1, out.replacen("record      0", "record      1", 1));
 }
 
 /// The same words from one thread and from many, and from standard input.
@@ -268,7 +299,7 @@ fn jobs() {
     assert_eq!((first.0, &*first.2), (1, ""));
     assert!(first.1.contains("records     3001\nagree       2987\ndiffer      12  (records 0, 5, 255, 256, 700, 701, 1500, 2047, 2048, 2500, ..)\n"), "{}", first.1);
     assert_eq!(first.1.matches(" differs: ").count(), 10);
-    for jobs in ["2", "3", "16"] {
+    for jobs in ["2", "3", "16", "18446744073709551615"] {
         assert_eq!(output(&["recheck", "--jobs", jobs, name(&path)]), first);
     }
     assert_eq!(output(&["recheck", name(&path)]), first);

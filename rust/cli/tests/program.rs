@@ -2,7 +2,8 @@
 
 mod common;
 
-use common::{output, words};
+use common::{output, program, results, words};
+use std::{fs::OpenOptions, process::Command};
 
 /// Refused with 7 after three completed steps.
 const SEVEN: [&str; 5] = ["0x3D35CFCCA2C33114", "0x41DBEC1184BBDFD4", "62DF5AB27B0C876F", "3f6f40223f5894a0", "call"];
@@ -129,7 +130,9 @@ fn usage() {
         "solve 1 1 1 1 put --steps=2",
         "solve 1 1 1 1 -- put --limit 2",
         "file",
+        "file - 10 100 95 1 call",
         "file --repair",
+        "file --repair -",
         "file --repair book 1 1 1 1 put",
         "recheck",
         "recheck book --jobs 0",
@@ -145,6 +148,11 @@ fn usage() {
         assert_eq!((status, &*out), (64, ""), "{line}");
         assert!(err.starts_with("gintubalos: ") && err.ends_with("see gintubalos --help\n"), "{err}");
     }
+    // Words without a letter.
+    let wrong = [&[""][..], &["list", ""], &["recheck", "book", ""], &["solve", "", "1", "1", "1", "call"]];
+    for line in wrong {
+        assert_eq!(output(line).0, 64, "{line:?}");
+    }
     // After -- every word is one, and of an option that is given twice the last counts.
     assert_eq!(output(&words("solve --limit 9 --limit 2 -- 10 100 95 1 call")).1, SOLUTION);
     for line in ["--help", "-h", "help", "solve --help", "list --help", "file -h"] {
@@ -157,6 +165,7 @@ fn usage() {
     let (_, out, _) = output(&words("list --help"));
     assert!(out.contains("gintubalos list BOOK") && out.contains("figures are solved again"), "{out}");
     assert!(!out.contains("gintubalos solve"), "{out}");
+    assert!(!output(&words("demo --help")).1.contains("gintubalos solve"));
 }
 
 /// The bundled book agrees, and has branches 0 to 4 and every ending; then question six.
@@ -187,10 +196,22 @@ fn version() {
 #[test]
 fn full_output() {
     for line in ["demo", "--help", "--version", "solve 10 100 95 1 call --steps", "black 100 95 0.2 1 call"] {
-        let full = std::fs::OpenOptions::new().write(true).open("/dev/full").expect("a device of Linux");
-        let output = common::program().args(words(line)).stdout(full).output().expect("the program starts");
-        let err = String::from_utf8(output.stderr).expect("text");
-        assert_eq!(output.status.code(), Some(74), "{line}");
-        assert!(err.starts_with("gintubalos: standard output: "), "{err}");
+        let full = OpenOptions::new().write(true).open("/dev/full").expect("a device of Linux");
+        let (status, _, err) = results(program().args(words(line)).stdout(full).output().expect("the program starts"));
+        assert!(status == 74 && err.starts_with("gintubalos: standard output: "), "{line}: {err}");
+    }
+}
+
+/// An output that is open for reading alone, and an input for writing alone.
+#[test]
+fn wrong_ends() {
+    let null = |options: &mut OpenOptions| options.open("/dev/null").expect("a device of Linux");
+    let fails = |command: &mut Command, name: &str| {
+        let (status, _, err) = results(command.output().expect("the program starts"));
+        assert!(status == 74 && err.starts_with(&format!("gintubalos: standard {name}: ")), "{command:?}: {err}");
+    };
+    fails(program().args(words("black 100 95 0.2 1 call")).stdout(null(OpenOptions::new().read(true))), "output");
+    for line in ["list -", "recheck -", "show - 0"] {
+        fails(program().args(words(line)).stdin(null(OpenOptions::new().write(true))), "input");
     }
 }

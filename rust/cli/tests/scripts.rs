@@ -53,7 +53,12 @@ fn wrong_lines_build_nothing() {
         "./gintubalos solve 1 1 1 1",
         "./gintubalos solve 1 1 1 1 put 1",
         "./gintubalos solve 1 1 1 1 put --trail",
+        "./gintubalos solve 1 1 1 1 put --limit",
+        "./gintubalos black 1 1 1 1 put --limit 2",
+        "./gintubalos file --repair book --limit 2",
+        "./gintubalos list book --all",
         "./gintubalos demo now",
+        "./gintubalos --version now",
         "./gintubalos file --repair",
         "./gintubalos recheck --jobs 2",
         "./gintubalos show -- --repair",
@@ -66,9 +71,19 @@ fn wrong_lines_build_nothing() {
         assert_eq!((status, &*out), (64, ""), "{line}");
         assert!(err.contains("--help"), "{line}: {err}");
     }
-    for line in ["./relist missing", "./relist scripts", "./gintubalos --help >&-"] {
+    for (line, expected) in [
+        ("./relist missing", 1),
+        ("./relist -- --missing", 1),
+        ("./relist scripts", 1),
+        ("./relist --help >/dev/full", 1),
+        ("./test --help >/dev/full", 1),
+        ("./gintubalos --help >/dev/full", 74),
+        ("./gintubalos --version >/dev/full", 74),
+        ("./gintubalos --help >&-", 74),
+        ("./gintubalos list - <&-", 74),
+    ] {
         let (status, out, err) = shell(&tree, line);
-        assert!([1, 74].contains(&status) && out.is_empty() && !err.is_empty(), "{line}: {status} {err}");
+        assert!(status == expected && out.is_empty() && !err.is_empty(), "{line}: {status} {err}");
     }
     assert!(!tree.join("target").exists() && !tree.join("rust/target").exists());
 }
@@ -81,6 +96,27 @@ fn links() {
     fs::create_dir(&elsewhere).expect("made");
     symlink("../gintubalos", elsewhere.join("volatility")).expect("linked");
     assert_eq!(shell(&elsewhere, "./volatility --help"), (0, HELP.to_owned(), String::new()));
+}
+
+/// relist's statuses, with small programs in the place of the proved one.
+#[test]
+fn statuses_of_relist() {
+    let tree = tree("relist");
+    for (program, line, expected) in [
+        ("cat", "./relist relist", (0, "")),
+        ("cat", "./relist - < relist", (0, "")),
+        ("echo problem >&2", "./relist relist", (1, "problem\n")),
+        ("yes", "./relist relist | true; exit ${PIPESTATUS[0]}", (1, "")),
+    ] {
+        let made = [
+            "mkdir -p target/bin crates/{elementary,prices,solver,relist}/src",
+            &format!("printf '#!/bin/sh\\n{program}\\n' > target/bin/relist"),
+            "chmod +x target/bin/relist",
+        ];
+        assert_eq!(shell(&tree, &made.join(" && ")).0, 0);
+        let (status, _, err) = shell(&tree, line);
+        assert_eq!((status, &*err), expected, "{program}: {line}");
+    }
 }
 
 /// A right command line goes on to build, which without Rattle's kit and cargo is told and nothing more.

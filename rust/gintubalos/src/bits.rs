@@ -100,10 +100,12 @@ impl From<u64> for Outcome {
 }
 
 // SAFETY, for each: the function reads and writes the slices that it is lent and the word or byte for the outcome, and
-// nothing else; it has no requires, keeps no pointer, and is proved to end.
+// nothing else; it has no requires, keeps no pointer, and is proved to end. Each is inlined, so that there is one call and
+// not two.
 
 /// The volatility's bits, a NaN's where it is refused, and the outcome's word. The steps' records go to the trail.
 #[allow(clippy::too_many_arguments)]
+#[inline]
 pub fn implied_volatility_from_a_transformed_rational_guess_with_trail(
     price: u64,
     forward: u64,
@@ -131,6 +133,7 @@ pub fn implied_volatility_from_a_transformed_rational_guess_with_trail(
 }
 
 /// The same with a limit of 2 and without a trail.
+#[inline]
 pub fn implied_volatility_from_a_transformed_rational_guess(
     price: u64,
     forward: u64,
@@ -153,6 +156,7 @@ pub fn implied_volatility_from_a_transformed_rational_guess(
 }
 
 /// The same with any limit and without a trail.
+#[inline]
 pub fn implied_volatility_from_a_transformed_rational_guess_with_limited_iterations(
     price: u64,
     forward: u64,
@@ -178,6 +182,7 @@ pub fn implied_volatility_from_a_transformed_rational_guess_with_limited_iterati
 
 /// The bits of the price that the loop seeks, and 0; a NaN's and 0 where the answer comes without a loop; a NaN's and the
 /// number where it is refused.
+#[inline]
 pub fn target(price: u64, forward: u64, strike: u64, expiry: u64, option_type: u8) -> (u64, u8) {
     let mut number = 0;
     let target = unsafe { archive::gintubalos_target(price, forward, strike, expiry, option_type, &mut number) };
@@ -185,6 +190,7 @@ pub fn target(price: u64, forward: u64, strike: u64, expiry: u64, option_type: u
 }
 
 /// The Black price's bits, a NaN's where it is refused, and the number, 0 where it isn't.
+#[inline]
 pub fn black(forward: u64, strike: u64, sigma: u64, expiry: u64, option_type: u8) -> (u64, u8) {
     let mut number = 0;
     let price = unsafe { archive::gintubalos_black(forward, strike, sigma, expiry, option_type, &mut number) };
@@ -193,6 +199,7 @@ pub fn black(forward: u64, strike: u64, sigma: u64, expiry: u64, option_type: u8
 
 /// The used count after filing, 0 where it is refused, and the outcome's word: branch and ending are in the book.
 #[allow(clippy::too_many_arguments)]
+#[inline]
 pub fn file(
     price: u64,
     forward: u64,
@@ -222,6 +229,7 @@ pub fn file(
 }
 
 /// 1 where record k agrees with what its input answers now, 0 where it differs or is refused, and the outcome's word.
+#[inline]
 pub fn recheck(book: &[u8], used: u64, k: u64) -> (u8, u64) {
     let mut outcome = 0;
     let agrees = unsafe { archive::gintubalos_recheck(book.as_ptr(), book.len(), used, k, &mut outcome) };
@@ -229,6 +237,7 @@ pub fn recheck(book: &[u8], used: u64, k: u64) -> (u8, u64) {
 }
 
 /// The byte at which record k's part of the book begins, and 0; or 0 and 23.
+#[inline]
 pub fn read(book: &[u8], used: u64, k: u64) -> (u64, u8) {
     let mut number = 0;
     let at = unsafe { archive::gintubalos_read(book.as_ptr(), book.len(), used, k, &mut number) };
@@ -236,6 +245,7 @@ pub fn read(book: &[u8], used: u64, k: u64) -> (u64, u8) {
 }
 
 /// The length of relist's line, written at the start of `out`; an `out` under 128 bytes stays, and the answer is 0.
+#[inline]
 pub fn line(index: u64, bytes: &[u8], out: &mut [u8]) -> usize {
     unsafe { archive::gintubalos_line(index, bytes.as_ptr(), bytes.len(), out.as_mut_ptr(), out.len()) }
 }

@@ -2,7 +2,7 @@
 //! calls in another one, gets the same bits all the same: each call of the archive is made in the default one. Only the
 //! module `bits` has the archive's functions as they are.
 
-use std::arch::asm;
+use std::{arch::asm, mem::MaybeUninit};
 
 /// MXCSR's control bits: rounding, the exceptions' masks, and what becomes of subnormal numbers. The others are flags.
 const CONTROL: u32 = 0xFFC0;
@@ -10,11 +10,14 @@ const CONTROL: u32 = 0xFFC0;
 /// Rounding to nearest, no exception traps, subnormal numbers neither flushed to zero nor taken for zero.
 const DEFAULT: u32 = 0x1F80;
 
+#[inline]
 fn control_word() -> u32 {
-    let mut word = 0u32;
-    // SAFETY: it writes the four bytes of `word` alone.
-    unsafe { asm!("stmxcsr [{}]", in(reg) &mut word, options(nostack, preserves_flags)) };
-    word
+    let mut word = MaybeUninit::uninit();
+    // SAFETY: it writes the four bytes of `word`, and nothing else.
+    unsafe {
+        asm!("stmxcsr [{}]", in(reg) word.as_mut_ptr(), options(nostack, preserves_flags));
+        word.assume_init()
+    }
 }
 
 /// # Safety
@@ -25,17 +28,19 @@ unsafe fn set_control_word(word: u32) {
 
 /// Makes a call of the archive in the default environment, and leaves the caller's as it was.
 #[inline]
-pub(crate) fn in_default<R>(call: impl FnOnce() -> R) -> R {
-    let word = control_word();
-    if word & CONTROL == DEFAULT {
+pub fn in_default<R>(call: impl FnOnce() -> R) -> R {
+    if control_word() & CONTROL == DEFAULT {
         call()
     } else {
-        in_another(word, call)
+        in_another(call)
     }
 }
 
+/// Out of line, and it reads the word again, so that the usual way has nothing to keep for it.
 #[cold]
-fn in_another<R>(word: u32, call: impl FnOnce() -> R) -> R {
+#[inline(never)]
+fn in_another<R>(call: impl FnOnce() -> R) -> R {
+    let word = control_word();
     // SAFETY: the default, and then what was there before. No archive's function unwinds.
     unsafe {
         set_control_word(DEFAULT);

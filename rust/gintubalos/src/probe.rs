@@ -1,7 +1,10 @@
 //! The functions of the two lower layers, which only the comparison with the Rust and the bench call: with the types of Rust,
 //! and on plain numbers in `bits`. Behind the feature `probe`; a program uses what stands in the crate itself.
 
-use crate::{environment::in_default, OptionType, Refusal, Side};
+use crate::{OptionType, Refusal, Side};
+
+/// What every function of the crate but those on bits does before its call of the archive: here to measure what it costs.
+pub use crate::environment::in_default;
 
 /// What an argument crosses as: a float as its bits, all else as a byte.
 pub trait Crosses {
@@ -53,9 +56,9 @@ macro_rules! functions {
             }
         }
 
-        /// All functions on the bits of floats and on bytes, as the archive has them, those of [`crate::bits`] too. An answer is the value's bits, a
-        /// NaN's where it is refused, and document 01's number, 0 where it isn't. A kind is 1 or 2, and refused with 24
-        /// where it is neither; a side is Left at 0, a choice false at 0.
+        /// All functions on the bits of floats and on bytes, as the archive has them, those of [`crate::bits`] too. An
+        /// answer is the value's bits, a NaN's where it is refused, and document 01's number, 0 where it isn't. A kind is
+        /// 1 or 2, and refused with 24 where it is neither; a side is Left at 0, a choice false at 0.
         ///
         /// ```
         /// use gintubalos::probe::bits;
@@ -70,16 +73,19 @@ macro_rules! functions {
             // SAFETY, for each: the function takes and returns numbers, writes to `number` alone, has no requires, and
             // is proved to end.
             $(#[doc = concat!("[`", stringify!($name), "`](crate::probe::", stringify!($name), ") on bits.")]
+            #[inline]
             pub fn $name($($x: <$t as Crosses>::Plain),*) -> u64 {
                 unsafe { super::archive::$symbol($($x),*) }
             })*
             $(#[doc = concat!("[`", stringify!($answer), "`](crate::probe::", stringify!($answer), ") on bits.")]
+            #[inline]
             pub fn $answer($($z: <$u as Crosses>::Plain),*) -> (u64, u8) {
                 let mut number = 0;
                 let value = unsafe { super::archive::$answer_symbol($($z,)* &mut number) };
                 (value, number)
             })*
             $(#[doc = concat!("[`", stringify!($other), "`](crate::probe::", stringify!($other), ") on bits.")]
+            #[inline]
             pub fn $other($($y: u64),*) -> u64 {
                 unsafe { super::archive::$other_symbol($($y),*) }
             })*
@@ -87,14 +93,16 @@ macro_rules! functions {
 
         $($(#[$doc])*
         #[allow(clippy::too_many_arguments)]
+        #[inline]
         pub fn $name($($x: $t),*) -> f64 {
-            f64::from_bits(in_default(|| bits::$name($($x.plain()),*)))
+            f64::from_bits(in_default(move || bits::$name($($x.plain()),*)))
         })*
 
         $($(#[$answer_doc])*
         #[allow(clippy::too_many_arguments)]
+        #[inline]
         pub fn $answer($($z: $u),*) -> Result<f64, Refusal> {
-            match in_default(|| bits::$answer($($z.plain()),*)) {
+            match in_default(move || bits::$answer($($z.plain()),*)) {
                 (value, 0) => Ok(f64::from_bits(value)),
                 (_, number) => Err(Refusal { number, steps: 0 }),
             }

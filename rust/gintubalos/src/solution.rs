@@ -70,6 +70,7 @@ impl Step {
 }
 
 /// What the archive answers in two words.
+#[inline]
 fn to_solution(solve: impl FnOnce() -> (u64, u64)) -> Result<Solution, Refusal> {
     let (volatility, outcome) = in_default(solve);
     let bits::Outcome { number, branch, ending, steps } = outcome.into();
@@ -95,6 +96,7 @@ fn to_solution(solve: impl FnOnce() -> (u64, u64)) -> Result<Solution, Refusal> 
 /// assert_eq!(volatility.to_bits(), 0x3FC7_D1E8_57E3_FCEB);
 /// # Ok::<(), gintubalos::Refusal>(())
 /// ```
+#[inline]
 pub fn implied_volatility_from_a_transformed_rational_guess(
     market_price: f64,
     forward_price: f64,
@@ -104,7 +106,7 @@ pub fn implied_volatility_from_a_transformed_rational_guess(
 ) -> Result<f64, Refusal> {
     let [price, forward, strike, expiry] =
         [market_price, forward_price, strike_price, time_to_maturity].map(f64::to_bits);
-    to_solution(|| {
+    to_solution(move || {
         bits::implied_volatility_from_a_transformed_rational_guess(price, forward, strike, expiry, option_type.byte())
     })
     .map(|solution| solution.volatility)
@@ -124,6 +126,7 @@ pub fn implied_volatility_from_a_transformed_rational_guess(
 /// assert_eq!((solution.branch, solution.ending, solution.steps), (Branch::LowerMiddle, Ending::Limit, 1));
 /// # Ok::<(), gintubalos::Refusal>(())
 /// ```
+#[inline]
 pub fn implied_volatility_from_a_transformed_rational_guess_with_limited_iterations(
     market_price: f64,
     forward_price: f64,
@@ -134,7 +137,7 @@ pub fn implied_volatility_from_a_transformed_rational_guess_with_limited_iterati
 ) -> Result<Solution, Refusal> {
     let [price, forward, strike, expiry] =
         [market_price, forward_price, strike_price, time_to_maturity].map(f64::to_bits);
-    to_solution(|| {
+    to_solution(move || {
         bits::implied_volatility_from_a_transformed_rational_guess_with_limited_iterations(
             price,
             forward,
@@ -162,6 +165,7 @@ pub fn implied_volatility_from_a_transformed_rational_guess_with_limited_iterati
 /// assert_eq!(last.s_after, solution.volatility);
 /// # Ok::<(), Refusal>(())
 /// ```
+#[inline]
 pub fn implied_volatility_from_a_transformed_rational_guess_with_trail(
     market_price: f64,
     forward_price: f64,
@@ -173,7 +177,7 @@ pub fn implied_volatility_from_a_transformed_rational_guess_with_trail(
 ) -> Result<Solution, Refusal> {
     let [price, forward, strike, expiry] =
         [market_price, forward_price, strike_price, time_to_maturity].map(f64::to_bits);
-    to_solution(|| {
+    to_solution(move || {
         bits::implied_volatility_from_a_transformed_rational_guess_with_trail(
             price,
             forward,
@@ -271,6 +275,7 @@ pub fn implied_volatility_from_a_transformed_rational_guess_step_by_step(
 /// assert_eq!(target(0.0, 100.0, 95.0, 1.0, OptionType::Put)?, None);
 /// # Ok::<(), gintubalos::Refusal>(())
 /// ```
+#[inline]
 pub fn target(
     market_price: f64,
     forward_price: f64,
@@ -280,7 +285,7 @@ pub fn target(
 ) -> Result<Option<f64>, Refusal> {
     let [price, forward, strike, expiry] =
         [market_price, forward_price, strike_price, time_to_maturity].map(f64::to_bits);
-    match in_default(|| bits::target(price, forward, strike, expiry, option_type.byte())) {
+    match in_default(move || bits::target(price, forward, strike, expiry, option_type.byte())) {
         (target, 0) => Ok(Some(f64::from_bits(target)).filter(|target| !target.is_nan())),
         (_, number) => Err(Refusal { number, steps: 0 }),
     }
@@ -296,6 +301,7 @@ pub fn target(
 /// assert_eq!(price.to_bits(), 0x4025_0A01_494A_D7E2);
 /// # Ok::<(), gintubalos::Refusal>(())
 /// ```
+#[inline]
 pub fn black(
     forward_price: f64,
     strike_price: f64,
@@ -304,7 +310,7 @@ pub fn black(
     option_type: OptionType,
 ) -> Result<f64, Refusal> {
     let [forward, strike, sigma, expiry] = [forward_price, strike_price, sigma, time_to_maturity].map(f64::to_bits);
-    match in_default(|| bits::black(forward, strike, sigma, expiry, option_type.byte())) {
+    match in_default(move || bits::black(forward, strike, sigma, expiry, option_type.byte())) {
         (price, 0) => Ok(f64::from_bits(price)),
         (_, number) => Err(Refusal { number, steps: 0 }),
     }

@@ -1,43 +1,16 @@
 //! A program written for the original library, with its first word changed and a `?` at each call.
 
-use gintubalos::{
-    lets_be_rational::{black, implied_volatility_from_a_transformed_rational_guess},
-    OptionType, Refusal,
-};
+use gintubalos::{OptionType, Refusal};
 
-/// A settlement of the school's program: +1 or −1 for the kind, as the original has it.
-struct Settlement {
-    price: f64,
-    forward: f64,
-    strike: f64,
-    expiry: f64,
-    sign: i32,
-}
-
-fn intrinsic(settlement: &Settlement) -> f64 {
-    let kind = OptionType::from(settlement.sign);
-    (kind * (settlement.forward - settlement.strike)).max(0.0)
-}
-
-fn settle(settlement: &Settlement) -> Result<(f64, f64), Refusal> {
-    let Settlement { price, forward, strike, expiry, sign } = *settlement;
-    let kind: OptionType = sign.into();
-    let volatility = implied_volatility_from_a_transformed_rational_guess(price, forward, strike, expiry, kind)?;
-    Ok((volatility, black(forward, strike, volatility, expiry, kind)?))
-}
+#[path = "school/after.rs"]
+#[allow(dead_code)]
+mod school;
 
 #[test]
 fn the_schools_program() {
-    for (sign, price) in [(1, 10.0), (-1, 5.0)] {
-        let settlement = Settlement { price, forward: 100.0, strike: 95.0, expiry: 1.0, sign };
-        let (volatility, again) = settle(&settlement).expect("a volatility");
-        assert!(volatility > 0.1 && (again - price).abs() < 1e-13);
-        assert_eq!(intrinsic(&settlement), if sign == 1 { 5.0 } else { 0.0 });
-    }
-    assert_eq!(
-        settle(&Settlement { price: 1.0, forward: 0.0, strike: 1.0, expiry: 1.0, sign: 1 }).unwrap_err().number,
-        2
-    );
+    assert_eq!(school::lines().expect("volatilities"), include_str!("school/printed.txt"));
+    let error = school::settle("1 0 1 1 1").expect_err("a forward of 0");
+    assert_eq!(error.downcast_ref(), Some(&Refusal { number: 2, steps: 0 }));
 }
 
 /// The original's numbers, conversions and products.

@@ -1,10 +1,26 @@
 // The text that is written where the source folder isn't at hand, so that the programs over it can be built and say so.
 
 pub mod inputs {
+    use std::ops::{Mul, Neg};
+
     #[derive(Debug, Clone, Eq, PartialEq, Copy)]
     pub enum OptionType {
         Call,
         Put,
+    }
+
+    impl Neg for OptionType {
+        type Output = OptionType;
+        fn neg(self) -> OptionType {
+            panic!("no Rust source");
+        }
+    }
+
+    impl Mul<f64> for OptionType {
+        type Output = f64;
+        fn mul(self, _: f64) -> f64 {
+            panic!("no Rust source");
+        }
     }
 }
 
