@@ -1,5 +1,5 @@
 // Eight numbers side by side: what is computed of each of them in one expression runs as vectors.
-#[derive(Drop)]
+#[derive(Clone, Copy)]
 pub(crate) struct Eight {
     pub x0: f64,
     pub x1: f64,

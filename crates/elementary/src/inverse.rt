@@ -18,7 +18,7 @@ use crate::sqrt::sqrt;
 use crate::tables::cdf_of_thirty_seconds;
 
 // The two ends around the result after some steps, and the cdf's values there.
-#[derive(Drop)]
+#[derive(Clone, Copy)]
 struct Bracket {
     lo: f64,
     hi: f64,
@@ -82,7 +82,7 @@ fn refine_guess(p: f64, at: Bracket, guess: f64) -> f64 {
     }
 }
 
-#[derive(Drop)]
+#[derive(Clone, Copy)]
 struct Ends {
     lo: f64,
     hi: f64,

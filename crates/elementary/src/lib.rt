@@ -1,5 +1,7 @@
 // Layer 1: elementary functions, Cody's functions and the normal distribution, each equal bit for
 // bit to its definition in specs/.
+#![tactic(auto)]
+
 pub mod rule_set; // what a rule set decides
 pub mod limits; // f64's MAX, MIN, MIN_POSITIVE, EPSILON
 pub mod methods; // abs, max, is_zero, powi(2), and the border between floats and bits

@@ -93,7 +93,7 @@ pub(crate) fn shift_left(x: u64, z: u64) -> u64
 }
 
 // hi * 2^64 + lo.
-#[derive(Drop)]
+#[derive(Clone, Copy)]
 pub(crate) struct Wide {
     pub(crate) hi: u64,
     pub(crate) lo: u64,
@@ -157,7 +157,7 @@ pub(crate) fn round_exact(neg: bool, hi: u64, lo: u64, e: u64) -> f64
 }
 
 // A finite float taken apart: ±m * 2^e / 2^1138.
-#[derive(Drop)]
+#[derive(Clone, Copy)]
 pub(crate) struct Parts {
     pub(crate) neg: bool,
     pub(crate) m: u64,

@@ -1,5 +1,5 @@
 // What a rule set (document 02's term) decides. Every function that it concerns takes it by value.
-#[derive(Drop)]
+#[derive(Clone, Copy)]
 pub struct RuleSet {
     // From which price on solve looks for no volatility: the textbook's forward for a Call and strike
     // for a Put, or the Rust's strike for a Call and forward for a Put.

@@ -167,7 +167,7 @@ fn is_asymptotic(x: f64, s: f64) -> bool
 }
 
 // What gives the price out of the money.
-#[derive(Drop)]
+#[derive(Clone, Copy)]
 pub(crate) enum Region {
     Intrinsic,
     Asymptotic,

@@ -2,7 +2,7 @@
 ghost use Rattle.std.specs.Prelude.{◌≡◌};
 ghost use Rattle.prices.specs.Inputs.{negated, times as timesOf};
 
-#[derive(Drop)]
+#[derive(Clone, Copy)]
 pub enum OptionType {
     Call,
     Put,

@@ -1,5 +1,7 @@
 // Layer 2: intrinsic value, vega, the Black price and the rational cubic, each equal bit for bit to
 // its definition in specs/.
+#![tactic(auto)]
+
 pub mod inputs; // `OptionType` of inputs.rs
 pub mod answer; // what may be refused
 pub mod refusals; // document 01's numbers

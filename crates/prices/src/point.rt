@@ -24,7 +24,7 @@ use elementary::methods::max;
 use elementary::rule_set::RuleSet;
 
 // A price and a vega, or document 01's number.
-#[derive(Drop)]
+#[derive(Clone, Copy)]
 pub enum PriceAndVega {
     Both(f64, f64),
     Refused(u8),

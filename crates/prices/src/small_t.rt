@@ -20,7 +20,7 @@ use elementary::mul_add::mul_add;
 // ---- one fused step
 
 // A value, which is right where the doubt is 0.
-#[derive(Drop)]
+#[derive(Clone, Copy)]
 struct Fused {
     value: f64,
     doubt: u64,
@@ -158,7 +158,7 @@ const Q: [u32; 14] = [
 ];
 
 // The sums, with the doubts of all.
-#[derive(Drop)]
+#[derive(Clone, Copy)]
 struct Sums {
     y: [f64; 18],
     doubt: u64,

@@ -1,5 +1,7 @@
 // Records of 64 bytes from standard input, and a line for each on standard output. A last part under
 // 64 bytes has a line too.
+#![tactic(auto)]
+
 ghost use Rattle.std.specs.Prelude.{◌≡◌, ◌+◌, ◌*◌, ◌≤◌, ◌<◌, min, length};
 ghost use Rattle.elementary.specs.RuleSets.{rule_set_0};
 ghost use Rattle.solver.specs.LittleEndian.{overwritten};
@@ -23,14 +25,14 @@ const BLOCK_RECORDS: u64 = 1024;
 const INDEX_END: u64 = 0x8000000000000000;
 
 // How many bytes came, and whether no read failed.
-#[derive(Drop)]
+#[derive(Clone, Copy)]
 struct ReadResult {
     count: usize,
     is_ok: bool,
 }
 
 // Where a block leaves the run: whether it goes on, and the next record's number.
-#[derive(Drop)]
+#[derive(Clone, Copy)]
 struct Step {
     more: bool,
     next: u64,

@@ -1,5 +1,7 @@
 // Replays answers of the Rust: standard input has a line for each, as `differential --samples`
 // writes them. For each function it prints how many there are and whether all agree.
+#![tactic(auto)]
+
 mod functions;
 mod list;
 mod records;

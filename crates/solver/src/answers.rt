@@ -2,7 +2,7 @@
 // a loop, the completed steps.
 
 // A volatility, the branch whose loop found it, how that loop ended, and its completed steps.
-#[derive(Drop)]
+#[derive(Clone, Copy)]
 pub struct ImpliedVolatility {
     pub volatility: f64,
     pub branch: u8,
@@ -10,27 +10,27 @@ pub struct ImpliedVolatility {
     pub steps: u32,
 }
 
-#[derive(Drop)]
+#[derive(Clone, Copy)]
 pub enum Solution {
     Solved(ImpliedVolatility),
     Refused(u8, u32),
 }
 
 // A low and a high price: the low one's solution and the high one's, or the number that refuses both.
-#[derive(Drop)]
+#[derive(Clone, Copy)]
 pub enum RangeSolution {
     Ends(Solution, Solution),
     Refused(u8),
 }
 
 // Filing answers the used count after it.
-#[derive(Drop)]
+#[derive(Clone, Copy)]
 pub enum Filing {
     Filed(u64),
     Refused(u8, u32),
 }
 
-#[derive(Drop)]
+#[derive(Clone, Copy)]
 pub enum Checking {
     Agrees,
     Differs,
@@ -39,7 +39,7 @@ pub enum Checking {
 
 // The price that a loop seeks, out of the money and normalised; no loop where the answer comes before
 // a guess.
-#[derive(Drop)]
+#[derive(Clone, Copy)]
 pub enum Target {
     Sought(f64),
     NoLoop,

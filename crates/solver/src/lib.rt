@@ -1,5 +1,7 @@
 // Layer 3: the guess, the step, the loop, solve, trail, book and listing, each equal to its definition
 // in specs/, of which demand 3 is promised and proved (specs/Promises/Demand3.antt).
+#![tactic(auto)]
+
 pub mod normalised_market; // what a run looks at
 pub mod quote; // what is asked
 pub mod answers; // what solve, file and recheck answer

@@ -9,7 +9,7 @@ use elementary::rule_set::RuleSet;
 use prices::point::{PriceAndVega, price_and_vega};
 
 // x and the target after all mapping, b_max, which is exp(x / 2), and exp(−x / 2).
-#[derive(Drop)]
+#[derive(Clone, Copy)]
 pub struct NormalisedMarket {
     pub x: f64,
     pub beta: f64,

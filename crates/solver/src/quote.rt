@@ -1,7 +1,7 @@
 // What solve is asked for: the market price of an option on a future.
 use prices::inputs::OptionType;
 
-#[derive(Drop)]
+#[derive(Clone, Copy)]
 pub struct Quote {
     pub price: f64,
     pub forward: f64,
@@ -11,7 +11,7 @@ pub struct Quote {
 }
 
 // An option at a low and at a high price.
-#[derive(Drop)]
+#[derive(Clone, Copy)]
 pub struct QuoteRange {
     pub low: f64,
     pub high: f64,
@@ -22,7 +22,7 @@ pub struct QuoteRange {
 }
 
 // What a kind's byte says, in a record or from another language.
-#[derive(Drop)]
+#[derive(Clone, Copy)]
 pub enum Kind {
     Known(OptionType),
     Unknown,

@@ -2,7 +2,7 @@
 use crate::normalised_market::NormalisedMarket;
 
 // A loop's state: document 01's five floats.
-#[derive(Drop)]
+#[derive(Clone, Copy)]
 pub struct State {
     pub s: f64,
     pub ds: f64,
@@ -12,14 +12,14 @@ pub struct State {
 }
 
 // The ends between which s is looked for.
-#[derive(Drop)]
+#[derive(Clone, Copy)]
 pub struct Bracket {
     pub left: f64,
     pub right: f64,
 }
 
 // A map's value with its first two derivatives: the Rust's triple.
-#[derive(Drop)]
+#[derive(Clone, Copy)]
 pub struct MapAndDerivatives {
     pub f: f64,
     pub fp: f64,
@@ -28,7 +28,7 @@ pub struct MapAndDerivatives {
 
 // What the trail keeps of a completed step: s, the computed price b, vega, the bracket's ends after
 // the move, and s after the step.
-#[derive(Drop)]
+#[derive(Clone, Copy)]
 pub struct Record {
     pub s: f64,
     pub b: f64,
@@ -39,7 +39,7 @@ pub struct Record {
 }
 
 // A step is completed, or meets 7.
-#[derive(Drop)]
+#[derive(Clone, Copy)]
 pub enum StepResult {
     Completed(State, Record),
     Refused(u8),
@@ -47,7 +47,7 @@ pub enum StepResult {
 
 // Where a run begins: answered before a guess, refused before a loop, or with a loop's branch, its
 // market and the state before its first step.
-#[derive(Drop)]
+#[derive(Clone, Copy)]
 pub enum Start {
     Answered(f64),
     Stopped(u8),
@@ -55,7 +55,7 @@ pub enum Start {
 }
 
 // How a loop ends, and its last state.
-#[derive(Drop)]
+#[derive(Clone, Copy)]
 pub struct LoopExit {
     pub ending: u8,
     pub st: State,

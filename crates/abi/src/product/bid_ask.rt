@@ -17,7 +17,7 @@ use solver::quote::{Kind, QuoteRange};
 use solver::solve::steps_of;
 
 // What a caller asks: a range, or none where the byte says no kind.
-#[derive(Drop)]
+#[derive(Clone, Copy)]
 pub(crate) enum AskedRange {
     ARange(QuoteRange),
     NoKind,

@@ -41,7 +41,7 @@ pub(crate) fn export_solution(answer: Solution, outcome: &mut u64) -> u64
 }
 
 // What a caller asks: a quote, or none where the byte says no kind.
-#[derive(Drop)]
+#[derive(Clone, Copy)]
 pub(crate) enum Asked {
     AQuote(Quote),
     NoKind,

@@ -10,7 +10,7 @@ use lib.Dec.{T, ltb, eqb-suc-zero, lit<, lit≤}
 use lib.Pow.{pow-add, pow_pos, pow-lt}
 use native.Mathlib.Decide.{dec_le}
 use borrow.Author.Tests.{lt-ltb, le-ltb}
-use lib.Ieee.{Float, inf, binary64, up, down, unlike, units, round, sum, add, sub, mul, div, neg, le, of_bits}
+use lib.Ieee.{fin, Float, inf, binary64, up, down, unlike, units, round, sum, add, sub, mul, div, neg, le, of_bits}
 use lib.Ieee.Fits.{up_pos, down_pos, round_is}
 use lib.Ieee.Exact.{HasValue, round_exact, units_val}
 use lib.Ieee.Back.{round_whole}
@@ -46,11 +46,11 @@ side_finite (sized m e h) = tt
 
 -- ---- values and fractions
 pub value_side : {x : Float} {s : Bool} (v c b : ℕ) → 0 < c → HasValue x s v c → v ≤ b * c → Side x s b
-value_side {x} v c b p h l = elim (finite_by x h) [ valued m e i ↦ sized {b = b} m e (le_of_mul-le-mul_right {k = c} (omega (arith, mul-le-mul_right (down e) l)) p) ]
+value_side {x} {s} v c b p h l = elim (finite_by x h) as (λ y _. Side y s b) [ valued m e i ↦ sized {b = b} m e (le_of_mul-le-mul_right {k = c} (omega (arith, mul-le-mul_right (down e) l)) p) ]
 
 pub value_over : {x : Float} (v c j : ℕ) → 0 < c → HasValue x false v c → c ≤ v * 2 ^ j → Over x j
 value_over {x} v c j p h l =
-    elim (finite_by x h) [ valued m e i ↦ reaches {j = j} m e (le_of_mul-le-mul_right {k = c} (omega (arith, mul-le-mul_right (down e) l, ap (λ (z : ℕ). z * 2 ^ j) i)) p) ]
+    elim (finite_by x h) as (λ y _. Over y j) [ valued m e i ↦ reaches {j = j} m e (le_of_mul-le-mul_right {k = c} (omega (arith, mul-le-mul_right (down e) l, ap (λ (z : ℕ). z * 2 ^ j) i)) p) ]
 
 -- ---- rounding
 units_inf : (q k : ℕ) → overflow binary64 ≤ q * 2 ^ k → units binary64 false q k ≡ inf false
@@ -59,7 +59,7 @@ units_inf q k l = rw (le-ltb (q * 2 ^ k) (overflow binary64) l)
 
 inf_not_below : (y : Float) (b d : ℕ) → HasValue y false b d → T (le (inf false) y) → ⊥
 unfolding le
-inf_not_below y b d v = elim (finite_by y v) [ valued n g i ↦ λ h. h ]
+inf_not_below y b d v = elim (finite_by y v) as (λ z _. T (le (inf false) z) → ⊥) [ valued n g i ↦ λ h. h ]
 
 -- a / c in units of the smallest value, rounded, is no infinity and at most b
 module _ (a c b : ℕ) (C : 0 < c) (B : Exact b) (h : a ≤ b * c) where
@@ -103,7 +103,7 @@ mul_side {s} {t} c C l (sized m e h) (sized n d k) =
 pub mul_by : {x : Float} {s : Bool} {a : ℕ} (c : Float) (v d b : ℕ) → 0 < d → HasValue c false v d → Exact b → a * v ≤ b * d → Side x s a → AtMost (x ⊗ c) b
 unfolding mul
 mul_by {s} {a} c v d b D k B l (sized m e h) =
-    elim (finite_by c k) [
+    elim (finite_by c k) as (λ z _. AtMost (fin s m e ⊗ z) b) [
       | valued n g i ↦
           let top : m * up e * (n * up g) * d ≤ b * (down e * down g) * d =
           omega (arith, mul-le-mul_right (v * down g) h, mul-le-mul_right (down e * down g) l, ap (λ (z : ℕ). m * up e * z) i) in

@@ -53,7 +53,7 @@ all_close k {x} {w} {y} {a} {b} p s ea eb q =
 over_sixteen : (x : Float) (k : ℕ) → HasValue x false k 1 → x ⊘ sixteen ≡ round binary64 false k 16
 unfolding div of_bits
 over_sixteen x k v =
-    elim (finite_by x v) [ valued m e i ↦ round_same binary64 false (m * up e * 1) (1 * 16 * down e) k 16 (omega (arith, down_pos e)) (omega arith) (omega (arith, i)) ]
+    elim (finite_by x v) as (λ y _. y ⊘ sixteen ≡ round binary64 false k 16) [ valued m e i ↦ round_same binary64 false (m * up e * 1) (1 * 16 * down e) k 16 (omega (arith, down_pos e)) (omega arith) (omega (arith, i)) ]
 
 pub sixteenths_value : (k : ℕ) → k ≤ 1024 → HasValue (sixteenths_of k) false k 16
 sixteenths_value k l =
@@ -81,7 +81,7 @@ values {k} {y} one small h =
     record {
       plus = py;
       low = values_of_le a y k 16 (num y) (den y) pa py va (own_value y py) from;
-      high = lt_of_not-le (λ (g : (k + 1) * den y ≤ num y * 16). rw (compare.not-le_of_lt y b under) at (le_of_values b y (k + 1) 16 (num y) (den y) (omega arith) (den_pos y) vb (own_value y py) g));
+      high = lt_of_not-le (λ (g : (k + 1) * den y ≤ num y * 16). rw (compare.not_le_of_lt y b under) at (le_of_values b y (k + 1) 16 (num y) (den y) (omega arith) (den_pos y) vb (own_value y py) g));
     }
 
 -- ---- y × 16 is exact
@@ -100,7 +100,7 @@ exact (fin false (suc m) e) f p l =
 -- ---- the tilde
 above_zero : (z : Float) (a c : ℕ) → 0 < a → HasValue z false a c → lt +0 z ≡ true
 unfolding lt of_bits
-above_zero z a c p v = elim (finite_by z v) [ valued m e i ↦ lt-ltb (0 * 1 * down e) (m * up e * 1) (omega (arith, first_pos (m * up e) c (rw i (mul-pos p (down_pos e))))) ]
+above_zero z a c p v = elim (finite_by z v) as (λ y _. lt +0 y ≡ true) [ valued m e i ↦ lt-ltb (0 * 1 * down e) (m * up e * 1) (omega (arith, first_pos (m * up e) c (rw i (mul-pos p (down_pos e))))) ]
 
 pub tilde_at : {k : ℕ} {y : Float} → 1 ≤ k → k < 1024 → T (fits binary64 y) → Values k y → tilde_of y ≡ sixteenths_of k
 unfolding tilde_of of_bits

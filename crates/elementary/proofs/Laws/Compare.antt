@@ -20,11 +20,11 @@ le_of_not_lt (fin s m e) (inf t) f g h = absurd g
 le_of_not_lt (fin s m e) (fin t n d) f g h = is_true _ (le→test t _ s _ (not_below s (m * up e * down d) t (n * up d * down e) h))
 
 pub lt_of_not_le : (x y : Float) → T (finite x) → T (finite y) → le y x ≡ false → lt x y ≡ true
-lt_of_not_le x y f g h = is_true (lt x y) (TOfNot (lt x y) (λ n. true≢false (sym (le_of_not_lt x y f g n) ∙ h)))
+lt_of_not_le x y f g h = is_true (lt x y) (t_of_not (lt x y) (λ n. true≢false (sym (le_of_not_lt x y f g n) ∙ h)))
   where
-    TOfNot : (b : Bool) → (b ≡ false → ⊥) → T b
-    TOfNot true n = tt
-    TOfNot false n = n refl
+    t_of_not : (b : Bool) → (b ≡ false → ⊥) → T b
+    t_of_not true n = tt
+    t_of_not false n = n refl
 
 -- what is below a number is not above it, nor equal to it
 pub not_le_of_lt : (x y : Float) → lt x y ≡ true → le y x ≡ false

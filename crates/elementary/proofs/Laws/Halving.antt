@@ -45,8 +45,8 @@ minus_half_is m e = rw one-mul
 -- ---- fma by -1/2
 add_other : (x z : Float) (s : Bool) (a c : ℕ) → HasValue x s a c → T (not (finite z)) → x ⊕ z ≡ z
 unfolding add
-add_other x nan s a c h n = elim (finite_by x h) [ valued m e i ↦ refl ]
-add_other x (inf v) s a c h n = elim (finite_by x h) [ valued m e i ↦ refl ]
+add_other x nan s a c h n = elim (finite_by x h) as (λ y _. y ⊕ nan ≡ nan) [ valued m e i ↦ refl ]
+add_other x (inf v) s a c h n = elim (finite_by x h) as (λ y _. y ⊕ inf v ≡ inf v) [ valued m e i ↦ refl ]
 add_other x (fin v k g) s a c h n = absurd n
 
 module _ (m : ℕ) (e : ℤ) (fit : T (fits binary64 (fin false m e))) (large : down e ≤ m * up e) where

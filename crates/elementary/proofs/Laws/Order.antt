@@ -76,8 +76,8 @@ module _ (s t : Bool) (a b c d : ℕ) (c_pos : 0 < c) (d_pos : 0 < d) where
 
   pub le→fractions : (x y : Float) → HasValue x s a c → HasValue y t b d → T (le x y) → Le s (a * d) t (b * c)
   unfolding le
-  le→fractions x y p q = elim (finite_by x p) [ valued m e i ↦ elim (finite_by y q) [ valued n g j ↦ λ h. (crossed m n e g i j).0 (test→le s _ t _ h) ] ]
+  le→fractions x y p q = elim (finite_by x p) as (λ z _. T (le z y) → Le s (a * d) t (b * c)) [ valued m e i ↦ elim (finite_by y q) as (λ z _. T (le (fin s m e) z) → Le s (a * d) t (b * c)) [ valued n g j ↦ λ h. (crossed m n e g i j).0 (test→le s _ t _ h) ] ]
 
   pub fractions→le : (x y : Float) → HasValue x s a c → HasValue y t b d → Le s (a * d) t (b * c) → T (le x y)
   unfolding le
-  fractions→le x y p q h = elim (finite_by x p) [ valued m e i ↦ elim (finite_by y q) [ valued n g j ↦ le→test s _ t _ ((crossed m n e g i j).1 h) ] ]
+  fractions→le x y p q h = elim (finite_by x p) as (λ z _. T (le z y)) [ valued m e i ↦ elim (finite_by y q) as (λ z _. T (le (fin s m e) z)) [ valued n g j ↦ le→test s _ t _ ((crossed m n e g i j).1 h) ] ]

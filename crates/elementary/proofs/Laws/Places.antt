@@ -119,22 +119,22 @@ exact_under f s a c m k C M l e =
 pub units_of : (f : Format) (x : Float) (s : Bool) (a c : ℕ) → 0 < c → HasValue x s a c → in_units f x ≡ a * 2 ^ low f / c
 unfolding in_units
 units_of f x s a c C h =
-    elim (finite_by x h) [ valued m e i ↦ div_same (m * up e * 2 ^ low f) (down e) (a * 2 ^ low f) c (down_pos e) C (omega (arith, ap (λ (z : ℕ). z * 2 ^ low f) i)) ]
+    elim (finite_by x h) as (λ y _. in_units f y ≡ a * 2 ^ low f / c) [ valued m e i ↦ div_same (m * up e * 2 ^ low f) (down e) (a * 2 ^ low f) c (down_pos e) C (omega (arith, ap (λ (z : ℕ). z * 2 ^ low f) i)) ]
 
 pub whole_units : (f : Format) (x : Float) (s : Bool) (a : ℕ) → HasValue x s a (2 ^ low f) → in_units f x ≡ a
 whole_units f x s a h = units_of f x s a (2 ^ low f) (pow_pos (low f)) h ∙ mul-div_cancel a (pow_pos (low f))
 
 pub place_of : (f : Format) (x : Float) (s : Bool) (a : ℕ) → HasValue x s a (2 ^ low f) → place f x ≡ a
 unfolding place
-place_of f x s a h = elim (finite_by x h) [ valued m e i ↦ whole_units f (fin s m e) s a (refl, i) ]
+place_of f x s a h = elim (finite_by x h) as (λ y _. place f y ≡ a) [ valued m e i ↦ whole_units f (fin s m e) s a (refl, i) ]
 
 pub sign_of_lem : (x : Float) (s : Bool) (a c : ℕ) → HasValue x s a c → sign_of x ≡ s
 unfolding sign_of
-sign_of_lem x s a c v = elim (finite_by x v) [ valued m e i ↦ refl ]
+sign_of_lem x s a c v = elim (finite_by x v) as (λ y _. sign_of y ≡ s) [ valued m e i ↦ refl ]
 
 pub is_number : (x : Float) (s : Bool) (a c : ℕ) → HasValue x s a c → T (not (is_nan x))
 unfolding is_nan
-is_number x s a c v = elim (finite_by x v) [ valued m e i ↦ tt ]
+is_number x s a c v = elim (finite_by x v) as (λ y _. T (not (is_nan y))) [ valued m e i ↦ tt ]
 
 pub overflow_digits : (f : Format) → InDigits (prec f) (overflow f)
 overflow_digits f = (1, low f + suc (emax f), pow-lt {i = 0} {j = prec f} (two-le_pos (prec f) (two f)), sym (one-mul (overflow f)))

@@ -24,7 +24,7 @@ recast x c p q h = rw (← p, ← q) h
 pub revalue : (x : Float) (s : Bool) (a c b d : ℕ) → 0 < c → a * d ≡ b * c → HasValue x s a c → HasValue x s b d
 revalue x s a c b d p e h =
     let to = eq_of_mul-eq-mul_right c p in
-    elim (finite_by x h) [ valued m k i ↦ (refl, to (m * up k * d) (b * down k) (omega (arith, ap (λ (z : ℕ). z * d) i, ap (λ (z : ℕ). z * down k) e))) ]
+    elim (finite_by x h) as (λ y _. HasValue y s b d) [ valued m k i ↦ (refl, to (m * up k * d) (b * down k) (omega (arith, ap (λ (z : ℕ). z * d) i, ap (λ (z : ℕ). z * down k) e))) ]
 
 pub whole_value : (n : ℕ) → n ≤ 2 ^ 53 → HasValue (float n) false n 1
 unfolding of_int

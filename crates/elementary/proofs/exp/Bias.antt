@@ -44,8 +44,8 @@ whole_part a c n C h = rw (sym (mul-one a) ∙ h) (mul-div_cancel n C)
 
 integer : (k : Float) (s : Bool) (n : ℕ) → n ≤ 1078 → HasValue k s n 1 → to_signed 63 k ≡ minus (shifted s n) 2048
 unfolding to_signed
-integer k true n l h = elim (finite_by k h) [ valued m e i ↦ rw (whole_part (m * up e) (down e) n (down_pos e) i, min-eq_left {n = n} {m = 2 ^ 63} (omega arith)) (sym (minus_minus n l)) ]
-integer k false n l h = elim (finite_by k h) [ valued m e i ↦ rw (whole_part (m * up e) (down e) n (down_pos e) i, min-eq_left {n = n} {m = 2 ^ 63 - 1} (omega arith)) (sym (minus_plus n)) ]
+integer k true n l h = elim (finite_by k h) as (λ y _. to_signed 63 y ≡ minus (shifted true n) 2048) [ valued m e i ↦ rw (whole_part (m * up e) (down e) n (down_pos e) i, min-eq_left {n = n} {m = 2 ^ 63} (omega arith)) (sym (minus_minus n l)) ]
+integer k false n l h = elim (finite_by k h) as (λ y _. to_signed 63 y ≡ minus (shifted false n) 2048) [ valued m e i ↦ rw (whole_part (m * up e) (down e) n (down_pos e) i, min-eq_left {n = n} {m = 2 ^ 63 - 1} (omega arith)) (sym (minus_plus n)) ]
 
 in_range : (s : Bool) (n : ℕ) → n ≤ 1078 → (960 ≤ shifted s n) × (shifted s n ≤ 3136)
 in_range true n l = (omega arith, omega arith)

@@ -29,7 +29,7 @@ cross M K L A D G E J p q = omega (arith, ap (λ (z : ℕ). z * (K * L)) p, ap (
 pub scaled_at : (f : Format) (x : Float) (s : Bool) (a d e l : ℕ) → 0 < d → HasValue x s a d → scaled f x (minus e l) ≡ round f s (a * 2 ^ e) (d * 2 ^ l)
 unfolding scaled
 scaled_at f x s a d e l P h =
-    elim (finite_by x h) [
+    elim (finite_by x h) as (λ y _. scaled f y (minus e l) ≡ round f s (a * 2 ^ e) (d * 2 ^ l)) [
       | valued m g i ↦
           let k = minus e l in
           round_same f s (m * up g * up k) (down g * down k) (a * 2 ^ e) (d * 2 ^ l) (mul-pos (down_pos g) (down_pos k)) (mul-pos P (pow_pos l))
