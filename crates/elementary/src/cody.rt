@@ -197,8 +197,8 @@ pub(crate) fn on_side(x: f64, right: f64) -> f64
 
 // erfc of x, whose size is y, from its exponential factor.
 pub(crate) fn erfc_with_factor(set: RuleSet, x: f64, y: f64, factor: f64) -> f64
-    requires fact_1 { y ≡ abs_of x }
-    requires fact_2 { factor ≡ smoothened_exponential_of_negative_square y }
+    requires y_is { y ≡ abs_of x }
+    requires factor_is { factor ≡ smoothened_exponential_of_negative_square y }
     ensures { result ≡ erfc_of set x }
 {
     if y <= THRESHOLD {

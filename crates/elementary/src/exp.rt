@@ -13,8 +13,8 @@ use crate::round::{float_of_fields, is_finite, parts_of, round_exact};
 
 // `scale_by_power` for any power of two: the digits of p are rounded at their new place.
 fn scale_by_any_power(p: f64, e: u64) -> f64
-    requires fact_1 { 960 ≤ e }
-    requires fact_2 { e ≤ 3136 }
+    requires e_low { 960 ≤ e }
+    requires e_high { e ≤ 3136 }
     ensures { result ≡ Exp.scaled binary64 p (minus e 2048) }
 {
     if is_finite(p) {
@@ -27,8 +27,8 @@ fn scale_by_any_power(p: f64, e: u64) -> f64
 
 // p × 2^(e − 2048), rounded once. Where that power of two is a normal float, a product does it.
 pub(crate) fn scale_by_power(p: f64, e: u64) -> f64
-    requires fact_1 { 960 ≤ e }
-    requires fact_2 { e ≤ 3136 }
+    requires e_low { 960 ≤ e }
+    requires e_high { e ≤ 3136 }
     ensures { result ≡ Exp.scaled binary64 p (minus e 2048) }
 {
     if e < 1026 {
@@ -42,9 +42,9 @@ pub(crate) fn scale_by_power(p: f64, e: u64) -> f64
 
 // One step of the sum: p becomes 1 + (r × p) / n.
 fn next_sum(r: f64, p: f64, n: u64) -> f64
-    requires fact_1 { 1 ≤ n }
-    requires fact_2 { n ≤ 13 }
-    requires fact_3 { StepsLeft n r p }
+    requires n_low { 1 ≤ n }
+    requires n_high { n ≤ 13 }
+    requires steps_left { StepsLeft n r p }
     ensures { StepsLeft (n - 1) r result }
 {
     1.0 + r * p / (n as f64)
@@ -93,8 +93,8 @@ fn biased_exponent(k: f64) -> u64
 
 // exp from the sum q.
 fn exp_from_sum(y: f64, k: f64, q: f64) -> f64
-    requires fact_1 { k ≡ Exp.exp_k y }
-    requires fact_2 { q ≡ Exp.exp_sum 13 (Exp.exp_r y) one }
+    requires k_is { k ≡ Exp.exp_k y }
+    requires q_is { q ≡ Exp.exp_sum 13 (Exp.exp_r y) one }
     ensures { result ≡ Exp.exp_of y }
 {
     if y != y {

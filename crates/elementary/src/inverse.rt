@@ -172,12 +172,12 @@ fn cdf_at(set: RuleSet, mid: f64, x: f64, f: f64) -> f64
 
 // One step, whose middle has the cdf's value v.
 fn bisection_step(set: RuleSet, p: f64, from: Bracket, mid: f64, v: f64) -> Bracket
-    requires fact_1 { AfterSteps set p from.lo from.hi from.steps }
-    requires fact_2 { from.steps < 64 }
-    requires fact_3 { mid ≡ mid_of from.lo from.hi }
-    requires fact_4 { v ≡ cdf_of set mid }
-    ensures fact_1 { AfterSteps set p result.lo result.hi result.steps }
-    ensures fact_2 { from.steps < result.steps }
+    requires after_steps { AfterSteps set p from.lo from.hi from.steps }
+    requires steps_high { from.steps < 64 }
+    requires mid_is { mid ≡ mid_of from.lo from.hi }
+    requires v_is { v ≡ cdf_of set mid }
+    ensures after_steps { AfterSteps set p result.lo result.hi result.steps }
+    ensures step { from.steps < result.steps }
 {
     if v < p {
         Bracket {
@@ -200,10 +200,10 @@ fn bisection_step(set: RuleSet, p: f64, from: Bracket, mid: f64, v: f64) -> Brac
 
 // The next step, if its middle is x, where the cdf is f.
 fn guessed_step(set: RuleSet, p: f64, at: Bracket, x: f64, f: f64) -> Bracket
-    requires fact_1 { AfterSteps set p at.lo at.hi at.steps }
-    requires fact_2 { f ≡ cdf_of set x }
-    ensures fact_1 { AfterSteps set p result.lo result.hi result.steps }
-    ensures fact_2 { at.steps ≤ result.steps }
+    requires after_steps { AfterSteps set p at.lo at.hi at.steps }
+    requires f_is { f ≡ cdf_of set x }
+    ensures after_steps { AfterSteps set p result.lo result.hi result.steps }
+    ensures step { at.steps ≤ result.steps }
 {
     if at.steps < 64 {
         if same(0.5 * (at.lo + at.hi), x) {
@@ -263,8 +263,8 @@ fn cdf_at_point(set: RuleSet, i: u64) -> f64
 // A step between the points i and i + 2 × half: where lo is then.
 fn first_step(set: RuleSet, p: f64, i: u64, half: u64) -> u64
     requires { i + half < 33 }
-    ensures fact_1 { result ≡ cond (lt (cdf_of set (point_of (i + half))) p) (i + half) i }
-    ensures fact_2 { result ≤ i + half }
+    ensures value { result ≡ cond (lt (cdf_of set (point_of (i + half))) p) (i + half) i }
+    ensures at_most { result ≤ i + half }
 {
     if cdf_at_point(set, i + half) < p {
         i + half
@@ -274,8 +274,8 @@ fn first_step(set: RuleSet, p: f64, i: u64, half: u64) -> u64
 }
 
 fn first_steps(set: RuleSet, p: f64) -> Bracket
-    requires fact_1 { lt (cdf_of set lowest) p ≡ true }
-    requires fact_2 { lt (cdf_of set highest) p ≡ false }
+    requires lowest_brackets { lt (cdf_of set lowest) p ≡ true }
+    requires highest_brackets { lt (cdf_of set highest) p ≡ false }
     ensures { AfterSteps set p result.lo result.hi result.steps }
 {
     let a = first_step(set, p, 0, 16);
@@ -295,8 +295,8 @@ fn first_steps(set: RuleSet, p: f64) -> Bracket
 // The 64 steps: the middle becomes lo if its cdf is below p, else hi. Where the middle is an end, no
 // later step changes anything.
 pub(crate) fn bisect(set: RuleSet, p: f64) -> f64
-    requires fact_1 { lt (cdf_of set lowest) p ≡ true }
-    requires fact_2 { lt (cdf_of set highest) p ≡ false }
+    requires lowest_brackets { lt (cdf_of set lowest) p ≡ true }
+    requires highest_brackets { lt (cdf_of set highest) p ≡ false }
     ensures { result ≡ (ends_of set p).hi }
 {
     let guess = approximation(p);

@@ -13,8 +13,8 @@ use crate::round::{
 
 // The product of two numbers of at most 59 digits.
 fn product(a: u64, b: u64) -> Wide
-    requires fact_1 { a < 2 ^ 59 }
-    requires fact_2 { b < 2 ^ 59 }
+    requires a_high { a < 2 ^ 59 }
+    requires b_high { b < 2 ^ 59 }
     ensures { wide result.hi result.lo ≡ a * b }
 {
     let a1 = a >> 32;
@@ -149,9 +149,9 @@ fn sum_wide(an: bool, ah: u64, al: u64, ae: u64, bn: bool, bh: u64, bl: u64, be:
 // The sum of a product and an addend, none of them 0, rounded once. The addend in a word of its own
 // and the product times 2^12 have the same number of digits, or one apart.
 fn fma_nonzero(n: bool, am: u64, ae: u64, bm: u64, be: u64, cn: bool, cm: u64, ce: u64) -> f64
-    requires fact_1 { Digits am ae }
-    requires fact_2 { Digits bm be }
-    requires fact_3 { Digits cm ce }
+    requires a_digits { Digits am ae }
+    requires b_digits { Digits bm be }
+    requires c_digits { Digits cm ce }
     ensures { result ≡ sum binary64 n (am * 64 * (bm * 64) * 2 ^ (ae + be + 116)) cn (wide cm 0 * 2 ^ (ce + 1202)) (2 ^ 2404) }
 {
     let p = product(am * 64, bm * 64);
@@ -160,9 +160,9 @@ fn fma_nonzero(n: bool, am: u64, ae: u64, bm: u64, be: u64, cn: bool, cm: u64, c
 
 // `mul_add` for finite operands. With a zero among them the plain operations round at most once.
 fn fma_finite(a: f64, b: f64, c: f64) -> f64
-    requires fact_1 { T (Scale.finite a) }
-    requires fact_2 { T (Scale.finite b) }
-    requires fact_3 { T (Scale.finite c) }
+    requires a_finite { T (Scale.finite a) }
+    requires b_finite { T (Scale.finite b) }
+    requires c_finite { T (Scale.finite c) }
     ensures { result ≡ fma binary64 a b c }
 {
     let p = parts_of(a);

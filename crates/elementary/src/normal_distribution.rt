@@ -150,8 +150,8 @@ fn negative_rests(y: Eight, t: Eight) -> Eight
 
 // The exponential factors, from the tildes and their exponentials.
 fn factors(y: Eight, t: Eight, s: Eight) -> Eight
-    requires fact_1 { Each tilde_of y t }
-    requires fact_2 { Each exp_of_negative_square t s }
+    requires tildes { Each tilde_of y t }
+    requires exponentials { Each exp_of_negative_square t s }
     ensures { Each smoothened_exponential_of_negative_square y result }
 {
     let c = exps(negative_rests(y, t));
@@ -169,8 +169,8 @@ fn factors(y: Eight, t: Eight, s: Eight) -> Eight
 
 // The cdf from erfc's argument w, its size y and its exponential factor.
 fn cdf_with_factor(set: RuleSet, w: f64, y: f64, factor: f64) -> f64
-    requires fact_1 { y ≡ abs_of w }
-    requires fact_2 { factor ≡ smoothened_exponential_of_negative_square y }
+    requires y_is { y ≡ abs_of w }
+    requires factor_is { factor ≡ smoothened_exponential_of_negative_square y }
     ensures { result ≡ half_erfc set w }
 {
     0.5 * erfc_with_factor(set, w, y, factor)
@@ -178,9 +178,9 @@ fn cdf_with_factor(set: RuleSet, w: f64, y: f64, factor: f64) -> f64
 
 // The same where y is known to be above the threshold and at most 4.
 fn cdf_up_to_four(set: RuleSet, w: f64, y: f64, factor: f64) -> f64
-    requires fact_1 { y ≡ abs_of w }
-    requires fact_2 { Between true y }
-    requires fact_3 { factor ≡ smoothened_exponential_of_negative_square y }
+    requires y_is { y ≡ abs_of w }
+    requires between { Between true y }
+    requires factor_is { factor ≡ smoothened_exponential_of_negative_square y }
     ensures { result ≡ half_erfc set w }
 {
     0.5 * on_side(w, cd(y) * factor)
@@ -188,9 +188,9 @@ fn cdf_up_to_four(set: RuleSet, w: f64, y: f64, factor: f64) -> f64
 
 // And where it is known to be above 4, and not in the far arm.
 fn cdf_above_four(set: RuleSet, w: f64, y: f64, factor: f64) -> f64
-    requires fact_1 { y ≡ abs_of w }
-    requires fact_2 { Between false y }
-    requires fact_3 { factor ≡ smoothened_exponential_of_negative_square y }
+    requires y_is { y ≡ abs_of w }
+    requires between { Between false y }
+    requires factor_is { factor ≡ smoothened_exponential_of_negative_square y }
     ensures { result ≡ half_erfc set w }
 {
     0.5 * on_side(w, (FRAC_1_SQRT_PI - pq(1.0 / (y * y))) / y * factor)
@@ -247,8 +247,8 @@ fn cdfs_above_four(set: RuleSet, w: Eight, y: Eight, factor: Eight) -> Eight
 // Where all sizes lie in the sixteenth from k / 16 on, that is the tilde of each, and e, its
 // exponential, serves all. Where that sixteenth holds no border of erfc's regions, no size is tested.
 fn close_cdfs(set: RuleSet, w: Eight, y: Eight, k: u64, e: f64) -> Eight
-    requires fact_1 { CloseCase k w y }
-    requires fact_2 { e ≡ exp_of_negative_square (sixteenths_of k) }
+    requires close_case { CloseCase k w y }
+    requires e_is { e ≡ exp_of_negative_square (sixteenths_of k) }
     ensures { Each (half_erfc set) w result }
 {
     let f = factors(y, copies(sixteenth(k)), copies(e));
@@ -289,8 +289,8 @@ fn inner_cdfs(set: RuleSet, x: Eight) -> Eight
 
 // The sizes of erfc's arguments are guessed to lie in the sixteenth from k / 16 on.
 pub(crate) fn cdfs(set: RuleSet, x: Eight, k: u64, e: f64) -> Eight
-    requires fact_1 { k < 1024 }
-    requires fact_2 { e ≡ exp_of_negative_square (sixteenths_of k) }
+    requires k_high { k < 1024 }
+    requires e_is { e ≡ exp_of_negative_square (sixteenths_of k) }
     ensures { Each (cdf_of set) x result }
 {
     if k < 8 {

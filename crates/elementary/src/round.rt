@@ -62,8 +62,8 @@ fn drop_count(e: u64) -> u64
 // just if nothing lies below them. The pattern k * 2^52 + q serves subnormals too, and a carry of q
 // runs into the exponent's field by itself, up to the infinity.
 fn round_to_nearest(m: u64, x: u64, e: u64) -> f64
-    requires fact_1 { 2 ^ 63 ≤ m }
-    requires fact_2 { e < 2 ^ 32 }
+    requires m_low { 2 ^ 63 ≤ m }
+    requires e_high { e < 2 ^ 32 }
     ensures { Rounds result false m x e }
 {
     let k = drop_count(e);
@@ -101,10 +101,10 @@ pub(crate) struct Wide {
 
 // As `round_to_nearest`, for two words. Where something was cut off, they have more than 64 digits.
 fn round_wide(hi: u64, lo: u64, x: u64, e: u64) -> f64
-    requires fact_1 { 0 < wide hi lo }
-    requires fact_2 { (wide hi lo < 2 ^ 64 → x ≡ 0) }
-    requires fact_3 { 64 ≤ e }
-    requires fact_4 { e < 2 ^ 31 }
+    requires digits_low { 0 < wide hi lo }
+    requires nothing_cut { (wide hi lo < 2 ^ 64 → x ≡ 0) }
+    requires e_low { 64 ≤ e }
+    requires e_high { e < 2 ^ 31 }
     ensures { Rounds result false (wide hi lo) x e }
 {
     if hi == 0 {
@@ -127,10 +127,10 @@ fn apply_sign(neg: bool, r: f64) -> f64
 
 // As `round_wide`, with a sign.
 pub(crate) fn round_signed(neg: bool, hi: u64, lo: u64, x: u64, e: u64) -> f64
-    requires fact_1 { 0 < wide hi lo }
-    requires fact_2 { (wide hi lo < 2 ^ 64 → x ≡ 0) }
-    requires fact_3 { 64 ≤ e }
-    requires fact_4 { e < 2 ^ 31 }
+    requires digits_low { 0 < wide hi lo }
+    requires nothing_cut { (wide hi lo < 2 ^ 64 → x ≡ 0) }
+    requires e_low { 64 ≤ e }
+    requires e_high { e < 2 ^ 31 }
     ensures { Rounds result neg (wide hi lo) x e }
 {
     apply_sign(neg, round_wide(hi, lo, x, e))
@@ -145,8 +145,8 @@ pub(crate) fn is_nonzero(hi: u64, lo: u64) -> bool
 
 // The float nearest to (hi * 2^64 + lo) * 2^e / 2^2404, with the sign.
 pub(crate) fn round_exact(neg: bool, hi: u64, lo: u64, e: u64) -> f64
-    requires fact_1 { 64 ≤ e }
-    requires fact_2 { e < 2 ^ 31 }
+    requires e_low { 64 ≤ e }
+    requires e_high { e < 2 ^ 31 }
     ensures { result ≡ round binary64 neg (wide hi lo * 2 ^ e) (2 ^ 2404) }
 {
     if is_nonzero(hi, lo) {
@@ -167,8 +167,8 @@ pub(crate) struct Parts {
 // The parts of a subnormal value: its digits are shifted up to their place in a normal one.
 fn subnormal_parts(neg: bool, t: u64) -> Parts
     requires { t < 2 ^ 52 }
-    ensures fact_1 { result.neg ≡ neg }
-    ensures fact_2 { SubnormalParts t result.m result.e }
+    ensures neg { result.neg ≡ neg }
+    ensures subnormal_parts { SubnormalParts t result.m result.e }
 {
     if t == 0 {
         Parts {
@@ -216,9 +216,9 @@ fn sign_bit(neg: bool) -> u64
 
 // ±(2^52 + t) * 2^f / 2^1075.
 pub(crate) fn float_of_fields(neg: bool, f: u64, t: u64) -> f64
-    requires fact_1 { 0 < f }
-    requires fact_2 { f < 2047 }
-    requires fact_3 { t < 2 ^ 52 }
+    requires f_low { 0 < f }
+    requires f_high { f < 2047 }
+    requires t_high { t < 2 ^ 52 }
     ensures { HasValue result neg ((2 ^ 52 + t) * 2 ^ (f + 1329)) (2 ^ 2404) }
 {
     f64::from_bits(sign_bit(neg) + (f << 52) + t)

@@ -4,7 +4,7 @@ ghost use Rattle.std.specs.Prelude.{◌≡◌};
 ghost use Rattle.std.specs.Float.Ieee.{neg};
 ghost use Rattle.elementary.specs.RuleSets.{rule_set_0};
 ghost use Rattle.elementary.specs.Ops.{◌⊗◌, half, one, mul_add};
-ghost use Rattle.prices.specs.Black.{bell as bellOf, small_t_of, series_terms, series_of, asymptotic_inner, asymptotic_of, using_erfcx_of, codys_of, is_outside_asymptotic_region, is_asymptotic, out_of_the_money, plus as plusOf, call_at, call_of, normalised_black_of, is_positive_normal, is_finite, price_from_normalised, price_of, black_at, black_of};
+ghost use Rattle.prices.specs.Black.{bell as bell_of, small_t_of, series_terms, series_of, asymptotic_inner, asymptotic_of, using_erfcx_of, codys_of, is_outside_asymptotic_region, is_asymptotic, out_of_the_money, plus as plus_of, call_at, call_of, normalised_black_of, is_positive_normal, is_finite, price_from_normalised, price_of, black_at, black_of};
 ghost use Rattle.prices.specs.Inside.Exponentials.{up_of, down_of, two_b_with};
 ghost use Rattle.prices.specs.Inside.Regions.{region_at};
 
@@ -30,7 +30,7 @@ pub(crate) const CODYS_THRESHOLD: f64 = 0.46875;
 
 // exp(−(h² + t²) / 2).
 pub(crate) fn bell(h: f64, t: f64) -> f64
-    ensures { result ≡ bellOf h t }
+    ensures { result ≡ bell_of h t }
 {
     exp(-0.5 * (h * h + t * t))
 }
@@ -39,7 +39,7 @@ pub(crate) fn bell(h: f64, t: f64) -> f64
 
 // Twice the price; each exponential is computed where it is read.
 fn two_b(set: RuleSet, x: f64, h: f64, t: f64, q1: f64, q2: f64) -> f64
-    ensures { result ≡ two_b_with set (up_of x) (down_of x) (bellOf h t) q1 q2 }
+    ensures { result ≡ two_b_with set (up_of x) (down_of x) (bell_of h t) q1 q2 }
 {
     if q1 < CODYS_THRESHOLD {
         let first = exp(0.5 * x) * erfc_under(set, q1);
@@ -208,7 +208,7 @@ fn out_of_the_money(set: RuleSet, x: f64, s: f64) -> Answer
 
 // The sum of an amount and a value; a refusal passes up.
 fn plus(amount: f64, price: Answer) -> Answer
-    ensures { result ≡ plusOf amount price }
+    ensures { result ≡ plus_of amount price }
 {
     match price {
         Answer::Value(b) => Answer::Value(amount + b),

@@ -1,6 +1,6 @@
 // The kind of an option.
 ghost use Rattle.std.specs.Prelude.{◌≡◌};
-ghost use Rattle.prices.specs.Inputs.{negated, times as timesOf};
+ghost use Rattle.prices.specs.Inputs.{negated, times as times_of};
 
 #[derive(Clone, Copy)]
 pub enum OptionType {
@@ -21,7 +21,7 @@ impl OptionType {
 
     // Call times y is 1 × y, Put times y is −1 × y.
     pub fn times(self, y: f64) -> f64
-        ensures { result ≡ timesOf self y }
+        ensures { result ≡ times_of self y }
     {
         match self {
             OptionType::Call => 1.0 * y,

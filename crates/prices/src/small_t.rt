@@ -9,7 +9,7 @@ ghost use Rattle.std.specs.Float.Ieee.Scale.{finite};
 ghost use Rattle.elementary.specs.Ops.{◌⊕◌, ◌⊘◌, bits, float, one, mul_add};
 ghost use Rattle.elementary.specs.Inside.Bounds.{Over};
 ghost use Rattle.elementary.specs.Inside.Errors.{InRange, product_error, Certain, CanSplit};
-ghost use Rattle.prices.specs.Black.{bell as bellOf, innermost as innermostOf, horner_step, term1 as term1Of, term2 as term2Of, term3 as term3Of, term4 as term4Of, term5 as term5Of, term6 as term6Of, taylor_of, small_t_inner};
+ghost use Rattle.prices.specs.Black.{bell as bell_of, innermost as innermost_of, horner_step, term1 as term1_of, term2 as term2_of, term3 as term3_of, term4 as term4_of, term5 as term5_of, term6 as term6_of, taylor_of, small_t_inner};
 ghost use Rattle.prices.specs.Inside.SmallT.{Within, Grows, InRanges, Filled};
 
 use crate::constants::{MINUS_FRAC_1_SQRT_2, ONE_OVER_SQRT_TWO_PI, SQRT_2PI};
@@ -36,8 +36,8 @@ fn range_doubt(x: f64) -> u64
 
 // What rounding takes off a × b.
 fn product_error(a: f64, b: f64) -> f64
-    requires fact_1 { T (finite a) }
-    requires fact_2 { T (finite b) }
+    requires a_finite { T (finite a) }
+    requires b_finite { T (finite b) }
     ensures { result ≡ product_error a b }
 {
     let x = f64::to_bits(a);
@@ -50,11 +50,11 @@ fn product_error(a: f64, b: f64) -> f64
 
 // s + w, certain where every number that rounds to w gives the same sum.
 fn certain_sum(s: f64, w: f64, doubt: u64) -> Fused
-    requires fact_1 { Within s 1000 }
-    requires fact_2 { Within w 1000 }
-    ensures fact_1 { result.value ≡ s ⊕ w }
-    ensures fact_2 { (result.doubt ≡ 0 → doubt ≡ 0) }
-    ensures fact_3 { (result.doubt ≡ 0 → Certain s w) }
+    requires s_within { Within s 1000 }
+    requires w_within { Within w 1000 }
+    ensures value { result.value ≡ s ⊕ w }
+    ensures no_earlier_doubt { (result.doubt ≡ 0 → doubt ≡ 0) }
+    ensures certain_unless_doubt { (result.doubt ≡ 0 → Certain s w) }
 {
     let outward = f64::from_bits(f64::to_bits(w) + 1);
     let inward = w + w - outward;
@@ -66,11 +66,11 @@ fn certain_sum(s: f64, w: f64, doubt: u64) -> Fused
 
 // a × b + c.
 fn fma_by_errors(a: f64, b: f64, c: f64) -> Fused
-    requires fact_1 { Within a 300 }
-    requires fact_2 { Within b 300 }
-    requires fact_3 { Within c 600 }
-    ensures fact_1 { (result.doubt ≡ 0 → result.value ≡ mul_add a b c) }
-    ensures fact_2 { Grows a b c result.value }
+    requires a_within { Within a 300 }
+    requires b_within { Within b 300 }
+    requires c_within { Within c 600 }
+    ensures value_unless_doubt { (result.doubt ≡ 0 → result.value ≡ mul_add a b c) }
+    ensures grows { Grows a b c result.value }
 {
     let p = a * b;
     let s = p + c;
@@ -81,8 +81,8 @@ fn fma_by_errors(a: f64, b: f64, c: f64) -> Fused
 
 // 1 where |x| < |y|.
 fn order_doubt(x: f64, y: f64) -> u64
-    requires fact_1 { T (finite x) }
-    requires fact_2 { T (finite y) }
+    requires x_finite { T (finite x) }
+    requires y_finite { T (finite y) }
     ensures { result ≡ 0 → lt (bits (to_bits binary64 x % 2 ^ 63)) (bits (to_bits binary64 y % 2 ^ 63)) ≡ false }
 {
     let p = f64::from_bits(f64::to_bits(x) % 0x8000_0000_0000_0000);
@@ -92,11 +92,11 @@ fn order_doubt(x: f64, y: f64) -> u64
 
 // a × b + c, for a c that is not above the product in size.
 fn fma_by_errors_ordered(a: f64, b: f64, c: f64) -> Fused
-    requires fact_1 { Within a 300 }
-    requires fact_2 { Within b 300 }
-    requires fact_3 { Within c 600 }
-    ensures fact_1 { (result.doubt ≡ 0 → result.value ≡ mul_add a b c) }
-    ensures fact_2 { Grows a b c result.value }
+    requires a_within { Within a 300 }
+    requires b_within { Within b 300 }
+    requires c_within { Within c 600 }
+    ensures value_unless_doubt { (result.doubt ≡ 0 → result.value ≡ mul_add a b c) }
+    ensures grows { Grows a b c result.value }
 {
     let p = a * b;
     let s = p + c;
@@ -112,8 +112,8 @@ fn fma_by_errors_ordered(a: f64, b: f64, c: f64) -> Fused
 // difference are exact, so that only the last sum rounds.
 fn coefficient(a: f64, p: u32, q: u32) -> f64
     requires { CanSplit a p q }
-    ensures fact_1 { result ≡ mul_add a (float p) (neg (float q)) }
-    ensures fact_2 { Within result 22 }
+    ensures value { result ≡ mul_add a (float p) (neg (float q)) }
+    ensures value_within { Within result 22 }
 {
     let b = f64::to_bits(a);
     let high = f64::from_bits(b - b % 0x8000_0000);
@@ -125,22 +125,22 @@ fn coefficient(a: f64, p: u32, q: u32) -> f64
 
 // The innermost bracket.
 fn innermost_by_errors(a: f64, h2: f64, c: u32) -> Fused
-    requires fact_1 { InRanges a h2 }
-    requires fact_2 { c < 2 ^ 19 }
-    ensures fact_1 { (result.doubt ≡ 0 → result.value ≡ innermostOf a h2 c) }
-    ensures fact_2 { Within result.value 46 }
+    requires in_ranges { InRanges a h2 }
+    requires c_high { c < 2 ^ 19 }
+    ensures value_unless_doubt { (result.doubt ≡ 0 → result.value ≡ innermost_of a h2 c) }
+    ensures value_within { Within result.value 46 }
 {
     fma_by_errors(a, h2 + c as f64, -1.0)
 }
 
 // One step further out.
 fn horner_step_by_errors(a: f64, h2: f64, sum: f64, p: u32, q: u32) -> Fused
-    requires fact_1 { InRanges a h2 }
-    requires fact_2 { Within sum 300 }
-    requires fact_3 { p < 2 ^ 19 }
-    requires fact_4 { q < 2 ^ 19 }
-    ensures fact_1 { (result.doubt ≡ 0 → result.value ≡ horner_step a h2 sum p q) }
-    ensures fact_2 { ((n : ℕ) → n ≤ 300 → Within sum n → Within result.value (n + 44)) }
+    requires in_ranges { InRanges a h2 }
+    requires sum_within { Within sum 300 }
+    requires p_high { p < 2 ^ 19 }
+    requires q_high { q < 2 ^ 19 }
+    ensures value_unless_doubt { (result.doubt ≡ 0 → result.value ≡ horner_step a h2 sum p q) }
+    ensures bound { ((n : ℕ) → n ≤ 300 → Within sum n → Within result.value (n + 44)) }
 {
     fma_by_errors(h2, sum, coefficient(a, p, q))
 }
@@ -184,8 +184,8 @@ fn innermost_sums(a: f64, h2: f64) -> Sums
 
 // The others.
 fn horner_sums(a: f64, h2: f64, from: Sums) -> Sums
-    requires fact_1 { InRanges a h2 }
-    requires fact_2 { Filled a h2 4 from.y from.doubt }
+    requires in_ranges { InRanges a h2 }
+    requires filled { Filled a h2 4 from.y from.doubt }
     ensures { Filled a h2 18 result.y result.doubt }
 {
     let p = P;
@@ -206,13 +206,13 @@ fn horner_sums(a: f64, h2: f64, from: Sums) -> Sums
 
 // One more term: y over a factorial, by a power of t².
 fn add_term(sum: Fused, y: f64, factorial: f64, power: f64) -> Fused
-    requires fact_1 { Within sum.value 600 }
-    requires fact_2 { Within y 300 }
-    requires fact_3 { Over factorial 0 }
-    requires fact_4 { Within power 0 }
-    ensures fact_1 { (result.doubt ≡ 0 → sum.doubt ≡ 0) }
-    ensures fact_2 { (result.doubt ≡ 0 → result.value ≡ mul_add (y ⊘ factorial) power sum.value) }
-    ensures fact_3 { ((n : ℕ) → 300 ≤ n → n ≤ 600 → Within sum.value n → Within result.value (n + 10)) }
+    requires sum_within { Within sum.value 600 }
+    requires y_within { Within y 300 }
+    requires factorial_over { Over factorial 0 }
+    requires power_within { Within power 0 }
+    ensures no_earlier_doubt { (result.doubt ≡ 0 → sum.doubt ≡ 0) }
+    ensures value_unless_doubt { (result.doubt ≡ 0 → result.value ≡ mul_add (y ⊘ factorial) power sum.value) }
+    ensures bound { ((n : ℕ) → 300 ≤ n → n ≤ 600 → Within sum.value n → Within result.value (n + 10)) }
 {
     let f = fma_by_errors_ordered(y / factorial, power, sum.value);
     Fused {
@@ -223,8 +223,8 @@ fn add_term(sum: Fused, y: f64, factorial: f64, power: f64) -> Fused
 
 // The terms by the powers of t², from the smallest.
 fn taylor_by_errors(a: f64, h2: f64, t2: f64) -> Fused
-    requires fact_1 { InRanges a h2 }
-    requires fact_2 { Within t2 0 }
+    requires in_ranges { InRanges a h2 }
+    requires t2_within { Within t2 0 }
     ensures { result.doubt ≡ 0 → result.value ≡ taylor_of a h2 t2 }
 {
     let s = horner_sums(a, h2, innermost_sums(a, h2));
@@ -269,26 +269,26 @@ fn horner_step(a: f64, h2: f64, sum: f64, p: u32, q: u32) -> f64
 }
 
 fn term1(a: f64, h2: f64) -> f64
-    ensures { result ≡ term1Of a h2 }
+    ensures { result ≡ term1_of a h2 }
 {
     innermost(a, h2, 3.0) / 6.0
 }
 
 fn term2(a: f64, h2: f64) -> f64
-    ensures { result ≡ term2Of a h2 }
+    ensures { result ≡ term2_of a h2 }
 {
     horner_step(a, h2, innermost(a, h2, 10.0), 15, 7) / 120.0
 }
 
 fn term3(a: f64, h2: f64) -> f64
-    ensures { result ≡ term3Of a h2 }
+    ensures { result ≡ term3_of a h2 }
 {
     let sum = horner_step(a, h2, innermost(a, h2, 21.0), 105, 18);
     horner_step(a, h2, sum, 105, 57) / 5040.0
 }
 
 fn term4(a: f64, h2: f64) -> f64
-    ensures { result ≡ term4Of a h2 }
+    ensures { result ≡ term4_of a h2 }
 {
     let sum = horner_step(a, h2, innermost(a, h2, 36.0), 378, 33);
     let sum = horner_step(a, h2, sum, 1260, 285);
@@ -296,7 +296,7 @@ fn term4(a: f64, h2: f64) -> f64
 }
 
 fn term5(a: f64, h2: f64) -> f64
-    ensures { result ≡ term5Of a h2 }
+    ensures { result ≡ term5_of a h2 }
 {
     let sum = horner_step(a, h2, innermost(a, h2, 55.0), 990, 52);
     let sum = horner_step(a, h2, sum, 6930, 840);
@@ -305,7 +305,7 @@ fn term5(a: f64, h2: f64) -> f64
 }
 
 fn term6(a: f64, h2: f64) -> f64
-    ensures { result ≡ term6Of a h2 }
+    ensures { result ≡ term6_of a h2 }
 {
     let sum = horner_step(a, h2, innermost(a, h2, 78.0), 2145, 75);
     let sum = horner_step(a, h2, sum, 25740, 1926);
@@ -335,8 +335,8 @@ fn taylor_by_mul_add(a: f64, h2: f64, t2: f64) -> f64
 // Whether the errors serve: a can be cut in two, and no step comes near an infinity. A NaN's bits are
 // above all.
 fn in_ranges(a: f64, h2: f64, t2: f64) -> bool
-    ensures fact_1 { (result ≡ true → InRanges a h2) }
-    ensures fact_2 { (result ≡ true → Within t2 0) }
+    ensures in_ranges_if_true { (result ≡ true → InRanges a h2) }
+    ensures within_if_true { (result ≡ true → Within t2 0) }
 {
     let b = bits_of(a);
     (b >= 0x3f30_0000_0000_0000)
@@ -359,7 +359,7 @@ fn taylor(a: f64, h2: f64, t2: f64) -> f64
 
 // The price, with the bell of h and t.
 pub(crate) fn small_t(h: f64, t: f64, exp_term: f64) -> f64
-    requires { exp_term ≡ bellOf h t }
+    requires { exp_term ≡ bell_of h t }
     ensures { result ≡ small_t_inner h t }
 {
     let t2 = t * t;

@@ -3,7 +3,7 @@ ghost use Rattle.std.specs.Prelude.{◌≡◌, ◌++◌, ◌+◌, ◌*◌, ◌�
 ghost use Rattle.elementary.specs.RuleSets.{rule_set_0};
 ghost use Rattle.solver.specs.Solve.{solve_of, quote_of, steps_of};
 ghost use Rattle.solver.specs.LittleEndian.{part};
-ghost use Rattle.solver.specs.Book.{kind_byte, limit_bits, book_record_bytes, steps_from, kind_of, quote_in, all_zero, in_layout, record_exists, solve_record, agrees as agreesOf, checking_of, read_of, recheck_of, file_answer, file_of};
+ghost use Rattle.solver.specs.Book.{kind_byte, limit_bits, book_record_bytes, steps_from, kind_of, quote_in, all_zero, in_layout, record_exists, solve_record, agrees as agrees_of, checking_of, read_of, recheck_of, file_answer, file_of};
 
 use crate::answers::{Checking, Filing, ImpliedVolatility, Solution};
 use crate::little_endian::{float_at, number_at, put_float, put_number_at};
@@ -143,7 +143,7 @@ pub(crate) fn solve_record(set: RuleSet, r: &[u8]) -> Solution
 // Whether bytes 32 to 39, 44 to 47, 49 and 50 are this answer's.
 fn agrees(r: &[u8], a: ImpliedVolatility) -> bool
     requires { 64 ≤ length r.now }
-    ensures { result ≡ agreesOf r.now a }
+    ensures { result ≡ agrees_of r.now a }
 {
     let steps = a.steps as u64;
     if number_at(r, 32, 8) != bits_of(a.volatility) {

@@ -146,8 +146,8 @@ fn run(
     trail: &mut [u8],
     keep: bool,
 ) -> Solution
-    requires fact_1 { HasExponentials m }
-    requires fact_2 { (keep ≡ true → 48 * limit ≤ length trail.old) }
+    requires has_exponentials { HasExponentials m }
+    requires room { (keep ≡ true → 48 * limit ≤ length trail.old) }
     ensures value { result ≡ (result_of_run branch root (run_of (next_by (branch_step set branch m.b_max m.x m.beta)) limit start)).answer }
     ensures trail_after { trail.new ≡ trail_if_kept keep (run_of (next_by (branch_step set branch m.b_max m.x m.beta)) limit start).records trail.old }
 {

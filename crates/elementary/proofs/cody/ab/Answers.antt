@@ -1,0 +1,7 @@
+-- `cody::ab` meets its contract: the same operations in the same order. Assumes nothing.
+use mathlib.Core.Path.{refl}
+use borrow.Author.Rules.{rules}
+use Rattle.elementary.proofs.cody.ab.Goals as goal
+
+pub returns : goal.returns
+returns c = refl

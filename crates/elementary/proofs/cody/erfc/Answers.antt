@@ -1,0 +1,6 @@
+-- `cody::erfc` meets its contract: the code's rule set 0 is the definition's. Assumes nothing.
+use borrow.Author.Rules.{rules}
+use Rattle.elementary.proofs.cody.erfc.Goals as goal
+
+pub returns : goal.returns
+returns c = c.erfc_under.ensures
