@@ -1,0 +1,6 @@
+-- `black::normalised_black_call_under` meets its contract: it is mapped once at most. Assumes nothing.
+use borrow.Author.Rules.{rules}
+use Rattle.prices.proofs.black.normalised_black_call_under.Goals as goal
+
+pub returns : goal.returns
+returns c = c.call_at.ensures

@@ -1,0 +1,18 @@
+-- `black::series_terms` meets its contract: before term i, the terms from 3 on are those from i on with the present sum, sign and term. Assumes nothing.
+use mathlib.Core.Path.{◌≡◌, refl, sym}
+use Prim.Native.Nat.{ℕ, suc, ◌+◌, ◌-◌, ◌^◌, ◌≤◌, ◌<◌}
+use native.Mathlib.Numerals.{add-one}
+use native.Mathlib.Omega.{arith}
+use borrow.Author.Rules.{rules}
+use lib.Dec.{T, le→leb}
+use lib.IntN.{pos}
+use lib.Ieee.{Float, binary64, neg, of_bits, of_int, in_float}
+use Rattle.elementary.specs.Ops.{◌⊕◌, ◌⊗◌, ◌⊘◌, float, one, two}
+use Rattle.prices.specs.Black.{series_terms}
+use Rattle.prices.proofs.black.series_terms.Given as goal
+
+abbrev pub invariant-loop-i : goal.invariant-loop-i
+invariant-loop-i l = TermsLeft l.z2 l.start l.first l.y l.sign l.term l.i
+
+abbrev pub decreases-loop-i : goal.decreases-loop-i
+decreases-loop-i l = 18 - l.i

@@ -1,0 +1,9 @@
+-- `intrinsic::near` meets its contract. Assumes nothing.
+use mathlib.Core.Path.{◌∙◌}
+use lib.Ieee.{of_bits, of_int}
+use borrow.Author.Rules.{rules}
+use Rattle.prices.proofs.intrinsic.near.Goals as goal
+
+pub returns : goal.returns
+unfolding of_bits of_int
+returns c = c.max.ensures ∙ rw c.times.ensures

@@ -1,0 +1,22 @@
+-- `small_t::coefficient` meets its contract: all but the last sum is exact (Whole). Assumes nothing.
+use mathlib.Core.Path.{sym, subst}
+use lib.Dec.{T}
+use lib.Ieee.{binary64, fits}
+use borrow.Author.Rules.{rules}
+use Rattle.elementary.proofs.Laws.Errors.Whole.{high_number, split_is}
+use Rattle.prices.proofs.Laws.Sizes.{split_within}
+use Rattle.prices.proofs.small_t.coefficient.Goals as goal
+
+fits_a : (c : goal.Start) → T (fits binary64 c.args.a)
+fits_a c = subst T (sym c.well_formed.0.1) tt
+
+pub float_to_bits-b : goal.float_to_bits-b
+float_to_bits-b c = c.requires.number
+
+pub float_from_bits-high : goal.float_from_bits-high
+float_from_bits-high c = high_number c.args.a (fits_a c) c.args.p c.args.q c.requires
+
+pub returns : goal.returns
+returns c =
+    let s = c.before.before in
+    (split_is s.args.a (fits_a s) s.args.p s.args.q s.requires, split_within s.args.a (fits_a s) s.args.p s.args.q s.requires)

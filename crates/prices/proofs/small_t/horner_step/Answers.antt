@@ -1,0 +1,7 @@
+-- `small_t::horner_step` meets its contract. Assumes nothing.
+use mathlib.Core.Path.{◌∙◌}
+use borrow.Author.Rules.{rules}
+use Rattle.prices.proofs.small_t.horner_step.Goals as goal
+
+pub returns : goal.returns
+returns c = c.mul_add-2.ensures ∙ rw c.mul_add.ensures
