@@ -10,14 +10,10 @@ use lib.Ieee.{Float, binary64, neg, of_bits, of_int, in_float}
 use Rattle.elementary.specs.Ops.{◌⊕◌, ◌⊗◌, ◌⊘◌, float, one, two}
 use Rattle.prices.specs.Black.{series_terms}
 use Rattle.prices.proofs.black.series_terms.Goals as goal
+use Rattle.prices.proofs.black.series_terms.Invariants.{TermsLeft}
 
 abbrev factor : ℕ → Float
 factor i = (two ⊗ float i ⊕ two) ⊗ (two ⊗ float i ⊕ of_bits binary64 0x4008_0000_0000_0000)
-
--- what is left before term i
-record TermsLeft (z2 start first y sign term : Float) (i : ℕ) : Type 0 where
-  bound : i ≤ 18
-  rest : series_terms 15 3 z2 start (neg one) first ≡ series_terms (18 - i) i z2 y sign term
 
 one_term : (z2 start first y sign term : Float) (i : ℕ) → i ≤ 17 → TermsLeft z2 start first y sign term i
     → TermsLeft z2 start first (y ⊕ sign ⊗ term) (neg sign) (term ⊗ (z2 ⊘ factor i)) (i + 1)

@@ -11,6 +11,11 @@ use Rattle.elementary.specs.Ops.{◌⊕◌, ◌⊗◌, ◌⊘◌, float, one, tw
 use Rattle.prices.specs.Black.{series_terms}
 use Rattle.prices.proofs.black.series_terms.Given as goal
 
+-- what is left before term i
+pub record TermsLeft (z2 start first y sign term : Float) (i : ℕ) : Type 0 where
+  pub bound : i ≤ 18
+  pub rest : series_terms 15 3 z2 start (neg one) first ≡ series_terms (18 - i) i z2 y sign term
+
 abbrev pub invariant-loop-i : goal.invariant-loop-i
 invariant-loop-i l = TermsLeft l.z2 l.start l.first l.y l.sign l.term l.i
 

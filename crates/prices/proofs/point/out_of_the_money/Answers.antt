@@ -11,13 +11,11 @@ vega_with-vega-requires c = c.bell-exp_term.ensures
 
 pub returns-in-Intrinsic : goal.returns-in-Intrinsic
 returns-in-Intrinsic c =
-    let d = c.before.before.before in
-    rw (← in_region_with _ _ _ _ _ d.region_of.ensures c.enum_told-1.given.1 _ _, c.normalised_intrinsic.ensures, d.vega_with-vega.ensures)
+    rw (← in_region_with _ _ _ _ _ c.region_of.ensures c.in-Intrinsic.is _ _, c.normalised_intrinsic.ensures, c.vega_with-vega.ensures)
 
 pub returns-in-Asymptotic : goal.returns-in-Asymptotic
 returns-in-Asymptotic c =
-    let d = c.before.before.before in
-    rw (← in_region_with _ _ _ _ _ d.region_of.ensures c.enum_told-in-Asymptotic-1.given.1 _ _, c.in_asymptotic_region.ensures, d.vega_with-vega.ensures)
+    rw (← in_region_with _ _ _ _ _ c.region_of.ensures c.in-Asymptotic.is _ _, c.in_asymptotic_region.ensures, c.vega_with-vega.ensures)
 
 pub small_t-requires : goal.small_t-requires
 small_t-requires c = c.bell-exp_term.ensures
@@ -25,11 +23,9 @@ small_t-requires c = c.bell-exp_term.ensures
 pub returns-in-SmallT : goal.returns-in-SmallT
 unfolding small_t_of
 returns-in-SmallT c =
-    let d = c.before.before.before in
-    rw (← in_region_with _ _ _ _ _ d.region_of.ensures c.enum_told-in-SmallT-1.given.1 _ _, c.small_t.ensures, d.vega_with-vega.ensures, not_le_of_lt _ SMALL_T (small_t_region _ _ _ d.region_of.ensures c.enum_told-in-SmallT-1.given.1))
+    rw (← in_region_with _ _ _ _ _ c.region_of.ensures c.in-SmallT.is _ _, c.small_t.ensures, c.vega_with-vega.ensures, not_le_of_lt _ SMALL_T (small_t_region _ _ _ c.region_of.ensures c.in-SmallT.is))
 
 pub returns-in-Codys : goal.returns-in-Codys
 unfolding codys_with
 returns-in-Codys c =
-    let d = c.before.before.before in
-    rw (← in_region_with _ _ _ _ _ d.region_of.ensures c.enum_told-in-Codys-1.given.1 _ _, c.codys_price.ensures, d.bell-exp_term.ensures, d.vega_with-vega.ensures)
+    rw (← in_region_with _ _ _ _ _ c.region_of.ensures c.in-Codys.is _ _, c.codys_price.ensures, c.bell-exp_term.ensures, c.vega_with-vega.ensures)

@@ -1,9 +1,0 @@
--- `black::price_from_normalised` meets its contract: the variant met says which case it is. Assumes nothing.
-use borrow.Author.Rules.{rules}
-use Rattle.prices.proofs.black.price_from_normalised.Goals as goal
-
-pub returns-in-Value : goal.returns-in-Value
-returns-in-Value c = rw (c.max.ensures, c.price-1.given.1)
-
-pub returns-in-Refused : goal.returns-in-Refused
-returns-in-Refused c = rw c.price-in-Refused-1.given.1

@@ -1,9 +1,0 @@
--- `point::price_and_vega_from` meets its contract: the variant met says which case it is. Assumes nothing.
-use borrow.Author.Rules.{rules}
-use Rattle.prices.proofs.point.price_and_vega_from.Goals as goal
-
-pub returns-in-Value : goal.returns-in-Value
-returns-in-Value c = rw c.answer-1.given.1
-
-pub returns-in-Refused : goal.returns-in-Refused
-returns-in-Refused c = rw c.answer-in-Refused-1.given.1
