@@ -33,4 +33,10 @@ pub float_to_bits-result-2 : goal.float_to_bits-result-2
 float_to_bits-result-2 c = is_number (outward_sum (fits_w c) c.requires.s_within c.requires.w_within)
 
 pub returns : goal.returns
-returns c = let d = c.args in (refl, ((λ z. or_right (differ d.s d.w) d.doubt z), (λ z. xor_same (to_bits binary64 (d.s ⊕ inward d.w)) (to_bits binary64 (d.s ⊕ outward d.w)) (or_left (differ d.s d.w) d.doubt z))))
+returns c =
+    let d = c.args in
+    record {
+      value = refl;
+      no_earlier_doubt = λ z. or_right (differ d.s d.w) d.doubt z;
+      certain_unless_doubt = λ z. xor_same (to_bits binary64 (d.s ⊕ inward d.w)) (to_bits binary64 (d.s ⊕ outward d.w)) (or_left (differ d.s d.w) d.doubt z);
+    }

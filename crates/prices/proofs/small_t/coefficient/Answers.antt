@@ -18,5 +18,6 @@ float_from_bits-high c = high_number c.args.a (fits_a c) c.args.p c.args.q c.req
 
 pub returns : goal.returns
 returns c =
-    let s = c.before.before in
-    (split_is s.args.a (fits_a s) s.args.p s.args.q s.requires, split_within s.args.a (fits_a s) s.args.p s.args.q s.requires)
+    let s = c.args in
+    let f = fits_a c.before.before in
+    record { value = split_is s.a f s.p s.q c.requires; value_within = split_within s.a f s.p s.q c.requires }

@@ -14,13 +14,13 @@ module _ (d : goal.Start) where
   first = subst T (sym d.well_formed.0.1) tt
 
   second : T (fits binary64 d.args.b)
-  second = subst T (sym d.good.1.0.1) tt
+  second = subst T (sym d.well_formed.1.0.1) tt
 
   third : T (fits binary64 d.args.c)
-  third = subst T (sym d.good.1.1.0.1) tt
+  third = subst T (sym d.well_formed.1.1.0.1) tt
 
   addend : to_bits binary64 d.args.c % 2 ^ 63 < 0x7e00_0000_0000_0000
-  addend = omega (arith, pattern d.args.c third d.pre.1.1)
+  addend = omega (arith, pattern d.args.c third d.requires.c_within)
 
 pub product_error-requires-clause-a_finite : goal.product_error-requires-clause-a_finite
 product_error-requires-clause-a_finite c = is_finite c.requires.a_within
@@ -36,10 +36,11 @@ range_doubt-requires-2 c = is_finite c.requires.b_within
 
 pub certain_sum-requires : goal.certain_sum-requires
 certain_sum-requires c =
-    let d = c.before.before.before in (
-      looser 1000 (lit≤ tt) (total_within (first d) (second d) (lit≤ tt) (lit≤ tt) d.requires.a_within d.requires.b_within d.requires.c_within),
-      rw c.product_error.ensures (looser 1000 (lit≤ tt) (error_within (first d) (second d) (lit≤ tt) (lit≤ tt) d.requires.a_within d.requires.b_within d.requires.c_within)),
-    )
+    let d = c.before.before.before in
+    record {
+      s_within = looser 1000 (lit≤ tt) (total_within (first d) (second d) (lit≤ tt) (lit≤ tt) d.requires.a_within d.requires.b_within d.requires.c_within);
+      w_within = rw c.product_error.ensures (looser 1000 (lit≤ tt) (error_within (first d) (second d) (lit≤ tt) (lit≤ tt) d.requires.a_within d.requires.b_within d.requires.c_within));
+    }
 
 pub returns : goal.returns
 returns c =
@@ -47,11 +48,12 @@ returns c =
     let e = c.product_error.ensures in
     let x = c.range_doubt.result in
     let y = c.range_doubt-2.result in
-    let sum = c.certain_sum.ensures in (
-      (λ z.
+    let sum = c.certain_sum.ensures in
+    record {
+      value_unless_doubt = λ z.
           sum.value
           ∙ rw e
           (fused_is d.args.a d.args.b d.args.c (first d) (second d) (third d) (c.range_doubt.ensures (or_left x y (sum.no_earlier_doubt z))) (c.range_doubt-2.ensures (or_right x y (sum.no_earlier_doubt z))) (addend d)
-          (rw e at (sum.certain_unless_doubt z)))),
-      (λ i j n l t A B C. rw (sum.value, e) (grown (first d) (second d) l t A B C (error_within (first d) (second d) l t A B C))),
-    )
+          (rw e at (sum.certain_unless_doubt z)));
+      grows = λ i j n l t A B C. rw (sum.value, e) (grown (first d) (second d) l t A B C (error_within (first d) (second d) l t A B C));
+    }

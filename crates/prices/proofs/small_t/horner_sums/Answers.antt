@@ -8,22 +8,6 @@ use Rattle.prices.proofs.Laws.Sizes.{looser}
 use Rattle.prices.proofs.small_t.Filling.{p_small, q_small, fill_step}
 use Rattle.prices.proofs.small_t.horner_sums.Goals as goal
 
--- LOST overflow_mul_horner_step_by_errors
--- mul-horner-step-by-errors : tie.Need-overflow-mul-horner-step-by-errors invariant-loop decreases-loop
--- mul-horner-step-by-errors c = search rules
-
--- LOST overflow_mul_horner_step_by_errors_2
--- mul-horner-step-by-errors-2 : tie.Need-overflow-mul-horner-step-by-errors-2 invariant-loop decreases-loop
--- mul-horner-step-by-errors-2 c = search rules
-
--- LOST overflow_mul_horner_step_by_errors_3
--- mul-horner-step-by-errors-3 : tie.Need-overflow-mul-horner-step-by-errors-3 invariant-loop decreases-loop
--- mul-horner-step-by-errors-3 c = search rules
-
--- LOST overflow_mul_y
--- mul-y : tie.Need-overflow-mul-y invariant-loop decreases-loop
--- mul-y c = search rules
-
 pub loop-k-init : goal.loop-k-init
 loop-k-init c = (omega arith, c.requires.filled)
 
@@ -31,7 +15,7 @@ pub horner_step_by_errors-f-requires : goal.horner_step_by_errors-f-requires
 horner_step_by_errors-f-requires c =
     let l = c.loop-k in
     let t = c.loop-k-test.true in
-    (c.requires.in_ranges, (looser 300 (omega arith) (l.invariant.1.size l.k (omega arith)), (p_small l.k, q_small l.k)))
+    record { in_ranges = c.requires.in_ranges; sum_within = looser 300 (omega arith) (l.invariant.1.size l.k (omega arith)); p_high = p_small l.k; q_high = q_small l.k }
 
 pub loop-k-preserved : goal.loop-k-preserved
 loop-k-preserved c =

@@ -41,10 +41,10 @@ module _ (a h2 t2 : Float) (F : T (fits binary64 h2)) (G : T (fits binary64 t2))
 
 pub returns : goal.returns
 returns c =
-    let d = c.before.before.before in
-    let F = subst T (sym d.well_formed.1.0.1) tt in
-    let G = subst T (sym d.well_formed.1.1.0.1) tt in
+    let d = c.args in
+    let F = subst T (sym c.well_formed.1.0.1) tt in
+    let G = subst T (sym c.well_formed.1.1.0.1) tt in
     let p = c.bits_of-b.ensures in
     let q = c.bits_of.ensures in
     let r = c.bits_of-2.ensures in
-    ((λ e. ranges d.args.a d.args.h2 d.args.t2 F G _ _ _ p q r e), (λ e. power d.args.a d.args.h2 d.args.t2 F G _ _ _ p q r e))
+    record { in_ranges_if_true = λ e. ranges d.a d.h2 d.t2 F G _ _ _ p q r e; within_if_true = λ e. power d.a d.h2 d.t2 F G _ _ _ p q r e }

@@ -7,14 +7,6 @@ use Rattle.prices.specs.Inside.SmallT.{Filled}
 use Rattle.prices.proofs.small_t.Filling.{addend_small, fill_innermost}
 use Rattle.prices.proofs.small_t.innermost_sums.Goals as goal
 
--- LOST overflow_mul_innermost_by_errors
--- mul-innermost-by-errors : tie.Need-overflow-mul-innermost-by-errors invariant-loop decreases-loop
--- mul-innermost-by-errors c = search rules
-
--- LOST overflow_mul_y
--- mul-y : tie.Need-overflow-mul-y invariant-loop decreases-loop
--- mul-y c = search rules
-
 pub loop-k-init : goal.loop-k-init
 loop-k-init c = (omega arith, record { long = refl; right = λ z j p. absurd (omega arith); size = λ j p. absurd (omega arith) })
 

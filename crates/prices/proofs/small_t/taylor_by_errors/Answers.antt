@@ -41,57 +41,99 @@ power : {x y : Float} → Within x 0 → Within y 0 → Within (x ⊗ y) 0
 power h k = times 0 (lit≤ tt) (lit< tt) h k
 
 -- ---- the sizes
-first_of_six : (c : goal.After-horner_step_by_errors-y6) → Within c.horner_step_by_errors-y6.result.value 266
-first_of_six c = c.horner_step_by_errors-y6.ensures.bound 222 (lit≤ tt) (c.horner_sums-s.ensures.size 16 (lit< tt))
-
-size1 : (c : goal.After-add_term-sum) → Within c.add_term-sum.result.value 310
-size1 c =
-    let t2 = c.requires.t2_within in
-    let t6 = power (power t2 t2) t2 in
-    c.add_term-sum.ensures.bound 300 (lit≤ tt) (lit≤ tt) (times 300 (lit≤ tt) (lit< tt) (over (lit< tt) (first_of_six c.before.before.before.before.before.before.before) (one_or_more 0x41f7_328c_c000_0000 (lit≤ tt) (lit< tt))) (power t6 t6))
-
-size2 : (c : goal.After-add_term-sum-2) → Within c.add_term-sum-2.result.value 320
-size2 c = c.add_term-sum-2.ensures.bound 310 (lit≤ tt) (lit≤ tt) (size1 c.before.before)
-
-size3 : (c : goal.After-add_term-sum-3) → Within c.add_term-sum-3.result.value 330
-size3 c = c.add_term-sum-3.ensures.bound 320 (lit≤ tt) (lit≤ tt) (size2 c.before.before)
-
-size4 : (c : goal.After-add_term-sum-4) → Within c.add_term-sum-4.result.value 340
-size4 c = c.add_term-sum-4.ensures.bound 330 (lit≤ tt) (lit≤ tt) (size3 c.before)
+-- the first term of the sum, by the innermost bracket of term 6
+first_term : (y t2 : Float) → Within y 266 → Within t2 0 → Within (y ⊘ bits 0x41f7_328c_c000_0000 ⊗ (t2 ⊗ t2 ⊗ t2 ⊗ (t2 ⊗ t2 ⊗ t2))) 300
+first_term y t2 h t =
+    let t6 = power (power t t) t in
+    times 300 (lit≤ tt) (lit< tt) (over (lit< tt) h (one_or_more 0x41f7_328c_c000_0000 (lit≤ tt) (lit< tt))) (power t6 t6)
 
 pub horner_step_by_errors-y2-requires : goal.horner_step_by_errors-y2-requires
-horner_step_by_errors-y2-requires c = (c.requires.in_ranges, (looser 300 (lit≤ tt) c.innermost_by_errors-bracket.ensures.value_within, (lit< tt, lit< tt)))
+horner_step_by_errors-y2-requires c =
+    record {
+      in_ranges = c.requires.in_ranges;
+      sum_within = looser 300 (lit≤ tt) c.innermost_by_errors-bracket.ensures.value_within;
+      p_high = lit< tt;
+      q_high = lit< tt;
+    }
 
 pub horner_step_by_errors-y6-requires : goal.horner_step_by_errors-y6-requires
-horner_step_by_errors-y6-requires c = (c.requires.in_ranges, (looser 300 (lit≤ tt) (c.horner_sums-s.ensures.size 16 (lit< tt)), (lit< tt, lit< tt)))
+horner_step_by_errors-y6-requires c =
+    record {
+      in_ranges = c.requires.in_ranges;
+      sum_within = looser 300 (lit≤ tt) (c.horner_sums-s.ensures.size 16 (lit< tt));
+      p_high = lit< tt;
+      q_high = lit< tt;
+    }
 
 pub add_term-sum-requires : goal.add_term-sum-requires
 add_term-sum-requires c =
     let t2 = c.requires.t2_within in
-    let t4 = power t2 t2 in
-    let t6 = power t4 t2 in (
-      times 600 (lit≤ tt) (lit< tt) (over (lit< tt) (first_of_six c.before.before.before.before.before.before) (one_or_more 0x41f7_328c_c000_0000 (lit≤ tt) (lit< tt))) (power t6 t6),
-      (looser 300 (lit≤ tt) (c.horner_sums-s.ensures.size 17 (lit< tt)), ((one_or_more 0x4183_08a8_0000_0000 (lit≤ tt) (lit< tt)), power t6 t4)),
-    )
+    let y6 = c.horner_step_by_errors-y6 in
+    let size = first_term y6.result.value c.args.t2 (y6.ensures.bound 222 (lit≤ tt) (c.horner_sums-s.ensures.size 16 (lit< tt))) t2 in
+    record {
+      sum_within = looser 600 (lit≤ tt) size;
+      y_within = looser 300 (lit≤ tt) (c.horner_sums-s.ensures.size 17 (lit< tt));
+      factorial_over = one_or_more 0x4183_08a8_0000_0000 (lit≤ tt) (lit< tt);
+      power_within = power (power (power t2 t2) t2) (power t2 t2);
+    }
 
 pub add_term-sum-requires-2 : goal.add_term-sum-requires-2
 add_term-sum-requires-2 c =
     let t2 = c.requires.t2_within in
-    (looser 600 (lit≤ tt) (size1 c.before), (looser 300 (lit≤ tt) (c.horner_sums-s.ensures.size 14 (lit< tt)), ((one_or_more 0x4116_2600_0000_0000 (lit≤ tt) (lit< tt)), power (power t2 t2) (power t2 t2))))
+    let y6 = c.horner_step_by_errors-y6 in
+    let size = first_term y6.result.value c.args.t2 (y6.ensures.bound 222 (lit≤ tt) (c.horner_sums-s.ensures.size 16 (lit< tt))) t2 in
+    let size1 = c.add_term-sum.ensures.bound 300 (lit≤ tt) (lit≤ tt) size in
+    record {
+      sum_within = looser 600 (lit≤ tt) size1;
+      y_within = looser 300 (lit≤ tt) (c.horner_sums-s.ensures.size 14 (lit< tt));
+      factorial_over = one_or_more 0x4116_2600_0000_0000 (lit≤ tt) (lit< tt);
+      power_within = power (power t2 t2) (power t2 t2);
+    }
 
 pub add_term-sum-requires-3 : goal.add_term-sum-requires-3
 add_term-sum-requires-3 c =
     let t2 = c.requires.t2_within in
-    (looser 600 (lit≤ tt) (size2 c.before), (looser 300 (lit≤ tt) (c.horner_sums-s.ensures.size 11 (lit< tt)), ((one_or_more 0x40b3_b000_0000_0000 (lit≤ tt) (lit< tt)), power (power t2 t2) t2)))
+    let y6 = c.horner_step_by_errors-y6 in
+    let size = first_term y6.result.value c.args.t2 (y6.ensures.bound 222 (lit≤ tt) (c.horner_sums-s.ensures.size 16 (lit< tt))) t2 in
+    let size1 = c.add_term-sum.ensures.bound 300 (lit≤ tt) (lit≤ tt) size in
+    let size2 = c.add_term-sum-2.ensures.bound 310 (lit≤ tt) (lit≤ tt) size1 in
+    record {
+      sum_within = looser 600 (lit≤ tt) size2;
+      y_within = looser 300 (lit≤ tt) (c.horner_sums-s.ensures.size 11 (lit< tt));
+      factorial_over = one_or_more 0x40b3_b000_0000_0000 (lit≤ tt) (lit< tt);
+      power_within = power (power t2 t2) t2;
+    }
 
 pub add_term-sum-requires-4 : goal.add_term-sum-requires-4
 add_term-sum-requires-4 c =
     let t2 = c.requires.t2_within in
-    let y = c.before.before.before.before.before.before.before.before.before.before.before.before.before in
-    (looser 600 (lit≤ tt) (size3 c), (looser 300 (lit≤ tt) (y.horner_step_by_errors-y2.ensures.bound 46 (lit≤ tt) y.innermost_by_errors-bracket.ensures.value_within), ((one_or_more 0x405e_0000_0000_0000 (lit≤ tt) (lit< tt)), power t2 t2)))
+    let y6 = c.horner_step_by_errors-y6 in
+    let size = first_term y6.result.value c.args.t2 (y6.ensures.bound 222 (lit≤ tt) (c.horner_sums-s.ensures.size 16 (lit< tt))) t2 in
+    let size1 = c.add_term-sum.ensures.bound 300 (lit≤ tt) (lit≤ tt) size in
+    let size2 = c.add_term-sum-2.ensures.bound 310 (lit≤ tt) (lit≤ tt) size1 in
+    let size3 = c.add_term-sum-3.ensures.bound 320 (lit≤ tt) (lit≤ tt) size2 in
+    record {
+      sum_within = looser 600 (lit≤ tt) size3;
+      y_within = looser 300 (lit≤ tt) (c.horner_step_by_errors-y2.ensures.bound 46 (lit≤ tt) c.innermost_by_errors-bracket.ensures.value_within);
+      factorial_over = one_or_more 0x405e_0000_0000_0000 (lit≤ tt) (lit< tt);
+      power_within = power t2 t2;
+    }
 
 pub add_term-sum-requires-5 : goal.add_term-sum-requires-5
-add_term-sum-requires-5 c = (looser 600 (lit≤ tt) (size4 c), (looser 300 (lit≤ tt) c.innermost_by_errors-y1.ensures.value_within, ((one_or_more 0x4018_0000_0000_0000 (lit≤ tt) (lit< tt)), c.requires.t2_within)))
+add_term-sum-requires-5 c =
+    let t2 = c.requires.t2_within in
+    let y6 = c.horner_step_by_errors-y6 in
+    let size = first_term y6.result.value c.args.t2 (y6.ensures.bound 222 (lit≤ tt) (c.horner_sums-s.ensures.size 16 (lit< tt))) t2 in
+    let size1 = c.add_term-sum.ensures.bound 300 (lit≤ tt) (lit≤ tt) size in
+    let size2 = c.add_term-sum-2.ensures.bound 310 (lit≤ tt) (lit≤ tt) size1 in
+    let size3 = c.add_term-sum-3.ensures.bound 320 (lit≤ tt) (lit≤ tt) size2 in
+    let size4 = c.add_term-sum-4.ensures.bound 330 (lit≤ tt) (lit≤ tt) size3 in
+    record {
+      sum_within = looser 600 (lit≤ tt) size4;
+      y_within = looser 300 (lit≤ tt) c.innermost_by_errors-y1.ensures.value_within;
+      factorial_over = one_or_more 0x4018_0000_0000_0000 (lit≤ tt) (lit< tt);
+      power_within = t2;
+    }
 
 -- ---- the values, where no step is in doubt
 pub returns : goal.returns
@@ -116,4 +158,4 @@ returns c z =
     let zs = or_five sums.result.doubt y1.result.doubt bracket.result.doubt y2.result.doubt y6.result.doubt (f1.no_earlier_doubt z1) in
     let right = sums.ensures.right zs.0 in
     sym (fma_one _ _)
-    ∙ rw (f5.value_unless_doubt z, f4.value_unless_doubt z4, f3.value_unless_doubt z3, f2.value_unless_doubt z2, f1.value_unless_doubt z1, term1_is a h2 y1.result.value (y1.ensures.0 zs.1), term2_is a h2 y2.result.value (y2.ensures.0 zs.3 ∙ rw (bracket.ensures.0 zs.2)), term3_is a h2 (at sums.result.y 11) (right 11 (lit< tt)), term4_is a h2 (at sums.result.y 14) (right 14 (lit< tt)), term5_is a h2 (at sums.result.y 17) (right 17 (lit< tt)), term6_is a h2 y6.result.value (y6.ensures.0 zs.4 ∙ rw (right 16 (lit< tt))))
+    ∙ rw (f5.value_unless_doubt z, f4.value_unless_doubt z4, f3.value_unless_doubt z3, f2.value_unless_doubt z2, f1.value_unless_doubt z1, term1_is a h2 y1.result.value (y1.ensures.value_unless_doubt zs.1), term2_is a h2 y2.result.value (y2.ensures.value_unless_doubt zs.3 ∙ rw (bracket.ensures.value_unless_doubt zs.2)), term3_is a h2 (at sums.result.y 11) (right 11 (lit< tt)), term4_is a h2 (at sums.result.y 14) (right 14 (lit< tt)), term5_is a h2 (at sums.result.y 17) (right 17 (lit< tt)), term6_is a h2 y6.result.value (y6.ensures.value_unless_doubt zs.4 ∙ rw (right 16 (lit< tt))))
