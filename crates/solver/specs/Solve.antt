@@ -61,9 +61,9 @@ price_number price = cond (is_finite price) 0 1
 unfoldable pub market_number : Float → Float → Float → ℕ
 market_number forward strike expiry = cond (is_positive_normal forward) (cond (is_positive_normal strike) (cond (is_positive_normal expiry) 0 4) 3) 2
 
--- 1, 2, 3, 4 in this order
+-- 1, 2, 3, 4 in this order, or 0 where none is met
 unfoldable pub input_number : Quote → ℕ
-input_number q = first_number (price_number q.price ∷ market_number q.forward q.strike q.expiry ∷ [])
+input_number q = cond (is_finite q.price) (cond (is_positive_normal q.forward) (cond (is_positive_normal q.strike) (cond (is_positive_normal q.expiry) 0 4) 3) 2) 1
 
 -- 1 to 4, then 21 where the trail is too short
 unfoldable pub start_of : RuleSet → Bool → Quote → Start

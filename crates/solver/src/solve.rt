@@ -57,15 +57,23 @@ pub(crate) fn market_number(forward: f64, strike: f64, expiry: f64) -> u8
     refusals::FORWARD
 }
 
-// 1, 2, 3, 4 in this order.
+// 1, 2, 3, 4 in this order, or 0 where none is met.
 pub(crate) fn input_number(quote: Quote) -> u8
     ensures { result ≡ input_number quote }
 {
-    let price = price_number(quote.price);
-    if price != 0 {
-        return price;
+    if is_finite(quote.price) {
+        if is_positive_normal(quote.forward) {
+            if is_positive_normal(quote.strike) {
+                if is_positive_normal(quote.expiry) {
+                    return 0;
+                }
+                return refusals::EXPIRY;
+            }
+            return refusals::STRIKE;
+        }
+        return refusals::FORWARD;
     }
-    market_number(quote.forward, quote.strike, quote.expiry)
+    numbers::PRICE
 }
 
 // ---- before the loop

@@ -23,7 +23,7 @@ use Rattle.solver.specs.declared.state.StepResult.TheVariants.{Completed, Refuse
 use Rattle.solver.specs.Loop.{Ending, by_test, by_limit, by_refusal, stop, run}
 use Rattle.solver.specs.Step.{record_of, state_after, with_price, step_by, is_close, transition_of, next_by}
 use Rattle.solver.specs.Guess.{SQRT_DBL_MAX, upper_f}
-use Rattle.solver.specs.Solve.{first_number, market_number, input_number}
+use Rattle.solver.specs.Solve.{input_number}
 use Rattle.prices.specs.Vega.{vega_of}
 use Rattle.solver.proofs.Laws.Runs.{ends_as}
 
@@ -80,11 +80,11 @@ abbrev pub NoCheck : ℕ → Type 0
 NoCheck n = ⊥
 
 pub input_number_lem : (short : Bool) (q : Quote) → (input_number q ≡ 0) ⊎ Check short (input_number q)
-unfolding first_number input_number market_number
+unfolding input_number
 input_number_lem short q = go (is_finite q.price) (is_positive_normal q.forward) (is_positive_normal q.strike) (is_positive_normal q.expiry)
   where
     number : Bool → Bool → Bool → Bool → ℕ
-    number p f k e = first_number (cond p 0 1 ∷ cond f (cond k (cond e 0 4) 3) 2 ∷ [])
+    number p f k e = cond p (cond f (cond k (cond e 0 4) 3) 2) 1
 
     go : (p f k e : Bool) → (number p f k e ≡ 0) ⊎ Check short (number p f k e)
     go true true true true = inl refl

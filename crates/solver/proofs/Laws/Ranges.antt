@@ -13,7 +13,7 @@ use Rattle.solver.specs.declared.answers.Solution.{Solution}
 use Rattle.solver.specs.declared.answers.RangeSolution.{RangeSolution}
 use Rattle.solver.specs.declared.answers.RangeSolution.TheVariants.{Ends, Refused as NoEnds}
 use Rattle.solver.specs.Answers.{range_number_in}
-use Rattle.solver.specs.Solve.{first_number, input_number, SolveResult, solve_of, solve_with_trail}
+use Rattle.solver.specs.Solve.{first_number, market_number, input_number, SolveResult, solve_of, solve_with_trail}
 use Rattle.solver.specs.Trail.{trail_after}
 use Rattle.solver.specs.BidAsk.{RangeResult, quote_at, range_number, trail_number, range_number_with_trails, solve_range, solve_range_with_trails}
 use Rattle.solver.proofs.Laws.Checks.{all_pass}
@@ -65,17 +65,18 @@ number_without set r n = none_or range_number_in (range_number r) _ _ refl refl
 
 -- ---- what passed checks say of the single calls
 
-both_pass : (n m : ℕ) → n ≡ 0 → m ≡ 0 → first_number (n ∷ m ∷ []) ≡ 0
-unfolding first_number
-both_pass n m e f = rw (e, f)
+-- the price's test and the market's are those of `input_number`
+both_pass : (p : Bool) (m : ℕ) → cond p 0 1 ≡ 0 → m ≡ 0 → cond p m 1 ≡ 0
+both_pass true m e f = f
+both_pass false m e f = e
 
 pub range_passes : (r : QuoteRange) → range_number r ≡ 0 → (input_number (quote_at r r.low) ≡ 0) × (input_number (quote_at r r.high) ≡ 0)
-unfolding range_number input_number
+unfolding range_number input_number market_number
 range_passes r e =
     let low = all_pass _ _ e in
     let high = all_pass _ _ low.1 in
     let market = (all_pass _ _ (all_pass _ _ high.1).1).0 in
-    (both_pass _ _ low.0 market, both_pass _ _ high.0 market)
+    (both_pass (is_finite r.low) _ low.0 market, both_pass (is_finite r.high) _ high.0 market)
 
 long_enough : (n bytes : ℕ) → trail_number n bytes ≡ 0 → ltb bytes (48 * n) ≡ false
 long_enough n bytes = go (ltb bytes (48 * n))

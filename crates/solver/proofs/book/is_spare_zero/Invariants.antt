@@ -1,0 +1,18 @@
+-- `book::is_spare_zero` meets its contract. What is asked of the bytes from 51 on is what is asked of those from i on.
+use mathlib.Core.Path.{◌≡◌, refl, ◌∙◌}
+use mathlib.Core.Bool.{true, false}
+use mathlib.Core.List.{List}
+use Prim.Native.Nat.{ℕ, suc, ◌+◌, ◌-◌, ◌≤◌, ◌<◌}
+use native.Mathlib.Omega.{arith}
+use borrow.Author.Tests.{ne_eqb}
+use lib.ListN.{length, get_or}
+use lib.Seq.{drop-cons}
+use Rattle.solver.specs.LittleEndian.{part}
+use Rattle.solver.specs.Book.{all_zero}
+use Rattle.solver.proofs.book.is_spare_zero.Given as goal
+
+abbrev pub invariant-loop-i : goal.invariant-loop-i
+invariant-loop-i l = From l.r l.i
+
+abbrev pub decreases-loop-i : goal.decreases-loop-i
+decreases-loop-i l = 64 - l.i

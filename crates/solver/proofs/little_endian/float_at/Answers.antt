@@ -1,0 +1,6 @@
+-- `little_endian::float_at` meets its contract: the float whose bits the eight bytes are.
+use borrow.Author.Rules.{rules}
+use Rattle.solver.proofs.little_endian.float_at.Goals as goal
+
+pub returns : goal.returns
+returns c = rw c.number_at.ensures at c.float_of.ensures

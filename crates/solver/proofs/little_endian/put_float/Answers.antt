@@ -1,0 +1,6 @@
+-- `little_endian::put_float` meets its contract: the float's bits as a number of eight bytes.
+use borrow.Author.Rules.{rules}
+use Rattle.solver.proofs.little_endian.put_float.Goals as goal
+
+pub returns : goal.returns
+returns c = rw (← c.bits_of.ensures) c.put_number_at.ensures

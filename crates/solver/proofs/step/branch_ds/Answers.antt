@@ -1,0 +1,13 @@
+-- `step::branch_ds` meets its contract: the branch's number decides. Assumes nothing.
+use borrow.Author.Rules.{rules}
+use borrow.Author.Tests.{ne_eqb}
+use Rattle.solver.proofs.step.branch_ds.Goals as goal
+
+pub returns-then-branch-eq-LOWER : goal.returns-then-branch-eq-LOWER
+returns-then-branch-eq-LOWER c = rw (c.lower_ds.ensures, c.if-branch-eq-LOWER.true)
+
+pub returns-then-branch-eq-UPPER : goal.returns-then-branch-eq-UPPER
+returns-then-branch-eq-UPPER c = rw (c.upper_ds.ensures, ne_eqb _ 1 c.if-branch-eq-LOWER.false, c.if-branch-eq-UPPER.true)
+
+pub returns-else-branch-eq-UPPER : goal.returns-else-branch-eq-UPPER
+returns-else-branch-eq-UPPER c = rw (c.general_ds.ensures, ne_eqb _ 1 c.if-branch-eq-LOWER.false, ne_eqb _ 4 c.if-branch-eq-UPPER.false)
