@@ -7,6 +7,7 @@ use native.Mathlib.Omega.{arith}
 use lib.Dec.{eqb, ltb}
 use lib.ListN.{length}
 use borrow.Author.Tests.{ne_eqb}
+use Rattle.prices.specs.Black.{is_finite}
 use Rattle.elementary.specs.declared.rule_set.RuleSet.{RuleSet}
 use Rattle.solver.specs.declared.quote.QuoteRange.{QuoteRange}
 use Rattle.solver.specs.declared.answers.Solution.{Solution}
@@ -66,7 +67,7 @@ number_without set r n = none_or range_number_in (range_number r) _ _ refl refl
 -- ---- what passed checks say of the single calls
 
 -- the price's test and the market's are those of `input_number`
-both_pass : (p : Bool) (m : ℕ) → cond p 0 1 ≡ 0 → m ≡ 0 → cond p m 1 ≡ 0
+both_pass : (p : Bool) (m : ℕ) → ◌≡◌ {A = ℕ} (cond p 0 1) 0 → m ≡ 0 → cond p m 1 ≡ 0
 both_pass true m e f = f
 both_pass false m e f = e
 

@@ -94,6 +94,7 @@ module _ {S R : Type 0} (next : S → Transition S R) where
   -- what holds of each state and so of the next, and what each step then says of its record, is so of every record
   pub every : (invariant : S → Type 0) (says : R → Type 0) → ((s s' : S) (r : R) → next s ≡ advance r s' → invariant s → invariant s' × says r)
       → {s : S} {rs : List R} {i : ℕ} {r : R} → Trace s rs → invariant s → At rs i r → says r
+  every invariant says one_step {i = i} {r = r} (none {s = s}) h a = elim a [ ]
   every invariant says one_step (one {s} {s'} {r} e t) h here = (one_step s s' r e h).1
   every invariant says one_step (one {s} {s'} {r} e t) h (there a) = every invariant says one_step t (one_step s s' r e h).0 a
 
@@ -110,6 +111,7 @@ module _ {S R : Type 0} (next : S → Transition S R) where
 
     pub from : (place : R → A) (side : R → Type 0) → ((s s' : S) (r : R) → next s ≡ advance r s' → (end' r ≡ end s) ⊎ ((end' r ≡ place r) × side r))
         → {s : S} {rs : List R} {i : ℕ} {r : R} → Trace s rs → At rs i r → From place side s rs i r
+    from place side moved {i = i} {r = r} (none {s = s}) a = elim a [ ]
     from place side moved (one {s} {s'} {r} e t) here = ⊎_elim inl (λ m. inr (0, r, zero-le, here, m.0, m.1)) (moved s s' r e)
     from place side moved (one {s} {s'} {r} e t) (there a) =
         ⊎_elim

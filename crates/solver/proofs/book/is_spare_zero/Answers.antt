@@ -10,10 +10,7 @@ use lib.Seq.{drop-cons}
 use Rattle.solver.specs.LittleEndian.{part}
 use Rattle.solver.specs.Book.{all_zero}
 use Rattle.solver.proofs.book.is_spare_zero.Goals as goal
-
-record From (r : List ℕ) (i : ℕ) : Type 0 where
-  within : i ≤ 64
-  same : all_zero (part 51 13 r) ≡ all_zero (part i (64 - i) r)
+use Rattle.solver.proofs.book.is_spare_zero.Invariants.{From}
 
 module _ (r : List ℕ) (i : ℕ) (f : From r i) where
   zero_next : i < 64 → 64 ≤ length r → get_or r i 0 ≡ 0 → From r (i + 1)

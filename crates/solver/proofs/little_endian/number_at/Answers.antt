@@ -8,11 +8,7 @@ use lib.ListN.{length, get_or}
 use lib.Seq.{drop-cons}
 use Rattle.solver.specs.LittleEndian.{number_at}
 use Rattle.solver.proofs.little_endian.number_at.Goals as goal
-
-record From (bytes : List ℕ) (start width n i : ℕ) : Type 0 where
-  within : i ≤ width
-  is : n ≡ number_at (start + i) (width - i) bytes
-  below : n < 256 ^ (width - i)
+use Rattle.solver.proofs.little_endian.number_at.Invariants.{From}
 
 module _ (bytes : List ℕ) (start width n i : ℕ) (f : From bytes start width n i) (p : 0 < i) where
   -- one byte more fits

@@ -9,6 +9,11 @@ use lib.Seq.{drop-cons}
 use Rattle.solver.specs.LittleEndian.{number_at}
 use Rattle.solver.proofs.little_endian.number_at.Given as goal
 
+pub record From (bytes : List ℕ) (start width n i : ℕ) : Type 0 where
+  pub within : i ≤ width
+  pub is : n ≡ number_at (start + i) (width - i) bytes
+  pub below : n < 256 ^ (width - i)
+
 abbrev pub invariant-loop-i : goal.invariant-loop-i
 invariant-loop-i l = From l.bytes l.at l.width l.n l.i
 

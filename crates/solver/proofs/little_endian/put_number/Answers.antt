@@ -9,12 +9,7 @@ use lib.ListN.{length, take, drop, set, length-set, take-append-drop}
 use lib.Seq.{take-suc-set, drop-set-lt, drop-drop}
 use Rattle.solver.specs.LittleEndian.{bytes_of}
 use Rattle.solver.proofs.little_endian.put_number.Goals as goal
-
-record Written (width n : ℕ) (old out : List ℕ) (rest i : ℕ) : Type 0 where
-  within : i ≤ width
-  long : length out ≡ length old
-  kept : drop i out ≡ drop i old
-  front : bytes_of width n ≡ take i out ++ bytes_of (width - i) rest
+use Rattle.solver.proofs.little_endian.put_number.Invariants.{Written}
 
 module _ (width n : ℕ) (old out : List ℕ) (rest i : ℕ) (w : Written width n old out rest i) where
   more : i < width → i < length out → Written width n old (set out i (rest % 256)) (rest / 256) (i + 1)

@@ -10,6 +10,12 @@ use lib.Seq.{take-suc-set, drop-set-lt, drop-drop}
 use Rattle.solver.specs.LittleEndian.{bytes_of}
 use Rattle.solver.proofs.little_endian.put_number.Given as goal
 
+pub record Written (width n : ℕ) (old out : List ℕ) (rest i : ℕ) : Type 0 where
+  pub within : i ≤ width
+  pub long : length out ≡ length old
+  pub kept : drop i out ≡ drop i old
+  pub front : bytes_of width n ≡ take i out ++ bytes_of (width - i) rest
+
 abbrev pub invariant-loop-i : goal.invariant-loop-i
 invariant-loop-i l = Written l.width l.n l.initial.out l.out l.rest l.i
 
