@@ -3,10 +3,10 @@ use mathlib.Core.Path.{◌≡◌, refl, sym, ◌∙◌, ap}
 use mathlib.Core.Bool.{Bool, true, false, true≢false, ◌&&◌}
 use mathlib.Core.List.{List}
 use mathlib.Core.Logic.{◌⊎◌, inl, inr}
-use Prim.Native.Nat.{ℕ, ◌*◌, ◌≤◌}
+use Prim.Native.Nat.{ℕ, ◌*◌, ◌<◌, ◌≤◌}
 use native.Mathlib.Omega.{arith}
 use native.Mathlib.Nat.{mul_comm}
-use borrow.Author.Tests.{ne_eqb, ltb-false}
+use borrow.Author.Tests.{ne_eqb, lt-ltb, le-ltb}
 use lib.Dec.{ltb}
 use lib.Ieee.{Float}
 use Rattle.elementary.specs.declared.rule_set.RuleSet.{RuleSet}
@@ -50,17 +50,17 @@ module _ (keep : Bool) (bytes : ℕ) (set : RuleSet) (q : Quote) (n : ℕ) where
 -- whether the trail is too short, from what the code compared
 module _ (keep : Bool) (bytes n : ℕ) where
   abbrev pub Long : Type 0
-  Long = ((keep ≡ true) × (ltb bytes (n * 48) ≡ false)) ⊎ (keep ≡ false)
+  Long = ((keep ≡ true) × (n * 48 ≤ bytes)) ⊎ (keep ≡ false)
 
-  pub short : keep ≡ true → ltb bytes (n * 48) ≡ true → (keep && ltb bytes (48 * n)) ≡ true
-  short k h = rw (k, mul_comm 48 n) h
+  pub short : keep ≡ true → bytes < n * 48 → (keep && ltb bytes (48 * n)) ≡ true
+  short k h = rw (k, mul_comm 48 n) (lt-ltb bytes (n * 48) h)
 
   pub long : Long → (keep && ltb bytes (48 * n)) ≡ false
-  long (inl (k, h)) = rw (k, mul_comm 48 n) h
+  long (inl (k, h)) = rw (k, mul_comm 48 n) (le-ltb bytes (n * 48) h)
   long (inr k) = rw k refl
 
   pub room : Long → keep ≡ true → 48 * n ≤ bytes
-  room (inl (k, h)) t = omega (arith, ltb-false bytes (n * 48) h)
+  room (inl (k, h)) t = omega arith
   room (inr k) t = absurd (true≢false (sym t ∙ k))
 
 -- what the answer of a run of no steps says of the target: its ending is 0 where there is no loop, and 2 where there is one
