@@ -8,7 +8,7 @@ use native.Mathlib.Omega.{arith}
 use lib.Dec.{T, lit≤}
 use lib.Arith.{mod-mul}
 use lib.Pow.{pow-add, pow_pos, pow_mono, shr_lt}
-use lib.Ieee.{binary64, down, size, units, round}
+use lib.Ieee.{binary64, size, units, round}
 use lib.Ieee.Digits.{size-lt, size-le}
 use lib.Ieee.Fits.{round_is}
 use lib.Ieee.Nearest.{closest}

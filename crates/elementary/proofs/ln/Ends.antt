@@ -1,7 +1,7 @@
 -- What ln's tests leave over is finite and above 0. Assumes nothing.
 use mathlib.Core.Path.{◌≡◌, sym, ◌∙◌}
 use mathlib.Core.Bool.{Bool, true, false, true≢false}
-use Prim.Native.Nat.{ℕ, ◌+◌, ◌*◌, ◌^◌}
+use Prim.Native.Nat.{ℕ, ◌*◌, ◌^◌}
 use native.Mathlib.Omega.{arith}
 use borrow.Author.Tests.{ltb-true}
 use lib.Dec.{T, lt→ltb}

@@ -1,5 +1,4 @@
 -- `cody::d_int` meets its contract: each arm is what `cond` picks. Assumes nothing.
-use borrow.Author.Rules.{rules}
 use Rattle.elementary.proofs.cody.d_int.Goals as goal
 
 pub returns-then-x : goal.returns-then-x

@@ -1,5 +1,4 @@
 -- `cody::erfc` meets its contract: the code's rule set 0 is the definition's. Assumes nothing.
-use borrow.Author.Rules.{rules}
 use Rattle.elementary.proofs.cody.erfc.Goals as goal
 
 pub returns : goal.returns

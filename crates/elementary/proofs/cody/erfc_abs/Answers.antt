@@ -1,6 +1,5 @@
 -- `cody::erfc_abs` meets its contract: each arm is what `cond` picks. Assumes nothing.
 use Rattle.elementary.specs.Cody.{erfc_abs}
-use borrow.Author.Rules.{rules}
 use Rattle.elementary.proofs.cody.erfc_abs.Goals as goal
 
 pub returns-then-set : goal.returns-then-set

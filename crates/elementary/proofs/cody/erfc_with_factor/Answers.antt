@@ -1,6 +1,5 @@
 -- `cody::erfc_with_factor` meets its contract: each way out is the arm that the test leaves. Assumes nothing.
 use Rattle.elementary.specs.Cody.{erfc_of}
-use borrow.Author.Rules.{rules}
 use Rattle.elementary.proofs.cody.erfc_with_factor.Goals as goal
 
 pub returns-then-y : goal.returns-then-y

@@ -1,6 +1,5 @@
 -- `cody::erfcx` meets its contract: each way out is the arm that the tests before it leave. Assumes nothing.
 use Rattle.elementary.specs.Cody.{erfcx_of}
-use borrow.Author.Rules.{rules}
 use Rattle.elementary.proofs.cody.erfcx.Goals as goal
 
 pub returns-then-y : goal.returns-then-y

@@ -1,6 +1,5 @@
 -- `cody::erfcx_above_threshold` meets its contract: each arm is what `cond` picks. Assumes nothing.
 use Rattle.elementary.specs.Cody.{erfcx_above_threshold}
-use borrow.Author.Rules.{rules}
 use Rattle.elementary.proofs.cody.erfcx_above_threshold.Goals as goal
 
 pub returns-then-y : goal.returns-then-y

@@ -5,7 +5,6 @@ use Rattle.elementary.proofs.Laws.Bits.{no_nan_pattern}
 use Rattle.elementary.proofs.tables.Laws.{square_entry}
 use Rattle.elementary.specs.Exp.{exp_of}
 use Rattle.elementary.specs.Cody.{negative_square}
-use borrow.Author.Rules.{rules}
 use Rattle.elementary.proofs.cody.exp_of_negative_square.Goals as goal
 
 pub float_from_bits-result : goal.float_from_bits-result

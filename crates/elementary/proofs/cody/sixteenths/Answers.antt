@@ -1,6 +1,5 @@
 -- `cody::sixteenths` meets its contract. Assumes nothing.
 use Rattle.elementary.proofs.Laws.Bits.{equal_left}
-use borrow.Author.Rules.{rules}
 use Rattle.elementary.proofs.cody.sixteenths.Goals as goal
 
 pub float_to_bits-result : goal.float_to_bits-result

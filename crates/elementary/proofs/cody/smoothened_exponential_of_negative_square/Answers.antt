@@ -1,6 +1,5 @@
 -- `cody::smoothened_exponential_of_negative_square` meets its contract: each call is its definition. Assumes nothing.
 use Rattle.elementary.specs.Cody.{smoothened_exponential_of_negative_square}
-use borrow.Author.Rules.{rules}
 use Rattle.elementary.proofs.cody.smoothened_exponential_of_negative_square.Goals as goal
 
 pub returns : goal.returns

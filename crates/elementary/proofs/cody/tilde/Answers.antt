@@ -1,6 +1,5 @@
 -- `cody::tilde` meets its contract. Assumes nothing.
 use Rattle.elementary.specs.Cody.{tilde_of}
-use borrow.Author.Rules.{rules}
 use Rattle.elementary.proofs.cody.tilde.Goals as goal
 
 pub returns : goal.returns

@@ -1,6 +1,5 @@
 -- `exp::exp` meets its contract: each call's result is its definition's. Assumes nothing.
 use mathlib.Core.Path.{ap, ◌∙◌}
-use borrow.Author.Rules.{rules}
 use Rattle.elementary.specs.Ops.{one}
 use Rattle.elementary.specs.Exp.{exp_sum}
 use Rattle.elementary.proofs.exp.exp.Goals as goal

@@ -1,7 +1,6 @@
 -- `exp::exp_from_sum` meets its contract: each way out is the arm that the tests before it leave. Assumes nothing.
 use mathlib.Core.Path.{◌≡◌, ◌∙◌}
 use Prim.Native.Nat.{ℕ}
-use borrow.Author.Rules.{rules}
 use lib.Ieee.{Float, binary64, minus, div, of_bits}
 use lib.Ieee.Compare.{differs_from_itself}
 use Rattle.elementary.specs.Ops.{one}

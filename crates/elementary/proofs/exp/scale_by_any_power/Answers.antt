@@ -3,7 +3,6 @@ use mathlib.Core.Path.{sym, ◌∙◌, subst}
 use lib.Dec.{T}
 use lib.Ieee.{binary64}
 use Rattle.elementary.proofs.exp.Power as power
-use borrow.Author.Rules.{rules}
 use Rattle.elementary.proofs.exp.scale_by_any_power.Goals as goal
 
 pub parts_of-t-requires : goal.parts_of-t-requires

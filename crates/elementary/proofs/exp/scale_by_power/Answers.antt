@@ -2,7 +2,6 @@
 use native.Mathlib.Omega.{arith}
 use lib.Ieee.{binary64}
 use Rattle.elementary.proofs.exp.Power as power
-use borrow.Author.Rules.{rules}
 use Rattle.elementary.proofs.exp.scale_by_power.Goals as goal
 
 pub returns : goal.returns

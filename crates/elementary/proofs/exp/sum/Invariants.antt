@@ -1,10 +1,6 @@
 -- `exp::sum` meets its contract: after the steps down to i, what is left of the 13 steps is the i steps from p on. Assumes nothing.
-use mathlib.Core.Path.{refl}
 use Prim.Native.Nat.{◌≤◌}
-use native.Mathlib.Omega.{arith}
-use borrow.Author.Rules.{rules}
 use Rattle.elementary.specs.Inside.Exp.{StepsLeft}
-use Rattle.elementary.proofs.exp.Steps.{no_steps_left}
 use Rattle.elementary.proofs.exp.sum.Given as goal
 
 abbrev pub invariant-loop-i : goal.invariant-loop-i

@@ -1,10 +1,6 @@
 -- `exp::sums` meets its contract: each of the eight goes through the steps of `sum`. Assumes nothing.
 use mathlib.Core.Path.{refl}
-use Prim.Native.Nat.{◌≤◌}
 use native.Mathlib.Omega.{arith}
-use borrow.Author.Rules.{rules}
-use Rattle.elementary.specs.Inside.Each.{Pairs}
-use Rattle.elementary.specs.Inside.Exp.{StepsLeft}
 use Rattle.elementary.proofs.exp.Steps.{sum_of_lem}
 use Rattle.elementary.proofs.exp.sums.Goals as goal
 

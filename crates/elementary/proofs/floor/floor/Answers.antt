@@ -1,7 +1,6 @@
 -- `floor` meets its contract: it and its parts go by the bits b, and x is the float with those bits. Assumes nothing.
 use mathlib.Core.Path.{◌≡◌, refl, ap, ◌∙◌}
 use native.Mathlib.Omega.{arith}
-use borrow.Author.Rules.{rules}
 use mathlib.Core.Bool.{true}
 use lib.Ieee.{Float, fits, binary64, of_bits, to_bits}
 use lib.Ieee.Bits.{of_bits-to_bits}

@@ -1,10 +1,9 @@
 -- `floor_from_one` meets its contract: what is cut off `c` leaves the floor's own bits. Assumes nothing.
 use mathlib.Core.Path.{ap, ◌∙◌}
-use mathlib.Core.Logic.{⊎_elim, inl, inr}
+use mathlib.Core.Logic.{inl, inr}
 use Prim.Native.Nat.{ℕ, ◌+◌, ◌-◌, ◌^◌, ◌<◌}
 use native.Mathlib.Nat.{mod-le}
 use native.Mathlib.Omega.{arith}
-use borrow.Author.Rules.{rules}
 use lib.Pow.{pow_pos, pow_mono}
 use Rattle.elementary.proofs.floor.Laws.{AddUnit, unit_is, floor_cut, floor_cut_no_nan}
 use Rattle.elementary.proofs.floor.floor_from_one.Goals as goal

@@ -1,10 +1,7 @@
 -- `inverse::bisect` meets its contract. Assumes nothing.
 use mathlib.Core.Path.{◌∙◌, ap}
-use Prim.Native.Nat.{◌-◌}
 use native.Mathlib.Omega.{arith}
-use borrow.Author.Rules.{rules}
 use Rattle.elementary.specs.Inside.Cdf.{exp_of_negative_square}
-use Rattle.elementary.specs.Inside.Bisection.{AfterSteps}
 use Rattle.elementary.proofs.inverse.Laws.{ends_low, ends_high, no_steps_left}
 use Rattle.elementary.proofs.inverse.bisect.Goals as goal
 

@@ -1,5 +1,4 @@
 -- `inverse::cdf_at` meets its contract. Assumes nothing.
-use borrow.Author.Rules.{rules}
 use Rattle.elementary.proofs.inverse.cdf_at.Goals as goal
 
 pub returns-then-same : goal.returns-then-same

@@ -4,7 +4,6 @@ use native.Mathlib.Omega.{arith}
 use Rattle.elementary.specs.NormalDistribution.{cdf_of}
 use Rattle.elementary.proofs.Laws.Bits.{no_nan_pattern}
 use Rattle.elementary.proofs.tables.Laws.{cdf_entry}
-use borrow.Author.Rules.{rules}
 use Rattle.elementary.proofs.inverse.cdf_at_point.Goals as goal
 
 pub float_from_bits-result : goal.float_from_bits-result

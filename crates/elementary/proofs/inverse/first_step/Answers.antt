@@ -1,7 +1,5 @@
 -- `inverse::first_step` meets its contract: each arm is what `cond` picks. Assumes nothing.
 use mathlib.Core.Path.{refl}
-use native.Mathlib.Omega.{arith}
-use borrow.Author.Rules.{rules}
 use Rattle.elementary.proofs.inverse.first_step.Goals as goal
 
 pub returns-then-cdf_at_point-p-clause-value : goal.returns-then-cdf_at_point-p-clause-value

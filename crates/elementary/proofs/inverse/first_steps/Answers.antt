@@ -1,7 +1,6 @@
 -- `inverse::first_steps` meets its contract: five steps over the points. Assumes nothing.
 use native.Mathlib.Omega.{arith}
 use Rattle.elementary.proofs.inverse.Laws.{after_five, with_ends}
-use borrow.Author.Rules.{rules}
 use Rattle.elementary.proofs.inverse.first_steps.Goals as goal
 
 pub returns : goal.returns

@@ -1,6 +1,5 @@
 -- `inverse::guessed_step` meets its contract: a step of `bisection_step`, or none. Assumes nothing.
 use mathlib.Core.Path.{sym}
-use borrow.Author.Rules.{rules}
 use Rattle.elementary.proofs.inverse.guessed_step.Goals as goal
 
 pub bisection_step-requires : goal.bisection_step-requires

@@ -1,7 +1,6 @@
 -- `inverse::point` meets its contract. Assumes nothing.
 use native.Mathlib.Omega.{arith}
 use Rattle.elementary.proofs.Laws.Values.{in_float_lem}
-use borrow.Author.Rules.{rules}
 use Rattle.elementary.proofs.inverse.point.Goals as goal
 
 pub int_to_float-result : goal.int_to_float-result

@@ -2,7 +2,7 @@
 use mathlib.Core.Path.{◌≡◌, sym, ap, ◌∙◌, subst}
 use mathlib.Core.Bool.{Bool, false}
 use lib.Ieee.{Float, binary64, fits}
-use Prim.Native.Nat.{ℕ, ◌+◌, ◌-◌, ◌*◌, ◌^◌, ◌≤◌, ◌<◌}
+use Prim.Native.Nat.{ℕ, ◌+◌, ◌-◌, ◌*◌, ◌^◌, ◌≤◌}
 use native.Mathlib.Omega.{arith}
 use lib.Dec.{T, lit<, lit≤}
 use lib.Ieee.Exact.{HasValue}
@@ -13,7 +13,6 @@ use Rattle.elementary.proofs.Laws.Values.{in_float_lem}
 use Rattle.elementary.proofs.ln.Steps.{difference, unit}
 use Rattle.elementary.proofs.ln.Ends.{digits_of}
 use Rattle.elementary.proofs.ln.Place.{place_is, significand_is, in_upper_part, in_lower_part}
-use borrow.Author.Rules.{rules}
 use Rattle.elementary.proofs.ln.ln_inner.Goals as goal
 use Rattle.elementary.proofs.ln.ln_inner.Goals.{then-m, else-m}
 

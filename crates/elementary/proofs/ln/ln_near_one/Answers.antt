@@ -1,5 +1,4 @@
 -- `ln::ln_near_one` meets its contract: the operations are the definition's. Assumes nothing.
-use borrow.Author.Rules.{rules}
 use Rattle.elementary.specs.Ln.{ln_at}
 use Rattle.elementary.proofs.ln.ln_near_one.Goals as goal
 

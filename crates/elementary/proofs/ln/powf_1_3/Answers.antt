@@ -1,6 +1,5 @@
 -- `ln::powf_1_3` meets its contract: each way out is the arm that the test leaves. Assumes nothing.
 use mathlib.Core.Path.{◌∙◌, sym}
-use borrow.Author.Rules.{rules}
 use lib.Ieee.{of_bits, of_int}
 use Rattle.elementary.specs.Ln.{cube_root_of}
 use Rattle.elementary.proofs.ln.powf_1_3.Goals as goal

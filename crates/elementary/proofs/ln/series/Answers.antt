@@ -1,8 +1,7 @@
 -- `ln::series` meets its contract. The loop's invariant: q is the sum after the steps down to i. Assumes nothing.
-use Prim.Native.Nat.{◌≤◌}
 use native.Mathlib.Omega.{arith}
 use Rattle.elementary.proofs.Laws.Values.{in_float_lem}
-use Rattle.elementary.proofs.ln.Steps.{first, Down, horner_step, no_steps_left}
+use Rattle.elementary.proofs.ln.Steps.{first, horner_step, no_steps_left}
 use Rattle.elementary.proofs.ln.series.Goals as goal
 
 pub loop-i-init : goal.loop-i-init

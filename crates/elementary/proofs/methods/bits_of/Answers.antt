@@ -1,7 +1,6 @@
 -- `bits_of` meets its contract: only a NaN differs from itself. Assumes nothing.
 use mathlib.Core.Path.{refl}
 use lib.Ieee.{to_bits}
-use borrow.Author.Rules.{rules}
 use Rattle.elementary.proofs.Laws.Bits.{differs, no_nan}
 use Rattle.elementary.proofs.methods.bits_of.Goals as goal
 

@@ -1,6 +1,5 @@
 -- `float_of` meets its contract: the size of a NaN's bits is above an infinity's, and no other is. Assumes nothing.
 use mathlib.Core.Path.{sym, ◌∙◌}
-use borrow.Author.Rules.{rules}
 use Rattle.elementary.proofs.Laws.Bits.{nan_quotient, nan_pattern, no_nan_pattern}
 use Rattle.elementary.proofs.methods.float_of.Goals as goal
 

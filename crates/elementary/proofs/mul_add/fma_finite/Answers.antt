@@ -2,7 +2,6 @@
 use mathlib.Core.Path.{sym, ◌∙◌}
 use mathlib.Core.Logic.{inl, inr}
 use native.Mathlib.Omega.{arith}
-use borrow.Author.Rules.{rules}
 use Rattle.elementary.proofs.mul_add.Exactly.{zero_product, zero_addend, scaled_sum}
 use Rattle.elementary.proofs.mul_add.fma_finite.Goals as goal
 

@@ -6,7 +6,6 @@ use lib.Ieee.{Float, binary64}
 use lib.Ieee.Fits.{and_l, and_r}
 use lib.Ieee.Scale.{finite}
 use Rattle.elementary.proofs.Laws.Rounding.{fma_addend, fma_factor}
-use borrow.Author.Rules.{rules}
 use Rattle.elementary.proofs.mul_add.mul_add.Goals as goal
 
 -- what the test says of the factors

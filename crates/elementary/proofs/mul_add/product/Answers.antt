@@ -2,7 +2,6 @@
 use Prim.Native.Nat.{ℕ, ◌+◌, ◌/◌, ◌^◌, ◌<◌}
 use native.Mathlib.Omega.{arith}
 use Rattle.elementary.proofs.mul_add.Carry.{halves, product_law}
-use borrow.Author.Rules.{rules}
 use Rattle.elementary.proofs.mul_add.product.Goals as goal
 
 top : (w s : ℕ) → w < 2 ^ 54 → s < 2 ^ 64 → w + s / 2 ^ 32 < 2 ^ 64

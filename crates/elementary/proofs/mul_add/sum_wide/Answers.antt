@@ -2,7 +2,6 @@
 use mathlib.Core.Path.{◌∙◌}
 use lib.Ieee.{binary64}
 use Rattle.elementary.proofs.mul_add.Sums.{sum_comm}
-use borrow.Author.Rules.{rules}
 use Rattle.elementary.proofs.mul_add.sum_wide.Goals as goal
 
 pub returns-else-be-ae : goal.returns-else-be-ae

@@ -1,6 +1,5 @@
 -- `normal_distribution::cdf_above_four` meets its contract: erfc's tests are known. Assumes nothing.
 use Rattle.elementary.specs.Cody.{erfc_of, erfc_abs, erfcx_above_threshold}
-use borrow.Author.Rules.{rules}
 use Rattle.elementary.proofs.normal_distribution.cdf_above_four.Goals as goal
 
 pub returns : goal.returns

@@ -1,5 +1,4 @@
 -- `normal_distribution::cdf_with_factor` meets its contract. Assumes nothing.
-use borrow.Author.Rules.{rules}
 use Rattle.elementary.proofs.normal_distribution.cdf_with_factor.Goals as goal
 
 pub returns : goal.returns

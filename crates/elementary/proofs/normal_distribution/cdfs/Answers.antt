@@ -1,6 +1,5 @@
 -- `normal_distribution::cdfs` meets its contract. Assumes nothing.
 use mathlib.Core.Path.{sym, ◌∙◌}
-use borrow.Author.Rules.{rules}
 use Rattle.elementary.proofs.Laws.Close.{all_close}
 use Rattle.elementary.proofs.Laws.Eight.{through}
 use Rattle.elementary.proofs.normal_distribution.cdfs.Goals as goal

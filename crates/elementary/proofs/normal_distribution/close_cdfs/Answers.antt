@@ -1,7 +1,6 @@
 -- `normal_distribution::close_cdfs` meets its contract: k / 16 is the tilde of each, and its place says where each stands. Assumes nothing.
 use mathlib.Core.Path.{sym, ◌∙◌, ap}
 use native.Mathlib.Omega.{arith}
-use borrow.Author.Rules.{rules}
 use Rattle.elementary.specs.Inside.Cdf.{exp_of_negative_square}
 use Rattle.elementary.proofs.Laws.Close.{up_to_four, above_four}
 use Rattle.elementary.proofs.Laws.Eight.{all_of, same_tilde, same_exp}

@@ -1,5 +1,4 @@
 -- `normal_distribution::factors` meets its contract: each is the product of its two exponentials. Assumes nothing.
-use borrow.Author.Rules.{rules}
 use Rattle.elementary.proofs.Laws.Eight.{factors_of}
 use Rattle.elementary.proofs.normal_distribution.factors.Goals as goal
 

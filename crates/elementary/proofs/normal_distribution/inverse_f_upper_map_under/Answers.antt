@@ -1,5 +1,4 @@
 -- `normal_distribution::inverse_f_upper_map_under` meets its contract. Assumes nothing.
-use borrow.Author.Rules.{rules}
 use Rattle.elementary.specs.NormalDistribution.{inverse_f_upper_map_of}
 use Rattle.elementary.proofs.normal_distribution.inverse_f_upper_map_under.Goals as goal
 

@@ -1,6 +1,5 @@
 -- `normal_distribution::standard_normal_cdf_under` meets its contract. Assumes nothing.
 use Rattle.elementary.specs.NormalDistribution.{cdf_of}
-use borrow.Author.Rules.{rules}
 use Rattle.elementary.proofs.normal_distribution.standard_normal_cdf_under.Goals as goal
 
 pub returns : goal.returns

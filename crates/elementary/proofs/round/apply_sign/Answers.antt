@@ -1,5 +1,4 @@
 -- `round::apply_sign` meets its contract: the two arms. Assumes nothing.
-use borrow.Author.Rules.{rules}
 use Rattle.elementary.proofs.round.apply_sign.Goals as goal
 
 pub returns-then-neg : goal.returns-then-neg

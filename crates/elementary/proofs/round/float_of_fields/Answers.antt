@@ -1,7 +1,6 @@
 -- `round::float_of_fields` meets its contract: the fields read back from the pattern (Fields). Assumes nothing.
 use native.Mathlib.Omega.{arith}
 use Rattle.elementary.proofs.Laws.Fields as fields
-use borrow.Author.Rules.{rules}
 use Rattle.elementary.proofs.round.float_of_fields.Goals as goal
 
 pub overflow_add-result : goal.overflow_add-result

@@ -1,5 +1,4 @@
 -- `round::low_bits` meets its contract: from 64 on nothing is dropped. Assumes nothing.
-use borrow.Author.Rules.{rules}
 use mathlib.Core.Path.{◌≡◌, sym, ◌∙◌}
 use native.Mathlib.Nat.{mod-eq_of_lt, lt_of_lt_of_le, one-mul}
 use native.Mathlib.Omega.{arith}

@@ -6,7 +6,6 @@ use lib.Dec.{T}
 use lib.Ieee.{Float, binary64, fits}
 use Rattle.elementary.specs.Inside.Round.{PartsOf}
 use Rattle.elementary.proofs.Laws.Decode as decode
-use borrow.Author.Rules.{rules}
 use Rattle.elementary.proofs.round.parts_of.Goals as goal
 
 -- an `f64` is a value of the format

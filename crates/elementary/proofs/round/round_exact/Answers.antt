@@ -8,7 +8,6 @@ use lib.Pow.{pow_pos}
 use Rattle.elementary.specs.Inside.Round.{wide}
 use Rattle.elementary.proofs.Laws.Words as words
 use Rattle.elementary.proofs.Laws.Sign as sign
-use borrow.Author.Rules.{rules}
 use Rattle.elementary.proofs.round.round_exact.Goals as goal
 
 pub round_signed-requires : goal.round_signed-requires

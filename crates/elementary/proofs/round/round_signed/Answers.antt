@@ -1,7 +1,6 @@
 -- `round::round_signed` meets its contract: a sign goes through the rounding (Sign). Assumes nothing.
 use lib.Ieee.{binary64}
 use Rattle.elementary.proofs.Laws.Sign as sign
-use borrow.Author.Rules.{rules}
 use Rattle.elementary.proofs.round.round_signed.Goals as goal
 
 pub returns : goal.returns

@@ -1,12 +1,11 @@
 -- `round::round_to_nearest` meets its contract: the kept digits are half of one digit more, rounded with the flag (Leaf), and their pattern is the float (Pattern). Assumes nothing.
-use borrow.Author.Rules.{rules}
 use mathlib.Core.Path.{◌≡◌, refl, sym, ◌∙◌}
 use Prim.Native.Nat.{ℕ, ◌+◌, ◌-◌, ◌*◌, ◌%◌, ◌^◌, ◌≤◌, ◌<◌}
 use native.Mathlib.Nat.{lt_of_lt_of_le}
 use native.Mathlib.Omega.{arith}
 use mathlib.Core.Bool.{false}
 use lib.Dec.{lit≤}
-use lib.Ieee.{binary64, fits}
+use lib.Ieee.{binary64}
 use lib.Ieee.Fits.{round-fits}
 use Rattle.elementary.proofs.Laws.Leaf as leaf
 use Rattle.elementary.proofs.Laws.Bits.{no_nan_pattern}

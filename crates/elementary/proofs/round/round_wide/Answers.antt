@@ -6,7 +6,6 @@ use native.Mathlib.Omega.{arith}
 use lib.Pow.{pow-add, pow_pos}
 use Rattle.elementary.specs.Inside.Round.{Any, wide}
 use Rattle.elementary.proofs.Laws.Words as words
-use borrow.Author.Rules.{rules}
 use Rattle.elementary.proofs.round.round_wide.Goals as goal
 
 only_low : (hi lo : ℕ) → hi ≡ 0 → wide hi lo ≡ lo

@@ -1,5 +1,4 @@
 -- `round::shift_right` meets its contract: from 64 on nothing is left. Assumes nothing.
-use borrow.Author.Rules.{rules}
 use mathlib.Core.Path.{sym}
 use native.Mathlib.Nat.{div-eq_of_lt, lt_of_lt_of_le}
 use native.Mathlib.Omega.{arith}

@@ -2,7 +2,6 @@
 use mathlib.Core.Path.{refl}
 use native.Mathlib.Omega.{arith}
 use Rattle.elementary.proofs.Laws.Decode as decode
-use borrow.Author.Rules.{rules}
 use Rattle.elementary.proofs.round.subnormal_parts.Goals as goal
 
 pub overflow_sub-z : goal.overflow_sub-z

@@ -1,6 +1,5 @@
 -- `double_digits` meets its contract: what is left and the next digits are those that `extend` asks for. Assumes nothing.
 use native.Mathlib.Omega.{arith}
-use borrow.Author.Rules.{rules}
 use Rattle.elementary.proofs.sqrt.Steps.{square_at_most, products, extend_ready, root_of}
 use Rattle.elementary.proofs.sqrt.double_digits.Goals as goal
 

@@ -1,6 +1,5 @@
 -- `extend` meets its contract: `Steps` has the step's laws over plain numbers. Assumes nothing.
 use native.Mathlib.Omega.{arith}
-use borrow.Author.Rules.{rules}
 use Rattle.elementary.proofs.sqrt.Steps.{bounds, above_nothing, root_here, root_below}
 use Rattle.elementary.proofs.sqrt.extend.Goals as goal
 

@@ -1,8 +1,7 @@
 -- `root_digits` meets its contract: each root's range follows from the number of its digits. Assumes nothing.
-use mathlib.Core.Logic.{⊎_elim, inl, inr}
+use mathlib.Core.Logic.{inl, inr}
 use Prim.Native.Nat.{◌^◌}
 use native.Mathlib.Omega.{arith}
-use borrow.Author.Rules.{rules}
 use Rattle.elementary.proofs.Laws.Isqrt.{sq_suc}
 use Rattle.elementary.proofs.sqrt.Steps.{first_digits, root_range}
 use Rattle.elementary.proofs.sqrt.root_digits.Goals as goal

@@ -1,6 +1,5 @@
 -- `root_of_significand` meets its contract: the shift leaves the exponent even, so the root of the digits is the digits of the root. Assumes nothing.
 use native.Mathlib.Omega.{arith}
-use borrow.Author.Rules.{rules}
 use Rattle.elementary.proofs.sqrt.Laws.{z_in, shift_low, root_in, made, made_no_nan}
 use Rattle.elementary.proofs.sqrt.root_of_significand.Goals as goal
 

@@ -2,7 +2,6 @@
 use mathlib.Core.Path.{sym, ◌∙◌}
 use native.Mathlib.Omega.{arith}
 use Rattle.elementary.proofs.sqrt.Laws.{root_low, root_mid}
-use borrow.Author.Rules.{rules}
 use Rattle.elementary.proofs.sqrt.sqrt_of_positive.Goals as goal
 
 pub returns-then-e-eq0 : goal.returns-then-e-eq0

@@ -1,7 +1,7 @@
 -- `black::black_at` meets its contract: at depth 0 the price out of the money, and elsewhere by the sign of the difference.
 use mathlib.Core.Path.{◌≡◌, refl, ◌∙◌}
 use mathlib.Core.Bool.{true, false}
-use Prim.Native.Nat.{ℕ, zero, suc, ◌-◌, ◌<◌}
+use Prim.Native.Nat.{ℕ, zero, suc, ◌-◌}
 use native.Mathlib.Omega.{arith}
 use lib.Ieee.{Float, lt}
 use Rattle.elementary.specs.Ops.{◌⊖◌, +0}

@@ -1,7 +1,6 @@
 -- `black::asymptotic` meets its contract: each call is its definition. Assumes nothing.
 use mathlib.Core.Path.{◌∙◌}
 use Rattle.prices.specs.Black.{asymptotic_inner}
-use borrow.Author.Rules.{rules}
 use Rattle.prices.proofs.black.asymptotic.Goals as goal
 
 pub returns : goal.returns

@@ -1,6 +1,5 @@
 -- `black::asymptotic_expansion_of_normalised_black_call` meets its contract: each way out is the arm that the test leaves. Assumes nothing.
 use Rattle.prices.specs.Black.{asymptotic_of}
-use borrow.Author.Rules.{rules}
 use Rattle.prices.proofs.black.asymptotic_expansion_of_normalised_black_call.Goals as goal
 
 pub returns-then-is_outside_asymptotic_region : goal.returns-then-is_outside_asymptotic_region

@@ -1,5 +1,4 @@
 -- `black::black` meets its contract: it is `black_under` with rule set 0. Assumes nothing.
-use borrow.Author.Rules.{rules}
 use Rattle.prices.proofs.black.black.Goals as goal
 
 pub returns : goal.returns

@@ -2,7 +2,6 @@
 use mathlib.Core.Path.{◌≡◌, sym, ◌∙◌}
 use mathlib.Core.Bool.{Bool}
 use Rattle.prices.specs.Black.{black_of}
-use borrow.Author.Rules.{rules}
 use Rattle.prices.proofs.black.black_under.Goals as goal
 
 -- what a call said of its argument, by the value that it gave

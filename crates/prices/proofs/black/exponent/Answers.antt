@@ -4,7 +4,6 @@ use lib.Dec.{T}
 use lib.Ieee.{binary64}
 use lib.Ieee.Fits.{mul-fits}
 use Rattle.elementary.proofs.Laws.Halving.{fma_minus_half}
-use borrow.Author.Rules.{rules}
 use Rattle.prices.proofs.black.exponent.Goals as goal
 
 pub returns-then-square : goal.returns-then-square

@@ -1,5 +1,4 @@
 -- `black::is_outside_asymptotic_region` meets its contract: each way out is what `||` is there. Assumes nothing.
-use borrow.Author.Rules.{rules}
 use Rattle.prices.proofs.black.is_outside_asymptotic_region.Goals as goal
 
 pub returns-then-h : goal.returns-then-h

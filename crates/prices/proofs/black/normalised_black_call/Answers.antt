@@ -1,5 +1,4 @@
 -- `black::normalised_black_call` meets its contract: it is `normalised_black_call_under` with rule set 0. Assumes nothing.
-use borrow.Author.Rules.{rules}
 use Rattle.prices.proofs.black.normalised_black_call.Goals as goal
 
 pub returns : goal.returns

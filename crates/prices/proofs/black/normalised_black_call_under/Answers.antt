@@ -1,5 +1,4 @@
 -- `black::normalised_black_call_under` meets its contract: it is mapped once at most. Assumes nothing.
-use borrow.Author.Rules.{rules}
 use Rattle.prices.proofs.black.normalised_black_call_under.Goals as goal
 
 pub returns : goal.returns

@@ -1,7 +1,6 @@
 -- `black::normalised_black_call_using_erfcx` meets its contract: each call is its definition. Assumes nothing.
 use mathlib.Core.Path.{◌∙◌}
 use Rattle.prices.specs.Black.{using_erfcx_of}
-use borrow.Author.Rules.{rules}
 use Rattle.prices.proofs.black.normalised_black_call_using_erfcx.Goals as goal
 
 pub returns : goal.returns

@@ -1,5 +1,4 @@
 -- `black::normalised_black_call_with_optimal_use_of_codys_functions` meets its contract: it is `normalised_black_call_with_optimal_use_of_codys_functions_under` with rule set 0. Assumes nothing.
-use borrow.Author.Rules.{rules}
 use Rattle.prices.proofs.black.normalised_black_call_with_optimal_use_of_codys_functions.Goals as goal
 
 pub returns : goal.returns

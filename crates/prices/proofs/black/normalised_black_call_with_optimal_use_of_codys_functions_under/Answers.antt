@@ -2,7 +2,6 @@
 use mathlib.Core.Path.{◌∙◌}
 use Rattle.prices.specs.Inside.Exponentials.{codys_with}
 use Rattle.prices.proofs.Laws.Exponentials.{codys_own}
-use borrow.Author.Rules.{rules}
 use Rattle.prices.proofs.black.normalised_black_call_with_optimal_use_of_codys_functions_under.Goals as goal
 
 pub returns : goal.returns

@@ -1,7 +1,6 @@
 -- `black::normalised_black_under` meets its contract. Assumes nothing.
 use mathlib.Core.Path.{◌∙◌}
 use Rattle.prices.specs.Black.{normalised_black_of}
-use borrow.Author.Rules.{rules}
 use Rattle.prices.proofs.black.normalised_black_under.Goals as goal
 
 pub returns : goal.returns

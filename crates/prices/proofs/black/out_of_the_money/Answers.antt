@@ -2,7 +2,6 @@
 use mathlib.Core.Path.{◌∙◌, ap}
 use Rattle.prices.specs.declared.answer.Answer.TheVariants.{Value}
 use Rattle.prices.proofs.Laws.Regions.{in_region_lem}
-use borrow.Author.Rules.{rules}
 use Rattle.prices.proofs.black.out_of_the_money.Goals as goal
 
 pub returns-in-Intrinsic : goal.returns-in-Intrinsic

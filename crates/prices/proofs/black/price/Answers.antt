@@ -1,7 +1,6 @@
 -- `black::price` meets its contract: each call is its definition. Assumes nothing.
 use mathlib.Core.Path.{◌∙◌}
 use Rattle.prices.specs.Black.{price_of}
-use borrow.Author.Rules.{rules}
 use Rattle.prices.proofs.black.price.Goals as goal
 
 pub returns : goal.returns

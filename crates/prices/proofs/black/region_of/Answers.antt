@@ -1,5 +1,4 @@
 -- `black::region_of` meets its contract: each way out is the arm that the tests before it leave. Assumes nothing.
-use borrow.Author.Rules.{rules}
 use Rattle.prices.proofs.black.region_of.Goals as goal
 
 pub returns-then-s-abs : goal.returns-then-s-abs

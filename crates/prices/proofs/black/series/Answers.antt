@@ -1,7 +1,6 @@
 -- `black::series` meets its contract. Assumes nothing.
 use lib.Ieee.{of_bits, of_int}
 use Rattle.prices.specs.Black.{series_of}
-use borrow.Author.Rules.{rules}
 use Rattle.prices.proofs.black.series.Goals as goal
 
 pub returns : goal.returns

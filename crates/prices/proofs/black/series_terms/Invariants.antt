@@ -1,13 +1,8 @@
 -- `black::series_terms` meets its contract: before term i, the terms from 3 on are those from i on with the present sum, sign and term. Assumes nothing.
-use mathlib.Core.Path.{◌≡◌, refl, sym}
-use Prim.Native.Nat.{ℕ, suc, ◌+◌, ◌-◌, ◌^◌, ◌≤◌, ◌<◌}
-use native.Mathlib.Numerals.{add-one}
-use native.Mathlib.Omega.{arith}
-use borrow.Author.Rules.{rules}
-use lib.Dec.{T, le→leb}
-use lib.IntN.{pos}
-use lib.Ieee.{Float, binary64, neg, of_bits, of_int, in_float}
-use Rattle.elementary.specs.Ops.{◌⊕◌, ◌⊗◌, ◌⊘◌, float, one, two}
+use mathlib.Core.Path.{◌≡◌}
+use Prim.Native.Nat.{ℕ, ◌-◌, ◌≤◌}
+use lib.Ieee.{Float, neg}
+use Rattle.elementary.specs.Ops.{one}
 use Rattle.prices.specs.Black.{series_terms}
 use Rattle.prices.proofs.black.series_terms.Given as goal
 

@@ -1,6 +1,5 @@
 -- `black::small_t_expansion_of_normalised_black_call` meets its contract: each way out is the arm that the test leaves. Assumes nothing.
 use Rattle.prices.specs.Black.{small_t_of}
-use borrow.Author.Rules.{rules}
 use Rattle.prices.proofs.black.small_t_expansion_of_normalised_black_call.Goals as goal
 
 pub returns-then-t : goal.returns-then-t

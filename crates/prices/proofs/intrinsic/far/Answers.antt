@@ -1,6 +1,5 @@
 -- `intrinsic::far` meets its contract. Assumes nothing.
 use mathlib.Core.Path.{◌∙◌}
-use borrow.Author.Rules.{rules}
 use Rattle.prices.proofs.intrinsic.far.Goals as goal
 
 pub returns : goal.returns

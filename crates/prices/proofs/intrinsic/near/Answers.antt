@@ -1,7 +1,6 @@
 -- `intrinsic::near` meets its contract. Assumes nothing.
 use mathlib.Core.Path.{◌∙◌}
 use lib.Ieee.{of_bits, of_int}
-use borrow.Author.Rules.{rules}
 use Rattle.prices.proofs.intrinsic.near.Goals as goal
 
 pub returns : goal.returns

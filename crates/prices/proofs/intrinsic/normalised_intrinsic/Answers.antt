@@ -1,6 +1,5 @@
 -- `intrinsic::normalised_intrinsic` meets its contract: each way out is the arm that the tests before it leave. Assumes nothing.
 use Rattle.prices.specs.Intrinsic.{intrinsic_of}
-use borrow.Author.Rules.{rules}
 use Rattle.prices.proofs.intrinsic.normalised_intrinsic.Goals as goal
 
 pub returns-then-times : goal.returns-then-times

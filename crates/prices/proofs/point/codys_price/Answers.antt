@@ -1,6 +1,5 @@
 -- `point::codys_price` meets its contract: each call is its definition. Assumes nothing.
 use mathlib.Core.Path.{◌∙◌}
-use borrow.Author.Rules.{rules}
 use Rattle.prices.proofs.point.codys_price.Goals as goal
 
 pub returns : goal.returns

@@ -1,6 +1,5 @@
 -- `point::in_asymptotic_region` meets its contract: each way out is the arm that the tests before it leave. Assumes nothing.
 use Rattle.prices.specs.Black.{asymptotic_of}
-use borrow.Author.Rules.{rules}
 use Rattle.prices.proofs.point.in_asymptotic_region.Goals as goal
 
 pub returns-then-is_outside_asymptotic_region : goal.returns-then-is_outside_asymptotic_region

@@ -3,7 +3,6 @@ use Rattle.elementary.proofs.Laws.Compare.{not_le_of_lt}
 use Rattle.prices.specs.Black.{SMALL_T, small_t_of}
 use Rattle.prices.specs.Inside.Exponentials.{codys_with}
 use Rattle.prices.proofs.Laws.Regions.{in_region_with, small_t_region}
-use borrow.Author.Rules.{rules}
 use Rattle.prices.proofs.point.out_of_the_money.Goals as goal
 
 pub vega_with-vega-requires : goal.vega_with-vega-requires

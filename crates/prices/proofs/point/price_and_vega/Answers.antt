@@ -1,5 +1,4 @@
 -- `point::price_and_vega` meets its contract: each way out is the arm that the test leaves. Assumes nothing.
-use borrow.Author.Rules.{rules}
 use Rattle.prices.proofs.point.price_and_vega.Goals as goal
 
 pub returns-then-x : goal.returns-then-x

@@ -1,6 +1,5 @@
 -- `point::two_b_with` meets its contract: each way out is the arm that the tests before it leave. Assumes nothing.
 use Rattle.prices.specs.Inside.Exponentials.{two_b_with}
-use borrow.Author.Rules.{rules}
 use Rattle.prices.proofs.point.two_b_with.Goals as goal
 
 pub returns-then-q2 : goal.returns-then-q2

@@ -1,5 +1,4 @@
 -- `rational_cubic::any_infinite` meets its contract: each way out is the arm that the tests before it leave. Assumes nothing.
-use borrow.Author.Rules.{rules}
 use Rattle.prices.proofs.rational_cubic.any_infinite.Goals as goal
 
 pub returns-then-is_infinite : goal.returns-then-is_infinite

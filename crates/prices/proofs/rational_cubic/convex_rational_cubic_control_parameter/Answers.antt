@@ -2,7 +2,6 @@
 use mathlib.Core.Path.{◌∙◌, ap₂}
 use Rattle.elementary.specs.Methods.{max_of}
 use Rattle.prices.specs.RationalCubic.{convex_parameter_of}
-use borrow.Author.Rules.{rules}
 use Rattle.prices.proofs.rational_cubic.convex_rational_cubic_control_parameter.Goals as goal
 
 pub returns : goal.returns

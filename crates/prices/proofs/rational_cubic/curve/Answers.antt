@@ -1,7 +1,6 @@
 -- `rational_cubic::curve` meets its contract: each way out is the arm that the tests before it leave. Assumes nothing.
 use lib.Ieee.{of_bits, of_int}
 use Rattle.prices.specs.RationalCubic.{curve_of}
-use borrow.Author.Rules.{rules}
 use Rattle.prices.proofs.rational_cubic.curve.Goals as goal
 
 pub returns-then-r : goal.returns-then-r

@@ -1,5 +1,4 @@
 -- `rational_cubic::has_nonzero_divisors` meets its contract: each way out is the arm that the tests before it leave. Assumes nothing.
-use borrow.Author.Rules.{rules}
 use Rattle.prices.proofs.rational_cubic.has_nonzero_divisors.Goals as goal
 
 pub returns-then-not-is_zero : goal.returns-then-not-is_zero

@@ -1,5 +1,4 @@
 -- `rational_cubic::is_convex_or_concave` meets its contract: each way out is the arm that the tests before it leave. Assumes nothing.
-use borrow.Author.Rules.{rules}
 use Rattle.prices.proofs.rational_cubic.is_convex_or_concave.Goals as goal
 
 pub returns-then-is_convex : goal.returns-then-is_convex

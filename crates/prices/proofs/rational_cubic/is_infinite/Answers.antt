@@ -1,6 +1,5 @@
 -- `rational_cubic::is_infinite` meets its contract. Assumes nothing.
 use lib.Ieee.{div, of_bits}
-use borrow.Author.Rules.{rules}
 use Rattle.prices.proofs.rational_cubic.is_infinite.Goals as goal
 
 pub returns : goal.returns

@@ -1,5 +1,4 @@
 -- `rational_cubic::monotonic_parameter` meets its contract: each way out is the arm that the tests before it leave. Assumes nothing.
-use borrow.Author.Rules.{rules}
 use Rattle.prices.proofs.rational_cubic.monotonic_parameter.Goals as goal
 
 pub returns-then-prefer : goal.returns-then-prefer

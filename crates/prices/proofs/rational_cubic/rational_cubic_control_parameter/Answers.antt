@@ -1,6 +1,5 @@
 -- `rational_cubic::rational_cubic_control_parameter` meets its contract: each way out is the arm that the tests before it leave. Assumes nothing.
 use Rattle.prices.specs.RationalCubic.{control_parameter_of}
-use borrow.Author.Rules.{rules}
 use Rattle.prices.proofs.rational_cubic.rational_cubic_control_parameter.Goals as goal
 
 pub returns-then-is_zero : goal.returns-then-is_zero

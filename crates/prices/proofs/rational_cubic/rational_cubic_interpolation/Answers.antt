@@ -1,6 +1,5 @@
 -- `rational_cubic::rational_cubic_interpolation` meets its contract: each way out is the arm that the tests before it leave. Assumes nothing.
 use Rattle.prices.specs.RationalCubic.{interpolation_of}
-use borrow.Author.Rules.{rules}
 use Rattle.prices.proofs.rational_cubic.rational_cubic_interpolation.Goals as goal
 
 pub returns-then-any_infinite : goal.returns-then-any_infinite

@@ -2,7 +2,6 @@
 use mathlib.Core.Path.{sym, subst}
 use lib.Dec.{T}
 use lib.Ieee.{binary64, fits}
-use borrow.Author.Rules.{rules}
 use Rattle.elementary.proofs.Laws.Errors.Whole.{high_number, split_is}
 use Rattle.prices.proofs.Laws.Sizes.{split_within}
 use Rattle.prices.proofs.small_t.coefficient.Goals as goal

@@ -1,6 +1,5 @@
 -- `small_t::horner_step` meets its contract. Assumes nothing.
 use mathlib.Core.Path.{◌∙◌}
-use borrow.Author.Rules.{rules}
 use Rattle.prices.proofs.small_t.horner_step.Goals as goal
 
 pub returns : goal.returns

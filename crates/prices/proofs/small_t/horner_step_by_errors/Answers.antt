@@ -3,7 +3,6 @@ use mathlib.Core.Path.{◌∙◌}
 use Prim.Native.Nat.{◌+◌}
 use native.Mathlib.Omega.{arith}
 use lib.Dec.{lit≤}
-use borrow.Author.Rules.{rules}
 use Rattle.prices.proofs.Laws.Sizes.{looser}
 use Rattle.prices.proofs.small_t.horner_step_by_errors.Goals as goal
 

@@ -1,11 +1,6 @@
 -- `small_t::horner_sums` meets its contract: before step k the first k + 4 are filled in. Assumes nothing.
-use mathlib.Core.Path.{◌≡◌, subst}
-use Prim.Native.Nat.{ℕ, ◌+◌, ◌-◌, ◌≤◌}
-use native.Mathlib.Omega.{arith}
-use borrow.Author.Rules.{rules}
+use Prim.Native.Nat.{◌+◌, ◌-◌, ◌≤◌}
 use Rattle.prices.specs.Inside.SmallT.{Filled}
-use Rattle.prices.proofs.Laws.Sizes.{looser}
-use Rattle.prices.proofs.small_t.Filling.{p_small, q_small, fill_step}
 use Rattle.prices.proofs.small_t.horner_sums.Given as goal
 
 abbrev pub invariant-loop-k : goal.invariant-loop-k

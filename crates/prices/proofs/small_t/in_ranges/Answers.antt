@@ -5,7 +5,6 @@ use Prim.Native.Nat.{ℕ, ◌<◌}
 use native.Mathlib.Omega.{arith}
 use lib.Dec.{T, leb, ltb, leb→le, ltb→lt, lit≤}
 use lib.Ieee.{Float, nan, inf, fin, binary64, fits, is_nan, to_bits}
-use borrow.Author.Rules.{rules}
 use Rattle.prices.specs.Inside.SmallT.{Within, InRanges}
 use Rattle.prices.proofs.Laws.Sizes.{below}
 use Rattle.prices.proofs.small_t.in_ranges.Goals as goal

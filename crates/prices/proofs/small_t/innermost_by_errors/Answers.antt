@@ -5,7 +5,6 @@ use Prim.Native.Nat.{ℕ, ◌^◌, ◌<◌}
 use native.Mathlib.Nat.{le_of_lt}
 use lib.Dec.{T, lit<, lit≤}
 use lib.Ieee.{Float, binary64, fits, neg}
-use borrow.Author.Rules.{rules}
 use Rattle.elementary.specs.Ops.{◌⊕◌, float, one}
 use Rattle.prices.specs.Inside.SmallT.{Within, InRanges}
 use Rattle.prices.proofs.Laws.Sizes.{looser, plus, opposite, whole, of_pattern, below}

@@ -1,10 +1,6 @@
 -- `small_t::innermost_sums` meets its contract: after k steps the first k are filled in. Assumes nothing.
-use mathlib.Core.Path.{◌≡◌, refl, subst}
-use Prim.Native.Nat.{ℕ, ◌-◌, ◌≤◌}
-use native.Mathlib.Omega.{arith}
-use borrow.Author.Rules.{rules}
+use Prim.Native.Nat.{◌-◌, ◌≤◌}
 use Rattle.prices.specs.Inside.SmallT.{Filled}
-use Rattle.prices.proofs.small_t.Filling.{addend_small, fill_innermost}
 use Rattle.prices.proofs.small_t.innermost_sums.Given as goal
 
 abbrev pub invariant-loop-k : goal.invariant-loop-k

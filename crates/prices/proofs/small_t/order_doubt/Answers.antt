@@ -2,7 +2,6 @@
 use mathlib.Core.Path.{sym, subst}
 use lib.Dec.{T}
 use native.Mathlib.Omega.{arith}
-use borrow.Author.Rules.{rules}
 use Rattle.elementary.proofs.Laws.Decode.{finite_no_nan}
 use Rattle.prices.proofs.Laws.Sizes.{size_number}
 use Rattle.prices.proofs.small_t.order_doubt.Goals as goal

@@ -3,7 +3,6 @@ use mathlib.Core.Path.{sym, subst}
 use lib.Dec.{T}
 use lib.Ieee.{binary64, fits}
 use native.Mathlib.Omega.{arith}
-use borrow.Author.Rules.{rules}
 use Rattle.elementary.proofs.Laws.Decode.{finite_no_nan}
 use Rattle.prices.proofs.Laws.Sizes.{rounded_room, rounded_number, cut_number}
 use Rattle.prices.proofs.small_t.product_error.Goals as goal

@@ -3,7 +3,6 @@ use mathlib.Core.Path.{◌≡◌}
 use Prim.Native.Nat.{◌+◌, ◌/◌, ◌%◌, ◌^◌}
 use native.Mathlib.Omega.{arith}
 use lib.Ieee.{Float, binary64, to_bits}
-use borrow.Author.Rules.{rules}
 use Rattle.elementary.specs.Inside.Errors.{InRange}
 use Rattle.elementary.proofs.Laws.Decode.{finite_no_nan}
 use Rattle.prices.proofs.Laws.Flags.{xor_same}

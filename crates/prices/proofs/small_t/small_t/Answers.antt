@@ -1,7 +1,6 @@
 -- `small_t::small_t` meets its contract: each call is its definition. Assumes nothing.
 use mathlib.Core.Path.{◌∙◌}
 use Rattle.prices.specs.Black.{small_t_inner}
-use borrow.Author.Rules.{rules}
 use Rattle.prices.proofs.small_t.small_t.Goals as goal
 
 pub returns : goal.returns

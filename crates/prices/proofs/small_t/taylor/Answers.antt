@@ -1,5 +1,4 @@
 -- `small_t::taylor` meets its contract, as both ways do. Assumes nothing.
-use borrow.Author.Rules.{rules}
 use Rattle.prices.proofs.small_t.taylor.Goals as goal
 
 pub taylor_by_errors-sum-requires : goal.taylor_by_errors-sum-requires

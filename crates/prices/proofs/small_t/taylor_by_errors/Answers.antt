@@ -2,7 +2,6 @@
 use mathlib.Core.Path.{◌≡◌, sym, ◌∙◌}
 use lib.Dec.{lit<, lit≤}
 use lib.Ieee.{Float, of_bits, of_int}
-use borrow.Author.Rules.{rules}
 use Rattle.elementary.specs.Ops.{◌⊗◌, ◌⊘◌, bits}
 use Rattle.elementary.proofs.Laws.FmaOne.{fma_one}
 use Rattle.prices.specs.Black.{innermost, horner_step, term1, term2, term3, term4, term5, term6, taylor_of}

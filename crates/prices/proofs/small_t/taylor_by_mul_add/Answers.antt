@@ -2,7 +2,6 @@
 use mathlib.Core.Path.{sym, ◌∙◌}
 use Rattle.elementary.proofs.Laws.FmaOne.{fma_one}
 use Rattle.prices.specs.Black.{taylor_of}
-use borrow.Author.Rules.{rules}
 use Rattle.prices.proofs.small_t.taylor_by_mul_add.Goals as goal
 
 pub returns : goal.returns

@@ -1,7 +1,6 @@
 -- `small_t::term3` meets its contract: the steps one after another. Assumes nothing.
 use lib.Ieee.{of_bits, of_int}
 use Rattle.prices.specs.Black.{term3}
-use borrow.Author.Rules.{rules}
 use Rattle.prices.proofs.small_t.term3.Goals as goal
 
 pub returns : goal.returns

@@ -1,6 +1,5 @@
 -- `vega::vega_with` meets its contract: each way out is the arm that the tests before it leave. Assumes nothing.
 use Rattle.prices.specs.Vega.{vega_of}
-use borrow.Author.Rules.{rules}
 use Rattle.prices.proofs.vega.vega_with.Goals as goal
 
 pub returns-then-ax : goal.returns-then-ax
