@@ -1,5 +1,4 @@
 -- `listing::answer_of` meets its contract: under 64 bytes the definition refuses as the code does, from 64 on both solve the record again. Assumes nothing.
-use borrow.Author.Rules.{rules}
 use borrow.Author.Tests.{lt-ltb, le-ltb}
 use lib.ListN.{length}
 use Rattle.solver.specs.Listing.{answer_at}

@@ -1,11 +1,6 @@
 -- `listing::hex_digit` meets its contract: the definition's test is the code's. Assumes nothing.
-use borrow.Author.Rules.{rules}
 use borrow.Author.Tests.{lt-ltb, le-ltb}
 use Rattle.solver.proofs.listing.hex_digit.Goals as goal
-
--- LOST overflow_add_result_2
--- add-result-2 : tie.Need-overflow-add-result-2
--- add-result-2 c = search rules
 
 pub returns-then-d-lt10 : goal.returns-then-d-lt10
 returns-then-d-lt10 c = rw (lt-ltb c.args.d 10 c.if-d-lt10.true)

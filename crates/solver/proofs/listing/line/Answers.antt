@@ -1,5 +1,4 @@
 -- `listing::line` meets its contract: it is `listing::line_under` by document 01's rules. Assumes nothing.
-use borrow.Author.Rules.{rules}
 use Rattle.solver.proofs.listing.line.Goals as goal
 
 pub returns : goal.returns

@@ -1,6 +1,5 @@
 -- `listing::put_byte` meets its contract: one byte stored is a run of one byte there. Assumes nothing.
 use mathlib.Core.Path.{refl}
-use borrow.Author.Rules.{rules}
 use Rattle.solver.proofs.Laws.Overwritten.{put_one}
 use Rattle.solver.proofs.listing.put_byte.Goals as goal
 

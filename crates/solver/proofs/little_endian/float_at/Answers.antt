@@ -1,5 +1,4 @@
 -- `little_endian::float_at` meets its contract: the float whose bits the eight bytes are.
-use borrow.Author.Rules.{rules}
 use Rattle.solver.proofs.little_endian.float_at.Goals as goal
 
 pub returns : goal.returns

@@ -33,15 +33,6 @@ whole bytes start width n i f z =
     let k : width - i ≡ width = omega arith in
     rw (m, k) at f.is
 
--- LOST overflow_add_n_2
--- add-n-2 : tie.Need-overflow-add-n-2 invariant-loop decreases-loop
--- add-n-2 c =
---     omega (
---       arith,
---       room _ _ _ _ _ c.loop-i.invariant c.loop-i-test.true (omega arith),
---       c.shared_slice_known-1.given (c.args.at + (c.loop-i.i - 1)),
---     )
-
 pub loop-i-init : goal.loop-i-init
 loop-i-init c =
     let k : c.args.width - c.args.width ≡ 0 = omega arith in
@@ -50,13 +41,11 @@ loop-i-init c =
 pub overflow_mul-n : goal.overflow_mul-n
 overflow_mul-n c = omega (arith, room _ _ _ _ _ c.loop-i.invariant c.loop-i-test.true (omega arith))
 
-pub overflow_cast-n : goal.overflow_cast-n
-overflow_cast-n c = omega (arith, c.shared_slice_known-1.given (c.args.at + (c.loop-i.i - 1)))
+pub overflow_add-n-in-loop-i : goal.overflow_add-n-in-loop-i
+overflow_add-n-in-loop-i c = omega (arith, room _ _ _ _ _ c.loop-i.invariant c.loop-i-test.true (omega arith))
 
 pub loop-i-preserved : goal.loop-i-preserved
-loop-i-preserved c =
-    down _ _ _ _ _ c.loop-i.invariant c.loop-i-test.true (omega arith)
-    (omega (arith, c.shared_slice_known-1.given (c.args.at + (c.loop-i.i - 1))))
+loop-i-preserved c = down _ _ _ _ _ c.loop-i.invariant c.loop-i-test.true (omega arith) (omega arith)
 
 pub returns : goal.returns
 returns c = whole _ _ _ _ _ c.loop-i.invariant c.loop-i-test.false

@@ -1,11 +1,7 @@
 -- `little_endian::number_at` meets its contract. From byte i on the number's bytes are read: n is their number, and below 256 to their count.
 use mathlib.Core.Path.{◌≡◌}
 use mathlib.Core.List.{List}
-use Prim.Native.Nat.{ℕ, suc, ◌+◌, ◌-◌, ◌*◌, ◌^◌, ◌≤◌, ◌<◌}
-use native.Mathlib.Omega.{arith}
-use native.Mathlib.Nat.{pow-le-pow_right, pow-suc}
-use lib.ListN.{length, get_or}
-use lib.Seq.{drop-cons}
+use Prim.Native.Nat.{ℕ, ◌+◌, ◌-◌, ◌^◌, ◌≤◌, ◌<◌}
 use Rattle.solver.specs.LittleEndian.{number_at}
 use Rattle.solver.proofs.little_endian.number_at.Given as goal
 

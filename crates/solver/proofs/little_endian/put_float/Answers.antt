@@ -1,5 +1,4 @@
 -- `little_endian::put_float` meets its contract: the float's bits as a number of eight bytes.
-use borrow.Author.Rules.{rules}
 use Rattle.solver.proofs.little_endian.put_float.Goals as goal
 
 pub returns : goal.returns
