@@ -2,15 +2,16 @@
 // 64 bytes has a line too.
 #![tactic(auto)]
 
-ghost use Rattle.std.specs.Prelude.{◌≡◌, ◌+◌, ◌*◌, ◌≤◌, ◌<◌, min, length};
+ghost use Rattle.std.specs.Prelude.{◌≡◌, ◌+◌, ◌*◌, ◌≤◌, ◌<◌, min, length, IfOk};
 ghost use Rattle.elementary.specs.RuleSets.{rule_set_0};
 ghost use Rattle.solver.specs.LittleEndian.{overwritten};
 ghost use Rattle.solver.specs.Listing.{line_of};
 ghost use Rattle.relist.specs.Lines.{lines_of, step_of};
 ghost use Rattle.relist.specs.Inside.Steps.{After, End};
 
-use libc::{STDIN_FILENO, STDOUT_FILENO};
 use solver::listing::line;
+use std::io;
+use std::io::{Read, Stderr, Stdin, Stdout, Write};
 
 const RECORD_BYTES: usize = 64;
 
@@ -24,13 +25,6 @@ const BLOCK_RECORDS: u64 = 1024;
 // Nothing says that an input ends, and a proved loop does: at a number that no run reaches.
 const INDEX_END: u64 = 0x8000000000000000;
 
-// How many bytes came, and whether no read failed.
-#[derive(Clone, Copy)]
-struct ReadResult {
-    count: usize,
-    is_ok: bool,
-}
-
 // Where a block leaves the run: whether it goes on, and the next record's number.
 #[derive(Clone, Copy)]
 struct Step {
@@ -38,21 +32,21 @@ struct Step {
     next: u64,
 }
 
-fn main() {
+fn main(rt: HostRuntime) {
     let mut block: [u8; BLOCK_BYTES] = [0; BLOCK_BYTES];
     let mut lines: [u8; LINES_BYTES] = [0; LINES_BYTES];
-    relist(&mut block, &mut lines);
+    relist(rt.stdin(), rt.stdout(), rt.stderr(), &mut block, &mut lines);
 }
 
 // Block after block, up to one that says that the run ends; the last step is answered.
-fn relist(block: &mut [u8], lines: &mut [u8]) -> Step
+fn relist(input: Stdin, output: Stdout, log: Stderr, block: &mut [u8], lines: &mut [u8]) -> Step
     requires block_len { length block.old ≡ 65536 }
     requires in_bounds { 131200 ≤ length lines.old }
     ensures { End result }
 {
     let mut index: u64 = 0;
     while index < INDEX_END {
-        let step = relist_block(index, block, lines);
+        let step = relist_block(index, input, output, log, block, lines);
         if !step.more {
             return step;
         }
@@ -65,30 +59,54 @@ fn relist(block: &mut [u8], lines: &mut [u8]) -> Step
 }
 
 // Reads a block and writes its lines.
-fn relist_block(index: u64, block: &mut [u8], lines: &mut [u8]) -> Step
+fn relist_block(
+    index: u64,
+    input: Stdin,
+    output: Stdout,
+    log: Stderr,
+    block: &mut [u8],
+    lines: &mut [u8],
+) -> Step
     requires index_bound { index < 9223372036854775808 }
     requires block_len { length block.old ≡ 65536 }
     requires in_bounds { 131200 ≤ length lines.old }
     ensures { After index block.new lines.old lines.new result }
 {
-    let result = fill(block);
-    if !result.is_ok {
-        os::fail(b"relist: read");
-        return Step {
-            more: false,
-            next: index,
-        };
+    match fill(input, block) {
+        Ok(n) => {
+            let used = list(index, &block[..n], lines);
+            if !write(output, log, &lines[..used]) {
+                return Step {
+                    more: false,
+                    next: index,
+                };
+            }
+            step_after(index, n)
+        }
+        Err(e) => {
+            fail(log, "read", e);
+            Step {
+                more: false,
+                next: index,
+            }
+        }
     }
-    let n = result.count;
-    let used = list(index, &block[..n], lines);
-    if !io::write_all(STDOUT_FILENO, &lines[..used]) {
-        os::fail(b"relist: write");
-        return Step {
-            more: false,
-            next: index,
-        };
+}
+
+// Writes the bytes, or says why not.
+fn write(mut output: Stdout, log: Stderr, bytes: &[u8]) -> bool {
+    match output.write_all(bytes) {
+        Ok(()) => true,
+        Err(e) => {
+            fail(log, "write", e);
+            false
+        }
     }
-    step_after(index, n)
+}
+
+// Says on standard error what failed, and why. Where that fails too, nobody is left to hear it.
+fn fail(log: Stderr, what: &str, error: io::Error) {
+    let _said = println!(log; "relist: {what}: {error}");
 }
 
 // A block that is not full is the last; behind a full one the numbers go on by its records.
@@ -109,45 +127,27 @@ fn step_after(first: u64, n: usize) -> Step
     }
 }
 
-// Reads until the block is full, the input ends or a read fails.
-fn fill(block: &mut [u8]) -> ReadResult
-    ensures { result.count ≤ length block.new }
+// Reads until the block is full, the input ends or a read fails, and answers how many bytes came.
+fn fill(input: Stdin, block: &mut [u8]) -> io::Result<usize>
+    ensures { IfOk result (λ n. n ≤ length block.new) }
 {
     let mut count: usize = 0;
     while count < block.len() {
-        let more = read_at(block, count);
-        if !more.is_ok {
-            return more;
-        }
-        let n = more.count;
+        let n = read_at(input, block, count)?;
         if n == 0 {
             break;
         }
         count += n;
     }
-    ReadResult {
-        count: count,
-        is_ok: true,
-    }
+    Ok(count)
 }
 
 // One read, to a place of the block.
-fn read_at(block: &mut [u8], at: usize) -> ReadResult
+fn read_at(mut input: Stdin, block: &mut [u8], at: usize) -> io::Result<usize>
     requires { at ≤ length block.old }
-    ensures { at + result.count ≤ length block.new }
+    ensures { IfOk result (λ n. at + n ≤ length block.new) }
 {
-    read_some(&mut block[at..])
-}
-
-fn read_some(part: &mut [u8]) -> ReadResult
-    ensures { result.count ≤ length part.new }
-{
-    let got = libc::read(STDIN_FILENO, part);
-    let count = io::count(got, part);
-    ReadResult {
-        count: count,
-        is_ok: got >= 0,
-    }
+    input.read(&mut block[at..])
 }
 
 // The lines of a block from its start on, and how many bytes they have.

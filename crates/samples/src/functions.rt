@@ -9,9 +9,11 @@ use prices::rational_cubic::Side;
 use prices::{black, intrinsic, rational_cubic, vega};
 use solver::numbers::OUTSIDE_THE_LAYOUT;
 use solver::quote::Kind;
+use std::io;
+use std::io::Stdout;
 
 // How many there are.
-pub const COUNT: u64 = 42;
+pub const COUNT: u64 = 41;
 
 // Where the prices start.
 const PRICES: u64 = 24;
@@ -210,60 +212,63 @@ fn side_of(side: u64) -> Side {
     if side == 0 { Side::Left } else { Side::Right }
 }
 
-pub fn print_name(function: u64) {
+pub fn print_name(output: Stdout, function: u64) -> io::Result<()> {
     match function {
-        0 => print(b"erfc as published"),
-        1 => print(b"bits_of"),
-        2 => print(b"abs"),
-        3 => print(b"max"),
-        4 => print(b"is_zero"),
-        5 => print(b"powi_2"),
-        6 => print(b"floor"),
-        7 => print(b"sqrt"),
-        8 => print(b"mul_add"),
-        9 => print(b"exp"),
-        10 => print(b"ln"),
-        11 => print(b"powf_1_3"),
-        12 => print(b"d_int"),
-        13 => print(b"smoothened_exponential_of_negative_square"),
-        14 => print(b"smoothened_exponential_of_positive_square"),
-        15 => print(b"ab"),
-        16 => print(b"cd"),
-        17 => print(b"pq"),
-        18 => print(b"erfcx_above_threshold"),
-        19 => print(b"erfc"),
-        20 => print(b"erfcx"),
-        21 => print(b"standard_normal_cdf"),
-        22 => print(b"inverse_normal_cdf"),
-        23 => print(b"inverse_f_upper_map"),
-        _ => print_price(function),
+        0 => print(output, "erfc as published"),
+        1 => print(output, "bits_of"),
+        2 => print(output, "abs"),
+        3 => print(output, "max"),
+        4 => print(output, "is_zero"),
+        5 => print(output, "powi_2"),
+        6 => print(output, "floor"),
+        7 => print(output, "sqrt"),
+        8 => print(output, "mul_add"),
+        9 => print(output, "exp"),
+        10 => print(output, "ln"),
+        11 => print(output, "powf_1_3"),
+        12 => print(output, "d_int"),
+        13 => print(output, "smoothened_exponential_of_negative_square"),
+        14 => print(output, "smoothened_exponential_of_positive_square"),
+        15 => print(output, "ab"),
+        16 => print(output, "cd"),
+        17 => print(output, "pq"),
+        18 => print(output, "erfcx_above_threshold"),
+        19 => print(output, "erfc"),
+        20 => print(output, "erfcx"),
+        21 => print(output, "standard_normal_cdf"),
+        22 => print(output, "inverse_normal_cdf"),
+        23 => print(output, "inverse_f_upper_map"),
+        _ => print_price(output, function),
     }
 }
 
-fn print_price(function: u64) {
+fn print_price(output: Stdout, function: u64) -> io::Result<()> {
     match function {
-        24 => print(b"normalised_intrinsic"),
-        25 => print(b"normalised_vega"),
-        26 => print(b"normalised_black_call_with_optimal_use_of_codys_functions"),
-        27 => print(b"normalised_black_call_using_erfcx"),
-        28 => print(b"small_t_expansion_of_normalised_black_call"),
-        29 => print(b"asymptotic_expansion_of_normalised_black_call"),
-        30 => print(b"normalised_black_call"),
-        31 => print(b"normalised_black"),
-        32 => print(b"black"),
-        33 => print(b"rational_cubic_interpolation"),
-        34 => print(b"minimum_rational_cubic_control_parameter"),
-        35 => print(b"rational_cubic_control_parameter"),
-        36 => print(b"convex_rational_cubic_control_parameter"),
-        37 => print(b"solve"),
-        38 => print(b"file"),
-        39 => print(b"recheck"),
-        40 => print(b"read"),
-        41 => print(b"bid_ask"),
-        _ => print(b"?"),
+        24 => print(output, "normalised_intrinsic"),
+        25 => print(output, "normalised_vega"),
+        26 => print(
+            output,
+            "normalised_black_call_with_optimal_use_of_codys_functions",
+        ),
+        27 => print(output, "normalised_black_call_using_erfcx"),
+        28 => print(output, "small_t_expansion_of_normalised_black_call"),
+        29 => print(output, "asymptotic_expansion_of_normalised_black_call"),
+        30 => print(output, "normalised_black_call"),
+        31 => print(output, "normalised_black"),
+        32 => print(output, "black"),
+        33 => print(output, "rational_cubic_interpolation"),
+        34 => print(output, "minimum_rational_cubic_control_parameter"),
+        35 => print(output, "rational_cubic_control_parameter"),
+        36 => print(output, "convex_rational_cubic_control_parameter"),
+        37 => print(output, "solve"),
+        38 => print(output, "file"),
+        39 => print(output, "recheck"),
+        40 => print(output, "read"),
+        41 => print(output, "bid_ask"),
+        _ => print(output, "?"),
     }
 }
 
-pub fn print(text: &[u8]) {
-    io::write_all(1, text);
+pub fn print(output: Stdout, text: &str) -> io::Result<()> {
+    print!(output; "{text}")
 }

@@ -6,7 +6,7 @@ ghost use Rattle.std.specs.Prelude.{◌+◌, ◌<◌, ◌≤◌, length};
 // How many bytes a line has.
 pub const WIDTH: usize = 176;
 
-#[derive(Drop)]
+#[derive(Clone, Copy)]
 pub struct Line {
     pub function: u64,
     pub a: u64,

@@ -6,46 +6,64 @@ mod functions;
 mod list;
 mod records;
 
-ghost use Rattle.std.specs.Prelude.{◌+◌, ◌≤◌, length};
+ghost use Rattle.std.specs.Prelude.{◌+◌, ◌≤◌, length, IfOk};
 
 use functions::print;
+use std::io;
+use std::io::{Read, Stdin, Stdout};
 
 // The lines of one function, and how many of them have the answer that the proved function gives.
-#[derive(Drop)]
+#[derive(Clone, Copy)]
 struct Tally {
     count: u64,
     agree: u64,
 }
 
-fn main() {
+fn main(rt: HostRuntime) -> io::Result<()> {
     let mut buffer: [u8; 524288] = [0; 524288];
-    let n = io::read_full(0, &mut buffer);
-    report(&buffer[..n]);
+    let n = read_full(rt.stdin(), &mut buffer)?;
+    report(rt.stdout(), &buffer[..n])
 }
 
-fn report(text: &[u8]) {
+// Reads until the buffer is full or the input ends, and answers how many bytes came.
+fn read_full(mut input: Stdin, buffer: &mut [u8]) -> io::Result<usize>
+    ensures { IfOk result (λ n. n ≤ length buffer.new) }
+{
+    let mut done: usize = 0;
+    while done < buffer.len() {
+        let n = input.read(&mut buffer[done..])?;
+        if n == 0 {
+            break;
+        }
+        done += n;
+    }
+    Ok(done)
+}
+
+fn report(output: Stdout, text: &[u8]) -> io::Result<()> {
     let mut function: u64 = 0;
     while function < functions::COUNT {
-        report_function(text, function);
+        report_function(output, text, function)?;
         function += 1;
     }
+    Ok(())
 }
 
-fn report_function(text: &[u8], function: u64) {
+fn report_function(output: Stdout, text: &[u8], function: u64) -> io::Result<()> {
     let t = tally_of(text, function);
-    functions::print_name(function);
-    print(b" ");
-    print_tally(t);
-    print(b" agree\n");
+    functions::print_name(output, function)?;
+    print(output, " ")?;
+    print_tally(output, t)?;
+    print(output, " agree\n")
 }
 
 // The count alone where all agree.
-fn print_tally(t: Tally) {
+fn print_tally(output: Stdout, t: Tally) -> io::Result<()> {
     if t.agree != t.count {
-        io::print_decimal(1, t.agree);
-        print(b" of ");
+        print!(output; "{}", t.agree)?;
+        print(output, " of ")?;
     }
-    io::print_decimal(1, t.count);
+    print!(output; "{}", t.count)
 }
 
 fn tally_of(text: &[u8], function: u64) -> Tally {

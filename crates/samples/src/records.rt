@@ -11,7 +11,7 @@ use solver::quote::Kind;
 use solver::solve::implied_volatility_from_a_transformed_rational_guess_with_limited_iterations;
 
 // A word, and document 01's number, 0 for none.
-#[derive(Drop)]
+#[derive(Clone, Copy)]
 pub struct Word {
     pub bits: u64,
     pub number: u64,
