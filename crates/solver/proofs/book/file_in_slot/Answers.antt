@@ -1,0 +1,37 @@
+-- `book::file_in_slot` meets its contract: a solution's bytes stand in slot `used`.
+use mathlib.Core.Path.{◌≡◌, refl}
+use mathlib.Core.List.{List, ◌++◌}
+use Prim.Native.Nat.{ℕ, ◌-◌, ◌*◌}
+use native.Mathlib.Nat.{mul_comm}
+use borrow.Rule.Slice.PartMut.{mid_of, put_mid}
+use lib.IntN.{ℤ}
+use lib.ListN.{length, drop}
+use mir.Syntax.{w32}
+use mir.ValLaws.{to_z-of_z}
+use Rattle.solver.specs.declared.quote.Quote.{Quote}
+use Rattle.solver.specs.declared.answers.ImpliedVolatility.{ImpliedVolatility}
+use Rattle.solver.specs.declared.answers.Solution.{Solution}
+use Rattle.solver.specs.declared.answers.Solution.TheVariants.{Solved}
+use Rattle.solver.specs.Book.{book_record_bytes, file_answer}
+use Rattle.solver.proofs.Laws.Parts.{part_overwritten}
+use borrow.Author.Rules.{rules}
+use Rattle.solver.proofs.book.file_in_slot.Goals as goal
+
+module _ (q : Quote) (limit : ℤ) (book : List ℕ) (used : ℕ) (v : ImpliedVolatility) where
+  abbrev bytes : List ℕ
+  bytes = book_record_bytes q limit v
+
+  bytes_length : length bytes ≡ 64
+  unfolding book_record_bytes
+  bytes_length = refl
+
+  files : (ys : List ℕ) (a w : Solution) → a ≡ w → a ≡ Solved v → ys ≡ bytes ++ drop 64 (mid_of (used * 64) (length book - used * 64) book)
+      → put_mid (used * 64) (length book - used * 64) book ys ≡ (file_answer q limit book used w).book
+  files ys a w e s h = rw (← e, s) (rw (mul_comm 64 used) (part_overwritten (used * 64) book bytes ys (rw bytes_length h)))
+
+pub returns-in-Solved-clause-book_after : goal.returns-in-Solved-clause-book_after
+returns-in-Solved-clause-book_after c =
+    let a = c.args in
+    let z = to_z-of_z w32 a.limit c.ranges.limit in
+    files a.quote a.limit a.book.now a.used _ _ _ _ (rw (c.steps_of.ensures, z) at c.solve_quote.ensures) c.in-Solved.is
+    (rw z at c.put_book_record.ensures)
