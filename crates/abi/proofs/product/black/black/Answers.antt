@@ -1,0 +1,11 @@
+-- `abi::product::black::black` meets its contract: the byte says a kind, or none. Assumes nothing.
+use borrow.Author.Rules.{rules}
+use Rattle.abi.proofs.product.black.black.Goals as goal
+
+pub returns-in-Known : goal.returns-in-Known
+returns-in-Known c =
+    let met = c.before.before in
+    rw (← met.kind_of.ensures, met.option_type-1.given.1) c.black.ensures
+
+pub returns-in-Unknown : goal.returns-in-Unknown
+returns-in-Unknown c = rw (← c.kind_of.ensures, c.enum_told-1.given.1)
