@@ -15,7 +15,6 @@ use lib.Seq.{drop-cons}
 use Rattle.solver.specs.declared.answers.ImpliedVolatility.{ImpliedVolatility}
 use Rattle.solver.specs.LittleEndian.{bytes_of, float_bytes, part, number_at}
 use Rattle.solver.specs.Book.{same_bytes, agrees}
-use borrow.Author.Rules.{rules}
 use Rattle.solver.proofs.book.agrees.Goals as goal
 
 -- the lowest byte and what stands above it

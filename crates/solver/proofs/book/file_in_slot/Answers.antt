@@ -14,7 +14,6 @@ use Rattle.solver.specs.declared.answers.Solution.{Solution}
 use Rattle.solver.specs.declared.answers.Solution.TheVariants.{Solved}
 use Rattle.solver.specs.Book.{book_record_bytes, file_answer}
 use Rattle.solver.proofs.Laws.Parts.{part_overwritten}
-use borrow.Author.Rules.{rules}
 use Rattle.solver.proofs.book.file_in_slot.Goals as goal
 
 module _ (q : Quote) (limit : ℤ) (book : List ℕ) (used : ℕ) (v : ImpliedVolatility) where

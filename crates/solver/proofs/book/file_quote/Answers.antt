@@ -15,7 +15,6 @@ use Rattle.solver.specs.declared.answers.Filing.TheVariants.{Refused as NotFiled
 use Rattle.elementary.specs.declared.rule_set.RuleSet.{RuleSet}
 use Rattle.solver.specs.Solve.{input_number, solve_of, steps_of}
 use Rattle.solver.specs.Book.{file_answer, file_of}
-use borrow.Author.Rules.{rules}
 use Rattle.solver.proofs.book.file_quote.Goals as goal
 
 module _ (set : RuleSet) (q : Quote) (limit : ℤ) (book : List ℕ) (used : ℕ) where

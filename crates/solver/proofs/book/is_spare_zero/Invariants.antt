@@ -1,12 +1,7 @@
 -- `book::is_spare_zero` meets its contract. What is asked of the bytes from 51 on is what is asked of those from i on.
-use mathlib.Core.Path.{◌≡◌, refl, ◌∙◌}
-use mathlib.Core.Bool.{true, false}
+use mathlib.Core.Path.{◌≡◌}
 use mathlib.Core.List.{List}
-use Prim.Native.Nat.{ℕ, suc, ◌+◌, ◌-◌, ◌≤◌, ◌<◌}
-use native.Mathlib.Omega.{arith}
-use borrow.Author.Tests.{ne_eqb}
-use lib.ListN.{length, get_or}
-use lib.Seq.{drop-cons}
+use Prim.Native.Nat.{ℕ, ◌-◌, ◌≤◌}
 use Rattle.solver.specs.LittleEndian.{part}
 use Rattle.solver.specs.Book.{all_zero}
 use Rattle.solver.proofs.book.is_spare_zero.Given as goal

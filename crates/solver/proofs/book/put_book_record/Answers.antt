@@ -4,7 +4,7 @@ use mathlib.Core.List.{List, [], ◌∷◌, ◌++◌}
 use Prim.Native.Nat.{ℕ, ◌<◌, ◌%◌}
 use native.Mathlib.Omega.{arith}
 use lib.IntN.{ℤ}
-use lib.ListN.{length, drop, replicate}
+use lib.ListN.{drop, replicate}
 use mir.Syntax.{w32}
 use mir.ValLaws.{to_z-of_z}
 use Rattle.solver.specs.declared.quote.Quote.{Quote}
@@ -12,7 +12,6 @@ use Rattle.solver.specs.declared.answers.ImpliedVolatility.{ImpliedVolatility}
 use Rattle.solver.specs.LittleEndian.{bytes_of, float_bytes, overwritten}
 use Rattle.solver.specs.Book.{kind_byte, limit_bits, book_record_bytes}
 use Rattle.solver.proofs.Laws.Parts.{behind}
-use borrow.Author.Rules.{rules}
 use Rattle.solver.proofs.book.put_book_record.Goals as goal
 
 one_byte : (n : ℕ) → n < 256 → n % 256 ≡ n

@@ -1,5 +1,4 @@
 -- `book::read` meets its contract: the slot where the record exists, and the empty part.
-use borrow.Author.Rules.{rules}
 use Rattle.solver.proofs.book.Slots.{read_existing, read_none}
 use Rattle.solver.proofs.book.read.Goals as goal
 

@@ -1,5 +1,4 @@
 -- `book::recheck_under` meets its contract: the record's slot is checked where it exists.
-use borrow.Author.Rules.{rules}
 use Rattle.solver.proofs.book.Slots.{recheck_existing, recheck_none}
 use Rattle.solver.proofs.book.recheck_under.Goals as goal
 
