@@ -1,5 +1,4 @@
 -- `bid_ask::bid_ask` meets its contract: it is `solve_range_with_trails` by document 01's rules. Assumes nothing.
-use borrow.Author.Rules.{rules}
 use mir.Syntax.{w32}
 use mir.ValLaws.{to_z-of_z}
 use Rattle.solver.proofs.bid_ask.bid_ask.Goals as goal

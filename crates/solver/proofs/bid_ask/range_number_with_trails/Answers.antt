@@ -1,7 +1,6 @@
 -- `bid_ask::range_number_with_trails` meets its contract: each way out is the first check that refuses. Assumes nothing.
 use mathlib.Core.Path.{refl}
 use native.Mathlib.Omega.{arith}
-use borrow.Author.Rules.{rules}
 use Rattle.solver.specs.BidAsk.{range_number_with_trails}
 use Rattle.solver.proofs.Laws.Checks.{refuses, passes, last, short, long}
 use Rattle.solver.proofs.bid_ask.range_number_with_trails.Goals as goal

@@ -1,5 +1,4 @@
 -- `bid_ask::solve_range` meets its contract: a number, or both ends. Assumes nothing.
-use borrow.Author.Rules.{rules}
 use Rattle.solver.proofs.Laws.Ranges.{refused, ends}
 use Rattle.solver.proofs.bid_ask.solve_range.Goals as goal
 

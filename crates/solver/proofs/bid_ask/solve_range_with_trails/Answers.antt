@@ -1,5 +1,4 @@
 -- `bid_ask::solve_range_with_trails` meets its contract: a number, or both ends with their trails. Assumes nothing.
-use borrow.Author.Rules.{rules}
 use Rattle.solver.proofs.Laws.Ranges.{refused_with_trails, ends_with_trails}
 use Rattle.solver.proofs.bid_ask.solve_range_with_trails.Goals as goal
 

@@ -1,7 +1,6 @@
 -- `guess::compute_f_lower_map_and_first_two_derivatives` meets its contract: each way out is the arm that the test leaves. Assumes nothing.
 use lib.Ieee.{of_bits, of_int}
 use Rattle.solver.specs.Guess.{lower_map}
-use borrow.Author.Rules.{rules}
 use Rattle.solver.proofs.guess.compute_f_lower_map_and_first_two_derivatives.Goals as goal
 
 pub returns-then-is_below_horizon : goal.returns-then-is_below_horizon

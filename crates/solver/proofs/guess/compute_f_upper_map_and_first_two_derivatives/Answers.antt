@@ -1,6 +1,5 @@
 -- `guess::compute_f_upper_map_and_first_two_derivatives` meets its contract: each way out is the arm that the tests before it leave. Assumes nothing.
 use Rattle.solver.specs.Guess.{upper_map}
-use borrow.Author.Rules.{rules}
 use Rattle.solver.proofs.guess.compute_f_upper_map_and_first_two_derivatives.Goals as goal
 
 pub returns-then-is_below_horizon : goal.returns-then-is_below_horizon

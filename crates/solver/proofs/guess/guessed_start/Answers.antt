@@ -1,10 +1,7 @@
 -- `guess::guessed_start` meets its contract: the case met and the test say which start it is. Assumes nothing.
-use mathlib.Core.Path.{◌≡◌, refl}
-use mathlib.Core.Bool.{cond}
-use lib.Ieee.{lt}
-use Rattle.solver.specs.Guess.{with_value, lower_start, upper_start, guessed_start}
+use mathlib.Core.Path.{refl}
+use Rattle.solver.specs.Guess.{with_value}
 use Rattle.solver.proofs.Laws.PriceAndVega.{price_is, refusal_is, vega_is}
-use borrow.Author.Rules.{rules}
 use Rattle.solver.proofs.guess.guessed_start.Goals as goal
 
 pub price_and_vega_at-requires : goal.price_and_vega_at-requires

@@ -1,6 +1,5 @@
 -- `guess::inverse_f_lower_map` meets its contract: each way out is the arm that the tests before it leave. Assumes nothing.
 use Rattle.solver.specs.Guess.{inverse_f_lower_map}
-use borrow.Author.Rules.{rules}
 use Rattle.solver.proofs.guess.inverse_f_lower_map.Goals as goal
 
 pub returns-then-is_below_horizon : goal.returns-then-is_below_horizon

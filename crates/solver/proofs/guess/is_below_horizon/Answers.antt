@@ -1,5 +1,4 @@
 -- `guess::is_below_horizon` meets its contract: the call of `abs` is its definition. Assumes nothing.
-use borrow.Author.Rules.{rules}
 use Rattle.solver.proofs.guess.is_below_horizon.Goals as goal
 
 pub returns : goal.returns

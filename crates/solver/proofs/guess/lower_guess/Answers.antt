@@ -1,6 +1,5 @@
 -- `guess::lower_guess` meets its contract: the variant met and the test say which case it is. Assumes nothing.
 use Rattle.solver.specs.Guess.{on_value, lower_guess}
-use borrow.Author.Rules.{rules}
 use Rattle.solver.proofs.guess.lower_guess.Goals as goal
 
 pub returns-then-f : goal.returns-then-f

@@ -1,5 +1,4 @@
 -- `guess::lower_map_f` meets its contract: each way out is the arm that the test leaves. Assumes nothing.
-use borrow.Author.Rules.{rules}
 use Rattle.solver.proofs.guess.lower_map_f.Goals as goal
 
 pub returns-then-is_below_horizon : goal.returns-then-is_below_horizon

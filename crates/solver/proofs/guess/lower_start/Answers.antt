@@ -3,7 +3,6 @@ use mathlib.Core.Path.{refl}
 use Rattle.solver.specs.Step.{lower_step, general_step}
 use Rattle.solver.specs.Guess.{with_value, lower_start}
 use Rattle.solver.proofs.Laws.PriceAndVega.{price_is, refusal_is, vega_is}
-use borrow.Author.Rules.{rules}
 use Rattle.solver.proofs.guess.lower_start.Goals as goal
 
 pub price_and_vega_at-requires : goal.price_and_vega_at-requires

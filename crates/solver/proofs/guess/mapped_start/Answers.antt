@@ -1,7 +1,6 @@
 -- `guess::mapped_start` meets its contract: each way out is the arm that the tests before it leave. Assumes nothing.
 use mathlib.Core.Path.{refl}
 use Rattle.solver.specs.Guess.{mapped_start}
-use borrow.Author.Rules.{rules}
 use Rattle.solver.proofs.guess.mapped_start.Goals as goal
 
 pub returns-then-beta : goal.returns-then-beta

@@ -1,6 +1,5 @@
 -- `guess::middle_guess` meets its contract: each call is its definition. Assumes nothing.
 use Rattle.solver.specs.Guess.{middle_guess}
-use borrow.Author.Rules.{rules}
 use Rattle.solver.proofs.guess.middle_guess.Goals as goal
 
 pub returns : goal.returns

@@ -1,6 +1,5 @@
 -- `guess::normalised_start` meets its contract: the target is the arm that the test leaves. Assumes nothing.
 use Rattle.solver.specs.Guess.{normalised_start}
-use borrow.Author.Rules.{rules}
 use Rattle.solver.proofs.guess.normalised_start.Goals as goal
 use Rattle.solver.proofs.guess.normalised_start.Goals.{then-mapped_x, else-mapped_x}
 

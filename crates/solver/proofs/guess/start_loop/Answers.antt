@@ -1,7 +1,6 @@
 -- `guess::start_loop` meets its contract: the variant met says which case it is. Assumes nothing.
 use mathlib.Core.Path.{refl}
 use Rattle.solver.specs.Guess.{with_value}
-use borrow.Author.Rules.{rules}
 use Rattle.solver.proofs.guess.start_loop.Goals as goal
 
 pub returns-in-Value : goal.returns-in-Value

@@ -1,7 +1,6 @@
 -- `guess::tail_start` meets its contract: each way out is the arm that the test leaves, and the step of a branch is found by computing. Assumes nothing.
 use Rattle.solver.specs.Step.{upper_step, general_step}
 use Rattle.solver.specs.Guess.{tail_start}
-use borrow.Author.Rules.{rules}
 use Rattle.solver.proofs.guess.tail_start.Goals as goal
 
 pub start_loop-requires : goal.start_loop-requires

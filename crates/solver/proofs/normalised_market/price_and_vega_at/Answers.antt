@@ -1,6 +1,5 @@
 -- `normalised_market::price_and_vega_at` meets its contract: the exponentials are those of x. Assumes nothing.
 use Rattle.prices.proofs.Laws.Exponentials.{at_own_exponentials}
-use borrow.Author.Rules.{rules}
 use Rattle.solver.proofs.normalised_market.price_and_vega_at.Goals as goal
 
 pub returns : goal.returns

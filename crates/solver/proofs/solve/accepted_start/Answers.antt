@@ -1,13 +1,6 @@
 -- `solve::accepted_start` meets its contract: each way out is the arm that the tests before it leave. Assumes nothing.
-use mathlib.Core.Path.{◌≡◌, refl}
-use mathlib.Core.Bool.{cond}
-use lib.Ieee.{lt}
-use Rattle.elementary.specs.Ops.{◌⊖◌, ◌⊗◌, ◌⊘◌, +0}
-use Rattle.elementary.specs.Methods.{max_of}
-use Rattle.prices.specs.Inputs.{negated}
-use Rattle.solver.specs.Guess.{normalised_start}
-use Rattle.solver.specs.Solve.{over_expiry, accepted_start}
-use borrow.Author.Rules.{rules}
+use mathlib.Core.Path.{refl}
+use Rattle.solver.specs.Solve.{accepted_start}
 use Rattle.solver.proofs.solve.accepted_start.Goals as goal
 use Rattle.solver.proofs.solve.accepted_start.Goals.{then-times, else-times}
 

@@ -1,6 +1,5 @@
 -- `solve::loop_target` meets its contract: a run of no steps says whether there is a loop, and what it seeks. Assumes nothing.
 use mathlib.Core.Bool.{false}
-use borrow.Author.Rules.{rules}
 use Rattle.solver.specs.Solve.{start_of, target_of, solve_keeping}
 use Rattle.solver.proofs.Laws.SolveCases.{no_loop, sought, refused}
 use Rattle.solver.proofs.solve.loop_target.Goals as goal

@@ -1,6 +1,5 @@
 -- `solve::market_number` meets its contract: each way out is the first test that fails. Assumes nothing.
 use Rattle.solver.specs.Solve.{market_number}
-use borrow.Author.Rules.{rules}
 use Rattle.solver.proofs.solve.market_number.Goals as goal
 
 pub returns-then-is_positive_normal-3 : goal.returns-then-is_positive_normal-3

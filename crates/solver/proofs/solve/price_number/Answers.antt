@@ -1,5 +1,4 @@
 -- `solve::price_number` meets its contract. Assumes nothing.
-use borrow.Author.Rules.{rules}
 use Rattle.solver.proofs.solve.price_number.Goals as goal
 
 pub returns-then-is_finite : goal.returns-then-is_finite

@@ -1,11 +1,10 @@
 -- `solve::run` meets its contract: its loop keeps what it has reached, and each way out is the run's end. Assumes nothing.
-use mathlib.Core.Path.{◌≡◌, refl, ap, ◌∙◌}
+use mathlib.Core.Path.{◌≡◌, refl, ◌∙◌}
 use mathlib.Core.List.{[], ◌∷◌, ◌++◌}
-use Prim.Native.Nat.{◌-◌, ◌+◌, ◌*◌, ◌≤◌}
-use lib.ListN.{length, length-append, length-take, length-drop}
+use Prim.Native.Nat.{◌-◌, ◌*◌}
+use lib.ListN.{length-append}
 use native.Mathlib.Omega.{arith}
-use borrow.Author.Rules.{rules}
-use Rattle.solver.proofs.Laws.LoopInvariant.{Invariant, no_record, one_more, run_advances, stops, runs_out, next_advances, next_by_refusal, next_by_test, ended}
+use Rattle.solver.proofs.Laws.LoopInvariant.{no_record, one_more, run_advances, stops, runs_out, next_advances, next_by_refusal, next_by_test, ended}
 use Rattle.solver.proofs.Laws.Parts.{part_overwritten}
 use Rattle.solver.specs.declared.state.State.{State}
 use Rattle.solver.specs.declared.state.StepResult.{StepResult}

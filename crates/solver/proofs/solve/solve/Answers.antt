@@ -1,8 +1,7 @@
 -- `solve::solve` meets its contract: a number, 21, or what the start leads to. Assumes nothing.
 use mathlib.Core.Path.{refl}
-use mathlib.Core.Logic.{inl, inr, ⊎_elim}
+use mathlib.Core.Logic.{inl, inr}
 use lib.ListN.{length}
-use borrow.Author.Rules.{rules}
 use Rattle.solver.specs.Solve.{result_from}
 use Rattle.solver.proofs.Laws.LoopInvariant.{no_record}
 use Rattle.solver.proofs.Laws.SolveCases.{by_number, by_trail, by_start, leads_to, Long, short, long, room}

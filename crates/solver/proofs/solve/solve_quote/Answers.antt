@@ -1,5 +1,4 @@
 -- `solve::solve_quote` meets its contract: it is `solve::solve` that keeps no trail. Assumes nothing.
-use borrow.Author.Rules.{rules}
 use Rattle.solver.specs.Solve.{solve_keeping, solve_of}
 use Rattle.solver.proofs.solve.solve_quote.Goals as goal
 

@@ -1,5 +1,4 @@
 -- `solve::solve_quote_with_trail` meets its contract: it is `solve::solve` that keeps a trail. Assumes nothing.
-use borrow.Author.Rules.{rules}
 use Rattle.solver.specs.Solve.{solve_with_trail}
 use Rattle.solver.proofs.solve.solve_quote_with_trail.Goals as goal
 

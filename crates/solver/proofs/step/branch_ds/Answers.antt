@@ -1,5 +1,4 @@
 -- `step::branch_ds` meets its contract: the branch's number decides. Assumes nothing.
-use borrow.Author.Rules.{rules}
 use borrow.Author.Tests.{ne_eqb}
 use Rattle.solver.proofs.step.branch_ds.Goals as goal
 

@@ -1,6 +1,5 @@
 -- `step::general_ds` meets its contract, operation by operation. Assumes nothing.
 use Rattle.solver.specs.Step.{general_ds}
-use borrow.Author.Rules.{rules}
 use Rattle.solver.proofs.step.general_ds.Goals as goal
 
 pub returns : goal.returns

@@ -1,6 +1,5 @@
 -- `step::hh3_of` meets its contract, operation by operation. Assumes nothing.
 use lib.Ieee.{of_bits, of_int}
-use borrow.Author.Rules.{rules}
 use Rattle.solver.proofs.step.hh3_of.Goals as goal
 
 pub returns : goal.returns

@@ -1,6 +1,5 @@
 -- `step::is_close` meets its contract, operation by operation. Assumes nothing.
 use Rattle.solver.specs.Step.{is_close}
-use borrow.Author.Rules.{rules}
 use Rattle.solver.proofs.step.is_close.Goals as goal
 
 pub returns : goal.returns

@@ -4,7 +4,6 @@ use mathlib.Core.Bool.{◌||◌}
 use lib.Ieee.{le, of_bits, of_int}
 use Rattle.elementary.specs.Ops.{+0}
 use Rattle.solver.specs.Step.{lower_ds}
-use borrow.Author.Rules.{rules}
 use Rattle.solver.proofs.step.lower_ds.Goals as goal
 use Rattle.solver.proofs.step.lower_ds.Goals.{then-b, else-b}
 

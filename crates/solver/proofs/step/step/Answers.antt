@@ -1,6 +1,5 @@
 -- `step::step` meets its contract: what the calls answer, in the record and in the state. Assumes nothing.
 use Rattle.solver.proofs.Laws.PriceAndVega.{price_is, refusal_is, vega_is}
-use borrow.Author.Rules.{rules}
 use Rattle.solver.proofs.step.step.Goals as goal
 
 pub price_and_vega_at-requires : goal.price_and_vega_at-requires

@@ -4,7 +4,6 @@ use mathlib.Core.Bool.{◌||◌}
 use lib.Ieee.{le, of_bits, of_int}
 use Rattle.elementary.specs.Ops.{MIN}
 use Rattle.solver.specs.Step.{upper_ds}
-use borrow.Author.Rules.{rules}
 use Rattle.solver.proofs.step.upper_ds.Goals as goal
 use Rattle.solver.proofs.step.upper_ds.Goals.{then-b-b_max, else-b-b_max}
 

@@ -7,7 +7,6 @@ use mathlib.Core.List.{List, ◌++◌}
 use Prim.Native.Nat.{ℕ}
 use lib.ListN.{drop}
 use Rattle.solver.specs.declared.state.Record.{Record}
-use borrow.Author.Rules.{rules}
 use Rattle.solver.proofs.trail.put_record.Goals as goal
 
 module _ (r : Record) (l₀ l₁ l₂ l₃ l₄ l₅ l₆ : List ℕ) where
