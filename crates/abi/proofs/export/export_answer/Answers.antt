@@ -1,15 +1,7 @@
--- `abi::export::export_answer` meets its contract: the variant says which case it is, and 0 over 0 is a NaN. Assumes nothing.
-use borrow.Author.Rules.{rules}
+-- `abi::export::export_answer` meets its contract: 0 over 0 is a NaN. Assumes nothing.
 use lib.Ieee.{div, of_bits}
 use Rattle.abi.proofs.export.export_answer.Goals as goal
 
-pub returns-in-Value : goal.returns-in-Value
-returns-in-Value c =
-    let variant = c.answer-1.given.1 in
-    (rw (variant, c.bits_of.ensures), rw variant)
-
-pub returns-in-Refused : goal.returns-in-Refused
+pub returns-in-Refused-clause-value : goal.returns-in-Refused-clause-value
 unfolding div of_bits
-returns-in-Refused c =
-    let variant = c.answer-in-Refused-1.given.1 in
-    (rw (variant, c.bits_of-in-Refused.ensures), rw variant)
+returns-in-Refused-clause-value c = rw (c.in-Refused.is, c.bits_of-in-Refused.ensures)
