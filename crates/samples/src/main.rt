@@ -21,8 +21,12 @@ struct Tally {
 
 fn main(rt: HostRuntime) -> io::Result<()> {
     let mut buffer: [u8; 524288] = [0; 524288];
-    let n = read_full(rt.stdin(), &mut buffer)?;
-    report(rt.stdout(), &buffer[..n])
+    replay(rt.stdin(), rt.stdout(), &mut buffer)
+}
+
+fn replay(input: Stdin, output: Stdout, buffer: &mut [u8]) -> io::Result<()> {
+    let n = read_full(input, buffer)?;
+    report(output, &buffer[..n])
 }
 
 // Reads until the buffer is full or the input ends, and answers how many bytes came.
