@@ -20,8 +20,13 @@ struct Tally {
 }
 
 fn main(rt: HostRuntime) -> io::Result<()> {
-    let mut buffer: [u8; 524288] = [0; 524288];
+    let mut buffer = empty_buffer();
     replay(rt.stdin(), rt.stdout(), &mut buffer)
+}
+
+// A function of its own, so that no proof has to count through the zeros.
+fn empty_buffer() -> [u8; 524288] {
+    [0; 524288]
 }
 
 fn replay(input: Stdin, output: Stdout, buffer: &mut [u8]) -> io::Result<()> {
