@@ -1,9 +1,7 @@
 -- `fill` meets its contract: what came so far lies within the block, whose length stays, and what is left of it falls. Assumes nothing.
 use mathlib.Core.Path.{◌≡◌}
 use Prim.Native.Nat.{◌-◌, ◌≤◌}
-use native.Mathlib.Omega.{arith}
 use lib.ListN.{length}
-use borrow.Author.Rules.{rules}
 use Rattle.relist.proofs.fill.Given as goal
 
 abbrev pub invariant-loop-count : goal.invariant-loop-count

@@ -1,5 +1,4 @@
 -- `line_at` meets its contract: the part from the place on comes back with the line at its start. Assumes nothing.
-use borrow.Author.Rules.{rules}
 use Rattle.relist.proofs.Laws.Parts.{line_in_part}
 use Rattle.relist.proofs.line_at.Goals as goal
 

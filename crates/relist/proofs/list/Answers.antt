@@ -1,9 +1,6 @@
 -- `list` meets its contract: after each record its line stands behind those before it, and what is left of the block has the other lines. Assumes nothing.
-use Prim.Native.Nat.{◌-◌}
 use native.Mathlib.Omega.{arith}
-use lib.ListN.{length}
-use borrow.Author.Rules.{rules}
-use Rattle.relist.proofs.Laws.Listing.{SoFar, none_yet, one_more, all, short_line}
+use Rattle.relist.proofs.Laws.Listing.{none_yet, one_more, all, short_line}
 use Rattle.relist.proofs.list.Goals as goal
 
 pub loop-at-init : goal.loop-at-init

@@ -1,12 +1,7 @@
 -- `relist` meets its contract: a number below 2^63 goes on by 1,024 or the run ends, so what is left up to 2^63 falls. Assumes nothing.
 use mathlib.Core.Path.{◌≡◌}
-use mathlib.Core.Logic.{inl, inr}
-use Prim.Native.Nat.{◌+◌, ◌-◌, ◌%◌}
-use native.Mathlib.Omega.{arith}
+use Prim.Native.Nat.{◌-◌, ◌%◌}
 use lib.ListN.{length}
-use borrow.Author.Tests.{not-true, not-false}
-use borrow.Author.Rules.{rules}
-use Rattle.relist.proofs.Laws.Steps.{goes_on, stop}
 use Rattle.relist.proofs.relist.Given as goal
 
 abbrev pub invariant-loop-index : goal.invariant-loop-index

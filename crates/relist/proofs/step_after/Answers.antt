@@ -1,7 +1,6 @@
 -- `step_after` meets its contract: 65,536 bytes are 1,024 records. Assumes nothing.
 use mathlib.Core.Path.{◌≡◌, sym}
 use native.Mathlib.Omega.{arith}
-use borrow.Author.Rules.{rules}
 use Rattle.relist.proofs.Laws.Steps.{after_last, after_full}
 use Rattle.relist.proofs.step_after.Goals as goal
 

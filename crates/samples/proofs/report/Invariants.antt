@@ -1,7 +1,5 @@
 -- `samples::report` is safe and ends: the function's number counts up to how many there are. Assumes nothing.
 use Prim.Native.Nat.{◌-◌}
-use native.Mathlib.Omega.{arith}
-use borrow.Author.Rules.{rules}
 use Rattle.samples.proofs.report.Given as goal
 
 abbrev pub decreases-loop-function : goal.decreases-loop-function

@@ -1,8 +1,5 @@
 -- `samples::tally_of` is safe and ends: each line read lies within the text, and both counts are at most the lines passed.
 use Prim.Native.Nat.{◌≤◌, ◌-◌}
-use mathlib.Core.Logic.{⊎_elim}
-use native.Mathlib.Omega.{arith}
-use borrow.Author.Rules.{rules}
 use Rattle.samples.proofs.tally_of.Given as goal
 
 abbrev pub invariant-loop-i : goal.invariant-loop-i

@@ -1,7 +1,5 @@
 -- `samples::list::word_at` is safe and ends: the index stays within the sixteen digits, and the word's last fifteen leave room for one more.
 use Prim.Native.Nat.{◌≤◌, ◌-◌}
-use native.Mathlib.Omega.{arith}
-use borrow.Author.Rules.{rules}
 use Rattle.samples.proofs.list.word_at.Given as goal
 
 abbrev pub invariant-loop-i : goal.invariant-loop-i

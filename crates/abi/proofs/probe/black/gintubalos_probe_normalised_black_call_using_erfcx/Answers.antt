@@ -1,5 +1,4 @@
 -- `abi::probe::black::gintubalos_probe_normalised_black_call_using_erfcx` meets its contract, by what its callees ensure. Assumes nothing.
-use borrow.Author.Rules.{rules}
 use Rattle.abi.proofs.probe.black.gintubalos_probe_normalised_black_call_using_erfcx.Goals as goal
 
 pub returns : goal.returns

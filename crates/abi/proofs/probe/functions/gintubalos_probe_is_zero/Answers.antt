@@ -1,5 +1,4 @@
 -- `abi::probe::functions::gintubalos_probe_is_zero` meets its contract: the cast makes 1 of true and 0 of false, as the clause does. Assumes nothing.
-use borrow.Author.Rules.{rules}
 use mathlib.Core.Path.{◌≡◌, refl}
 use mathlib.Core.Bool.{Bool, true, false, cond}
 use mir.Val.{bool_byte}

@@ -1,5 +1,4 @@
 -- `abi::probe::normal_distribution::gintubalos_probe_standard_normal_cdf` meets its contract, by what its callees ensure. Assumes nothing.
-use borrow.Author.Rules.{rules}
 use Rattle.abi.proofs.probe.normal_distribution.gintubalos_probe_standard_normal_cdf.Goals as goal
 
 pub returns : goal.returns

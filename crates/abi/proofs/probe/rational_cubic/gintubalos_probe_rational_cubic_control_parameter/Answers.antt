@@ -1,5 +1,4 @@
 -- `abi::probe::rational_cubic::gintubalos_probe_rational_cubic_control_parameter` meets its contract, by what its callees ensure. Assumes nothing.
-use borrow.Author.Rules.{rules}
 use Rattle.abi.proofs.probe.rational_cubic.gintubalos_probe_rational_cubic_control_parameter.Goals as goal
 
 pub returns : goal.returns

@@ -1,5 +1,4 @@
 -- `abi::probe::rational_cubic::gintubalos_probe_rational_cubic_interpolation` meets its contract, by what its callees ensure. Assumes nothing.
-use borrow.Author.Rules.{rules}
 use Rattle.abi.proofs.probe.rational_cubic.gintubalos_probe_rational_cubic_interpolation.Goals as goal
 
 pub returns-clause-value : goal.returns-clause-value

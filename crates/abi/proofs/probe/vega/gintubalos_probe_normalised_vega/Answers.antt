@@ -1,5 +1,4 @@
 -- `abi::probe::vega::gintubalos_probe_normalised_vega` meets its contract, by what its callees ensure. Assumes nothing.
-use borrow.Author.Rules.{rules}
 use Rattle.abi.proofs.probe.vega.gintubalos_probe_normalised_vega.Goals as goal
 
 pub returns : goal.returns

@@ -1,5 +1,4 @@
 -- `abi::product::black::gintubalos_black` meets its contract, by what its callees ensure. Assumes nothing.
-use borrow.Author.Rules.{rules}
 use Rattle.abi.proofs.product.black.gintubalos_black.Goals as goal
 
 pub returns-clause-value : goal.returns-clause-value

@@ -1,8 +1,7 @@
 -- `abi::product::book::gintubalos_read` meets its contract: where the record exists its place is inside the book. Assumes nothing.
-use mathlib.Core.Path.{◌≡◌, refl, sym, ◌∙◌}
+use mathlib.Core.Path.{sym, ◌∙◌}
 use Prim.Native.Nat.{◌*◌, ◌≤◌}
 use native.Mathlib.Omega.{arith}
-use borrow.Author.Rules.{rules}
 use borrow.Author.Tests.{ne_eqb}
 use lib.ListN.{length}
 use Rattle.solver.proofs.book.Slots.{inside, exists}

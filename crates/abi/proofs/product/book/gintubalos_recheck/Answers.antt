@@ -1,5 +1,4 @@
 -- The exported recheck meets its contract, by what its callees ensure. Assumes nothing.
-use borrow.Author.Rules.{rules}
 use Rattle.abi.proofs.product.book.gintubalos_recheck.Goals as goal
 
 pub returns-clause-value : goal.returns-clause-value

@@ -1,5 +1,4 @@
 -- The exported wrapper meets its contract, by what its callees ensure. Assumes nothing.
-use borrow.Author.Rules.{rules}
 use Rattle.abi.proofs.product.solve.gintubalos_implied_volatility_from_a_transformed_rational_guess.Goals as goal
 
 pub returns-clause-value : goal.returns-clause-value

@@ -1,5 +1,4 @@
 -- The exported target meets its contract, by what its callees ensure. Assumes nothing.
-use borrow.Author.Rules.{rules}
 use Rattle.abi.proofs.product.solve.gintubalos_target.Goals as goal
 
 pub returns-clause-value : goal.returns-clause-value
