@@ -9,6 +9,7 @@ pub mod Loops
 pub mod PriceAndVega
 pub mod LoopInvariant
 pub mod Checks
+pub mod BySet
 pub mod SolveCases
 pub mod Ranges
 -- Lists and bytes.

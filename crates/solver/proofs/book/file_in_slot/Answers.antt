@@ -1,5 +1,6 @@
 -- `book::file_in_slot` meets its contract: a solution's bytes stand in slot `used`.
 use mathlib.Core.Path.{◌≡◌, refl}
+use Rattle.solver.specs.Solve.{solve_of, steps_of}
 use mathlib.Core.List.{List, ◌++◌}
 use Prim.Native.Nat.{ℕ, ◌-◌, ◌*◌}
 use native.Mathlib.Nat.{mul_comm}
@@ -14,6 +15,7 @@ use Rattle.solver.specs.declared.answers.Solution.{Solution}
 use Rattle.solver.specs.declared.answers.Solution.TheVariants.{Solved}
 use Rattle.solver.specs.Book.{book_record_bytes, file_answer}
 use Rattle.solver.proofs.Laws.Parts.{part_overwritten}
+use Rattle.solver.proofs.Laws.BySet.{by_set}
 use Rattle.solver.proofs.book.file_in_slot.Goals as goal
 
 module _ (q : Quote) (limit : ℤ) (book : List ℕ) (used : ℕ) (v : ImpliedVolatility) where
@@ -32,5 +34,5 @@ pub returns-in-Solved-clause-book_after : goal.returns-in-Solved-clause-book_aft
 returns-in-Solved-clause-book_after c =
     let a = c.args in
     let z = to_z-of_z w32 a.limit c.ranges.limit in
-    files a.quote a.limit a.book.now a.used _ _ _ _ (rw (c.steps_of.ensures, z) at c.solve_quote.ensures) c.in-Solved.is
+    files a.quote a.limit a.book.now a.used _ _ _ _ (by_set (λ s. c.solve_quote.result ≡ (solve_of s a.quote (steps_of a.limit)).answer) a.set (rw (c.steps_of.ensures, z) at c.solve_quote.ensures) refl) c.in-Solved.is
     (rw z at c.put_book_record.ensures)

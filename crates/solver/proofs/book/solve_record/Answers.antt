@@ -1,5 +1,5 @@
 -- `book::solve_record` meets its contract: what is read of the record is what the definition reads.
-use mathlib.Core.Path.{◌≡◌}
+use mathlib.Core.Path.{◌≡◌, refl}
 use mathlib.Core.Bool.{true, false}
 use mathlib.Core.List.{List}
 use Prim.Native.Nat.{ℕ}
@@ -14,6 +14,7 @@ use Rattle.solver.specs.declared.answers.Solution.TheVariants.{Refused}
 use Rattle.solver.specs.Solve.{solve_of}
 use Rattle.solver.specs.LittleEndian.{number_at}
 use Rattle.solver.specs.Book.{kind_of, quote_in, steps_from, in_layout, solve_record}
+use Rattle.solver.proofs.Laws.BySet.{by_set}
 use Rattle.solver.proofs.book.solve_record.Goals as goal
 
 module _ (set : RuleSet) (r : List ℕ) (k : Kind) (e : k ≡ kind_of (get_or r 48 0)) where
@@ -31,7 +32,8 @@ module _ (set : RuleSet) (r : List ℕ) (k : Kind) (e : k ≡ kind_of (get_or r 
 
 pub returns-then-in_layout : goal.returns-then-in_layout
 returns-then-in_layout c =
-    again _ c.args.r.now _ c.kind_of.ensures _ c.in-Known.is (rw c.in_layout.ensures at c.if-in_layout.true) _ _ _ _ c.quote_in.ensures c.number_at.ensures c.steps_from-limit.ensures c.solve_quote.ensures
+    again _ c.args.r.now _ c.kind_of.ensures _ c.in-Known.is (rw c.in_layout.ensures at c.if-in_layout.true) _ _ _ _ c.quote_in.ensures c.number_at.ensures c.steps_from-limit.ensures
+    (by_set (λ s. c.solve_quote.result ≡ (solve_of s c.quote_in.result c.steps_from-limit.result).answer) c.args.set c.solve_quote.ensures refl)
 
 pub returns-else-in_layout : goal.returns-else-in_layout
 returns-else-in_layout c = outside _ c.args.r.now _ c.kind_of.ensures _ c.in-Known.is (rw c.in_layout.ensures at c.if-in_layout.false)
