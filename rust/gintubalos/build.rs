@@ -1,4 +1,4 @@
-//! Links the archive of the proved functions, which `rt staticlib abi` writes. GINTUBALOS_ABI is the folder that has it;
+//! Links the archive of the proved functions, which `scripts/archive` writes. GINTUBALOS_ABI is the folder that has it;
 //! its default is target/staticlib of the repository.
 
 use std::{env, path::PathBuf, process::exit};
@@ -12,7 +12,7 @@ fn main() {
     let archive = folder.join("libabi.a");
     println!("cargo:rerun-if-changed={}", archive.display());
     if !archive.is_file() {
-        println!("cargo:warning=no {}: run `rt staticlib abi` first, or set GINTUBALOS_ABI", archive.display());
+        println!("cargo:warning=no {}: run `scripts/archive` first, or set GINTUBALOS_ABI", archive.display());
         exit(1);
     }
     // For the test that links it to a C program.

@@ -5,7 +5,7 @@
 //! subnormal numbers neither flushed to zero nor taken for zero. Each call looks at the control word, and where it is
 //! another one sets the default for the call and puts it back, so that the bits do not depend on what C code has set.
 //!
-//! The archive, libabi.a, is what `rt staticlib abi` writes. It is looked for in the folder that the environment variable
+//! The archive, libabi.a, is what `scripts/archive` writes. It is looked for in the folder that the environment variable
 //! GINTUBALOS_ABI names when the crate is built, else in target/staticlib of the repository that the crate stands in. A
 //! program that has the crate as a git dependency names the folder, once, in its .cargo/config.toml:
 //!
