@@ -4,10 +4,6 @@ use native.Mathlib.Omega.{arith}
 use Rattle.relist.proofs.Laws.Steps.{after_last, after_full}
 use Rattle.relist.proofs.step_after.Goals as goal
 
--- LOST overflow_add_t4
--- add-t4 : tie.Need-overflow-add-t4
--- add-t4 c = search rules
-
 pub returns-then-n-lt-BLOCK_BYTES : goal.returns-then-n-lt-BLOCK_BYTES
 returns-then-n-lt-BLOCK_BYTES c = sym (after_last _ _ c.if-n-lt-BLOCK_BYTES.true)
 
