@@ -95,7 +95,7 @@ pub fn write_steps(
     table: &Table,
 ) -> io::Result<()> {
     let Some(target) = target else {
-        return writeln!(out, "No step was completed: there is no loop.\n");
+        return writeln!(out, "No step was completed: the answer comes without a loop.\n");
     };
     output::float(out, "target", target)?;
     writeln!(out)?;

@@ -70,7 +70,9 @@ fn steps() {
     let (status, out, _) = output(&words("solve 10 100 95 1 call --steps --limit 2147483647"));
     assert!(status == 0 && out.contains("\n3     0.18") && out.contains("step test"), "{out}");
     // Without a loop, and refused inside one: the completed steps are shown.
-    assert!(output(&words("solve 0 100 95 1 put --steps")).1.contains("No step was completed: there is no loop."));
+    assert!(output(&words("solve 0 100 95 1 put --steps"))
+        .1
+        .contains("No step was completed: the answer comes without a loop."));
     assert!(output(&words("solve 10 100 95 1 call --steps --limit 0")).1.contains("\n\nNo step was completed.\n"));
     let (status, out, err) = output(&[&["solve", "--steps", "--limit", "20"], &SEVEN[..]].concat());
     assert_eq!(status, 7);
@@ -151,10 +153,10 @@ fn steps_of_range() {
     assert!(out.lines().all(|line| line.chars().count() <= 80), "{out}");
     // One end without a loop, and both.
     let (_, out, _) = output(&words("range 4 10 100 95 1 call --steps"));
-    assert!(out.contains("At the low price, 4.0:\n\nNo step was completed: there is no loop.\n"), "{out}");
+    assert!(out.contains("At the low price, 4.0:\n\nNo step was completed: the answer comes without a loop.\n"), "{out}");
     assert!(out.contains(TABLE) && out.ends_with(BELOW), "{out}");
     let (_, out, _) = output(&words("range -1 150 100 200 1 call --steps"));
-    assert!(!out.contains("The loop seeks") && out.matches("there is no loop").count() == 2, "{out}");
+    assert!(!out.contains("The loop seeks") && out.matches("without a loop").count() == 2, "{out}");
 }
 
 const REFUSED_END: &str = "            low                              high
@@ -296,7 +298,8 @@ fn usage() {
     for line in ["--help", "-h", "help", "solve --help", "range --help", "list --help", "file -h"] {
         let (status, out, err) = output(&words(line));
         assert_eq!((status, &*err), (0, ""));
-        assert!(out.contains("0x3FF0000000000000") && out.contains("  31  the low price is above"), "{out}");
+        assert!(out.contains("0x3FF0000000000000") && out.contains("  24  the record's kind"), "{out}");
+        assert!(out.contains("  31  the low price is above"), "{out}");
         assert!(out.contains("EXPIRY is in years") && out.lines().all(|line| line.chars().count() <= 104), "{out}");
     }
     // Of one command alone.

@@ -44,7 +44,7 @@ impl Refusal {
             23 => "the record number is not below the used count, or that count is above the book's whole slots",
             24 => "the record's kind, branch, ending or spare bytes are outside the layout",
             31 => "the low price is above the high price",
-            _ => "a number that no call refuses with",
+            _ => "a number that document 01 does not have",
         }
     }
 }

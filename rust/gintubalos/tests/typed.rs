@@ -113,7 +113,7 @@ fn words() {
     let one = Refusal { number: 7, steps: 1 };
     let error: Box<dyn Error> = Box::new(one);
     assert_eq!(error.to_string(), format!("refused with 7: {} (after 1 completed step)", one.meaning()));
-    assert_eq!(Refusal { number: 9, steps: 0 }.meaning(), "a number that no call refuses with");
+    assert_eq!(Refusal { number: 9, steps: 0 }.meaning(), "a number that document 01 does not have");
     assert_eq!(format!("{} {:>5}|", -Call, -Put), "Put  Call|");
 }
 
