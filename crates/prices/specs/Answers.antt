@@ -1,20 +1,29 @@
--- What a case of an answer says: document 01's number, 0 where there is none, and the value. Definitions only.
-use Rattle.std.specs.Prelude.{Bool, true, false, ℕ, Float}
+-- What an answer says: a price, or what is refused, by document 01's number. Definitions only.
+use Rattle.std.specs.Prelude.{ℕ, Float, Result, Ok, Err}
 use Rattle.std.specs.Float.{nan}
-use Rattle.prices.specs.declared.answer.Answer.{Answer}
-use Rattle.prices.specs.declared.answer.Answer.TheVariants.{Value, Refused}
+use Rattle.prices.specs.declared.refusal.Refusal.{Refusal}
+use Rattle.prices.specs.declared.refusal.Refusal.TheVariants.{Forward, Strike, Expiry, Sigma, InfinitePlace, OutsideAsymptoticRegion, TTooLarge}
+
+-- a price, or a refusal
+abbrev pub Answer : Type 0
+Answer = Result Float Refusal
 
 -- document 01's number
-abbrev pub number_of : Answer → ℕ
-number_of (Value v) = 0
-number_of (Refused n) = n
+abbrev pub number : Refusal → ℕ
+number Forward = 2
+number Strike = 3
+number Expiry = 4
+number Sigma = 5
+number InfinitePlace = 6
+number OutsideAsymptoticRegion = 7
+number TTooLarge = 8
 
--- whether there is a value
-abbrev pub is_value : Answer → Bool
-is_value (Value v) = true
-is_value (Refused n) = false
+-- 0 where there is a price
+abbrev pub number_of : Answer → ℕ
+number_of (Ok v) = 0
+number_of (Err refusal) = number refusal
 
 -- a refusal has none; NaN stands for it
 abbrev pub value_of : Answer → Float
-value_of (Value v) = v
-value_of (Refused n) = nan
+value_of (Ok v) = v
+value_of (Err refusal) = nan

@@ -1,5 +1,5 @@
 -- black.rs, operation by operation, and `black` of mod.rs. Definitions only.
-use Rattle.std.specs.Prelude.{Bool, cond, ◌&&◌, ◌||◌, ℕ, zero, suc, Float}
+use Rattle.std.specs.Prelude.{Bool, cond, ◌&&◌, ◌||◌, ℕ, zero, suc, Float, Ok, Err}
 use Rattle.std.specs.Float.{binary64}
 use Rattle.std.specs.Float.Ieee.{neg, lt, le}
 use Rattle.elementary.specs.Ops.{◌⊕◌, ◌⊖◌, ◌⊗◌, ◌⊘◌, bits, float, +0, half, one, two, SQRT_2PI, mul_add, MIN_POSITIVE, MAX, MIN}
@@ -11,8 +11,8 @@ use Rattle.elementary.specs.Ln.{ln_of}
 use Rattle.elementary.specs.Cody.{erfc_of, erfcx_of}
 use Rattle.prices.specs.declared.inputs.OptionType.{OptionType}
 use Rattle.prices.specs.declared.inputs.OptionType.TheVariants.{Call}
-use Rattle.prices.specs.declared.answer.Answer.{Answer}
-use Rattle.prices.specs.declared.answer.Answer.TheVariants.{Value, Refused}
+use Rattle.prices.specs.Answers.{Answer}
+use Rattle.prices.specs.declared.refusal.Refusal.TheVariants.{Forward, Strike, Expiry, Sigma, OutsideAsymptoticRegion, TTooLarge}
 use Rattle.prices.specs.Inputs.{negated, times}
 use Rattle.prices.specs.Intrinsic.{intrinsic_of}
 use Rattle.prices.specs.Vega.{ONE_OVER_SQRT_TWO_PI}
@@ -104,9 +104,9 @@ small_t_inner h t =
     let exp_term = exp_of (neg half ⊗ (h2 ⊕ t2)) in
     max_of (ONE_OVER_SQRT_TWO_PI ⊗ exp_term ⊗ y_diff) +0
 
--- small_t_expansion_of_normalised_black_call: 8 from the bound on
+-- small_t_expansion_of_normalised_black_call: refused from the bound on
 unfoldable pub small_t_of : Float → Float → Answer
-small_t_of h t = let inner = small_t_inner h t in cond (le SMALL_T t) (Refused 8) (Value inner)
+small_t_of h t = let inner = small_t_inner h t in cond (le SMALL_T t) (Err TTooLarge) (Ok inner)
 
 -- y after n more terms from i on, with the sign of the next term: the sum gets ± the term, which is then multiplied by z² over (2 i + 2) (2 i + 3).
 -- The Rust also carries a factorial along, which nothing reads.
@@ -134,9 +134,9 @@ asymptotic_inner h t =
 abbrev pub is_outside_asymptotic_region : Float → Float → Bool
 is_outside_asymptotic_region h t = lt H_LARGE h || le (abs_of h ⊖ abs_of H_LARGE ⊕ SMALL_T) t
 
--- asymptotic_expansion_of_normalised_black_call: 7 outside of its region
+-- asymptotic_expansion_of_normalised_black_call: refused outside of its region
 unfoldable pub asymptotic_of : Float → Float → Answer
-asymptotic_of h t = let inner = asymptotic_inner h t in cond (is_outside_asymptotic_region h t) (Refused 7) (Value inner)
+asymptotic_of h t = let inner = asymptotic_inner h t in cond (is_outside_asymptotic_region h t) (Err OutsideAsymptoticRegion) (Ok inner)
 
 -- normalised_black_call_using_erfcx
 unfoldable pub using_erfcx_of : Float → Float → Float
@@ -153,20 +153,20 @@ unfoldable pub region_of : RuleSet → Float → Float → Answer
 region_of set x s =
     let asymptotic = asymptotic_of (x ⊘ s) (half ⊗ s) in
     let small_t = small_t_of (x ⊘ s) (half ⊗ s) in
-    let codys = Value (codys_of set x s) in
+    let codys = Ok (codys_of set x s) in
     cond (is_asymptotic x s) asymptotic (cond (lt (half ⊗ s) SMALL_T) small_t codys)
 
 -- out of the money. DENORMALISATION_CUTOFF is 0, and stands where the Rust has it
 unfoldable pub out_of_the_money : RuleSet → Float → Float → Answer
 out_of_the_money set x s =
-    let intrinsic = Value (intrinsic_of x Call) in
+    let intrinsic = Ok (intrinsic_of x Call) in
     let region = region_of set x s in
     cond (le s (abs_of x ⊗ +0)) intrinsic region
 
 -- the sum of an amount and a value; a refusal passes up
 abbrev pub plus : Float → Answer → Answer
-plus amount (Value b) = Value (amount ⊕ b)
-plus amount (Refused n) = Refused n
+plus amount (Ok b) = Ok (amount ⊕ b)
+plus amount (Err refusal) = Err refusal
 
 -- In the money the price is the intrinsic value and the price at −x, which is out of the money: the rule calls itself once, and the depth falls.
 unfoldable pub call_at : ℕ → RuleSet → Float → Float → Answer
@@ -196,8 +196,8 @@ is_finite x = le MIN x && le x MAX
 
 -- the price is the factor times the normalised one, and not below the intrinsic value; a refusal passes up
 abbrev pub price_from_normalised : Float → Float → Answer → Answer
-price_from_normalised intrinsic factor (Value b) = Value (max_of intrinsic (factor ⊗ b))
-price_from_normalised intrinsic factor (Refused n) = Refused n
+price_from_normalised intrinsic factor (Ok b) = Ok (max_of intrinsic (factor ⊗ b))
+price_from_normalised intrinsic factor (Err refusal) = Err refusal
 
 -- black's price out of the money, of an accepted input
 unfoldable pub price_of : RuleSet → Float → Float → Float → Float → OptionType → Answer
@@ -220,5 +220,5 @@ unfoldable pub black_of : RuleSet → Float → Float → Float → Float → Op
 black_of set forward strike sigma expiry kind =
     let price = black_at 1 set forward strike sigma expiry kind in
     cond (is_positive_normal forward)
-    (cond (is_positive_normal strike) (cond (is_finite sigma) (cond (is_positive_normal expiry) price (Refused 4)) (Refused 5)) (Refused 3))
-    (Refused 2)
+    (cond (is_positive_normal strike) (cond (is_finite sigma) (cond (is_positive_normal expiry) price (Err Expiry)) (Err Sigma)) (Err Strike))
+    (Err Forward)

@@ -1,6 +1,6 @@
 -- What layer 2 promises of its rules: which number comes out and where, and that a depth of 1 is the Rust's own recursion. Statements alone; the proofs stand in
 -- proofs/Promised. A number is document 01's, and 0 where there is a price.
-use Rattle.std.specs.Prelude.{◌≡◌, ◌⊎◌, true, false, cond, ◌&&◌, ◌||◌, ℕ, Float}
+use Rattle.std.specs.Prelude.{◌≡◌, ◌⊎◌, true, false, cond, ◌&&◌, ◌||◌, ℕ, Float, is_ok}
 use Rattle.std.specs.Float.Ieee.{neg, lt, le}
 use Rattle.elementary.specs.Ops.{◌⊖◌, +0}
 use Rattle.elementary.specs.declared.rule_set.RuleSet.{RuleSet}
@@ -8,7 +8,7 @@ use Rattle.elementary.specs.Methods.{max_of}
 use Rattle.prices.specs.declared.inputs.OptionType.{OptionType}
 use Rattle.prices.specs.declared.inputs.OptionType.TheVariants.{Call}
 use Rattle.prices.specs.Inputs.{negated, times}
-use Rattle.prices.specs.Answers.{number_of, is_value}
+use Rattle.prices.specs.Answers.{number_of}
 use Rattle.prices.specs.Intrinsic.{intrinsic_of}
 use Rattle.prices.specs.Black.{SMALL_T, small_t_of, is_outside_asymptotic_region, asymptotic_of, out_of_the_money, plus, call_of, is_positive_normal, is_finite, price_of, black_of}
 use Rattle.prices.specs.RationalCubic.{is_infinite, interpolation_of}
@@ -42,12 +42,12 @@ BlackNumbers = (set : RuleSet) (forward strike sigma expiry : Float) (kind : Opt
 
 -- Where the number is 0 there is a value: nothing is refused with 0.
 pub record ZeroIsAValue : Type 0 where
-  pub small_t : (h t : Float) → number_of (small_t_of h t) ≡ 0 → is_value (small_t_of h t) ≡ true
-  pub asymptotic : (h t : Float) → number_of (asymptotic_of h t) ≡ 0 → is_value (asymptotic_of h t) ≡ true
-  pub cubic : (x x_l x_r y_l y_r d_l d_r r : Float) → number_of (interpolation_of x x_l x_r y_l y_r d_l d_r r) ≡ 0 → is_value (interpolation_of x x_l x_r y_l y_r d_l d_r r) ≡ true
-  pub call : (set : RuleSet) (x s : Float) → number_of (call_of set x s) ≡ 0 → is_value (call_of set x s) ≡ true
+  pub small_t : (h t : Float) → number_of (small_t_of h t) ≡ 0 → is_ok (small_t_of h t) ≡ true
+  pub asymptotic : (h t : Float) → number_of (asymptotic_of h t) ≡ 0 → is_ok (asymptotic_of h t) ≡ true
+  pub cubic : (x x_l x_r y_l y_r d_l d_r r : Float) → number_of (interpolation_of x x_l x_r y_l y_r d_l d_r r) ≡ 0 → is_ok (interpolation_of x x_l x_r y_l y_r d_l d_r r) ≡ true
+  pub call : (set : RuleSet) (x s : Float) → number_of (call_of set x s) ≡ 0 → is_ok (call_of set x s) ≡ true
   pub black : (set : RuleSet) (forward strike sigma expiry : Float) (kind : OptionType)
-      → number_of (black_of set forward strike sigma expiry kind) ≡ 0 → is_value (black_of set forward strike sigma expiry kind) ≡ true
+      → number_of (black_of set forward strike sigma expiry kind) ≡ 0 → is_ok (black_of set forward strike sigma expiry kind) ≡ true
 
 -- ---- which number comes first
 

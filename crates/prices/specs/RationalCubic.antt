@@ -1,13 +1,13 @@
 -- rational_cubic.rs, operation by operation. Definitions only.
-use Rattle.std.specs.Prelude.{Bool, false, not, cond, ◌&&◌, ◌||◌, Float}
+use Rattle.std.specs.Prelude.{Bool, false, not, cond, ◌&&◌, ◌||◌, Float, Ok, Err}
 use Rattle.std.specs.Float.Ieee.{lt, le, eq}
 use Rattle.std.specs.Float.{inf}
 use Rattle.elementary.specs.Ops.{◌⊕◌, ◌⊖◌, ◌⊗◌, ◌⊘◌, bits, float, +0, half, one, mul_add, EPSILON, MIN}
 use Rattle.elementary.specs.Methods.{abs_of, max_of, is_zero}
 use Rattle.prices.specs.declared.rational_cubic.Side.{Side}
 use Rattle.prices.specs.declared.rational_cubic.Side.TheVariants.{Left, Right}
-use Rattle.prices.specs.declared.answer.Answer.{Answer}
-use Rattle.prices.specs.declared.answer.Answer.TheVariants.{Value, Refused}
+use Rattle.prices.specs.Answers.{Answer}
+use Rattle.prices.specs.declared.refusal.Refusal.TheVariants.{InfinitePlace}
 
 -- the least control parameter, −(1 − √EPSILON)
 abbrev pub MINIMUM : Float
@@ -33,13 +33,13 @@ curve_of h t y_l y_r d_l d_r r =
     let curved = numerator ⊘ denominator in
     cond (lt r MAXIMUM) curved straight
 
--- rational_cubic_interpolation: 6 for an infinite place, the middle of both values where the places lie within EPSILON
+-- rational_cubic_interpolation: refused for an infinite place, the middle of both values where the places lie within EPSILON
 unfoldable pub interpolation_of : Float → Float → Float → Float → Float → Float → Float → Float → Answer
 interpolation_of x x_l x_r y_l y_r d_l d_r r =
     let h = x_r ⊖ x_l in
     let curve = curve_of h ((x ⊖ x_l) ⊘ h) y_l y_r d_l d_r r in
     let middle = half ⊗ (y_l ⊕ y_r) in
-    cond (is_infinite x || (is_infinite x_l || is_infinite x_r)) (Refused 6) (cond (le (abs_of h) EPSILON) (Value middle) (Value curve))
+    cond (is_infinite x || (is_infinite x_l || is_infinite x_r)) (Err InfinitePlace) (cond (le (abs_of h) EPSILON) (Ok middle) (Ok curve))
 
 -- both slopes have the secant's sign, or are 0
 abbrev pub is_monotonic : Float → Float → Float → Bool

@@ -1,18 +1,17 @@
-// The normalised Black price: black.rs, line by line, and `black` of mod.rs. A function whose name ends
-// in `_under` takes the rule set; the Rust's own names stand for rule set 0.
+// The normalised Black price: black.rs, line by line, and `black` of mod.rs. What a rule set concerns
+// takes it first.
 ghost use Rattle.std.specs.Prelude.{◌≡◌};
 ghost use Rattle.std.specs.Float.Ieee.{neg};
-ghost use Rattle.elementary.specs.RuleSets.{rule_set_0};
-ghost use Rattle.elementary.specs.Ops.{◌⊗◌, half, one, mul_add};
-ghost use Rattle.prices.specs.Black.{bell as bell_of, small_t_of, series_terms, series_of, asymptotic_inner, asymptotic_of, using_erfcx_of, codys_of, is_outside_asymptotic_region, is_asymptotic, out_of_the_money, plus as plus_of, call_at, call_of, normalised_black_of, is_positive_normal, is_finite, price_from_normalised, price_of, black_at, black_of};
-ghost use Rattle.prices.specs.Inside.Exponentials.{up_of, down_of, two_b_with};
+ghost use Rattle.elementary.specs.Ops.{◌⊗◌, ◌⊘◌, half, one, mul_add};
+ghost use Rattle.prices.specs.Black.{bell as bell_of, small_t_of, series_terms, series_of, asymptotic_inner, asymptotic_of, using_erfcx_of, codys_of, is_outside_asymptotic_region, is_asymptotic, call_at, call_of, normalised_black_of, is_positive_normal, is_finite, price_of, black_at, black_of};
+ghost use Rattle.prices.specs.Inside.Exponentials.{two_b_with, codys_with, out_of_the_money_with};
 ghost use Rattle.prices.specs.Inside.Regions.{region_at};
 
-use crate::answer::Answer;
 use crate::constants::{MINUS_FRAC_1_SQRT_2, SMALL_T, SQRT_2PI};
+use crate::exponentials::{Exponentials, WhereRead, bell};
 use crate::inputs::OptionType;
 use crate::intrinsic::normalised_intrinsic;
-use crate::refusals;
+use crate::refusal::Refusal;
 use crate::small_t::small_t;
 use elementary::cody::{erfc_under, erfcx};
 use elementary::exp::exp;
@@ -20,69 +19,63 @@ use elementary::limits::{MAX, MIN, MIN_POSITIVE};
 use elementary::ln::ln;
 use elementary::methods::{abs, max};
 use elementary::mul_add::mul_add;
-use elementary::rule_set::{RULE_SET_0, RuleSet};
+use elementary::rule_set::RuleSet;
 use elementary::sqrt::sqrt;
 
 // The threshold of the asymptotic expansion, and H_LARGE.
 const H_LARGE: f64 = -10.0;
 
-pub(crate) const CODYS_THRESHOLD: f64 = 0.46875;
-
-// exp(−(h² + t²) / 2).
-pub(crate) fn bell(h: f64, t: f64) -> f64
-    ensures { result ≡ bell_of h t }
-{
-    exp(-0.5 * (h * h + t * t))
-}
+const CODYS_THRESHOLD: f64 = 0.46875;
 
 // ---- optimal use of Cody's functions
 
-// Twice the price; each exponential is computed where it is read.
-fn two_b(set: RuleSet, x: f64, h: f64, t: f64, q1: f64, q2: f64) -> f64
-    ensures { result ≡ two_b_with set (up_of x) (down_of x) (bell_of h t) q1 q2 }
+// Twice the price: from the threshold on erfcx stands for erfc.
+fn two_b<E: Exponentials>(set: RuleSet, e: &E, q1: f64, q2: f64) -> f64
+    ensures { result ≡ two_b_with set (E.up e.now) (E.down e.now) (E.bell e.now) q1 q2 }
 {
     if q1 < CODYS_THRESHOLD {
-        let first = exp(0.5 * x) * erfc_under(set, q1);
+        let first = e.up() * erfc_under(set, q1);
         if q2 < CODYS_THRESHOLD {
-            return first - exp(-0.5 * x) * erfc_under(set, q2);
+            return first - e.down() * erfc_under(set, q2);
         }
-        return first - bell(h, t) * erfcx(q2);
+        return first - e.bell() * erfcx(q2);
     }
     if q2 < CODYS_THRESHOLD {
-        return bell(h, t) * erfcx(q1) - exp(-0.5 * x) * erfc_under(set, q2);
+        return e.bell() * erfcx(q1) - e.down() * erfc_under(set, q2);
     }
-    bell(h, t) * (erfcx(q1) - erfcx(q2))
+    e.bell() * (erfcx(q1) - erfcx(q2))
 }
 
-pub fn normalised_black_call_with_optimal_use_of_codys_functions_under(
+fn codys<E: Exponentials>(set: RuleSet, x: f64, s: f64, e: &E) -> f64
+    requires { E.bell e.now ≡ bell_of (x ⊘ s) (half ⊗ s) }
+    ensures { result ≡ codys_with set (E.up e.now) (E.down e.now) x s }
+{
+    let h = x / s;
+    let t = 0.5 * s;
+    let q1 = MINUS_FRAC_1_SQRT_2 * (h + t);
+    let q2 = MINUS_FRAC_1_SQRT_2 * (h - t);
+    max(0.5 * two_b(set, e, q1, q2), 0.0)
+}
+
+pub fn normalised_black_call_with_optimal_use_of_codys_functions(
     set: RuleSet,
     x: f64,
     s: f64,
 ) -> f64
     ensures { result ≡ codys_of set x s }
 {
-    let h = x / s;
-    let t = 0.5 * s;
-    let q1 = MINUS_FRAC_1_SQRT_2 * (h + t);
-    let q2 = MINUS_FRAC_1_SQRT_2 * (h - t);
-    max(0.5 * two_b(set, x, h, t, q1, q2), 0.0)
-}
-
-pub fn normalised_black_call_with_optimal_use_of_codys_functions(x: f64, s: f64) -> f64
-    ensures { result ≡ codys_of rule_set_0 x s }
-{
-    normalised_black_call_with_optimal_use_of_codys_functions_under(RULE_SET_0, x, s)
+    codys(set, x, s, &WhereRead { x, s })
 }
 
 // ---- the expansion for a small t
 
-pub fn small_t_expansion_of_normalised_black_call(h: f64, t: f64) -> Answer
+pub fn small_t_expansion_of_normalised_black_call(h: f64, t: f64) -> Result<f64, Refusal>
     ensures { result ≡ small_t_of h t }
 {
     if t >= SMALL_T {
-        return Answer::Refused(refusals::T_TOO_LARGE);
+        return Err(Refusal::TTooLarge);
     }
-    Answer::Value(small_t(h, t, bell(h, t)))
+    Ok(small_t(h, t, bell(h, t)))
 }
 
 // ---- the asymptotic sum
@@ -126,7 +119,7 @@ fn exponent(h: f64, t: f64) -> f64
     mul_add(-0.5, square, -0.5 * t * t)
 }
 
-pub(crate) fn asymptotic(h: f64, t: f64) -> f64
+fn asymptotic(h: f64, t: f64) -> f64
     ensures { result ≡ asymptotic_inner h t }
 {
     let diff_y = series(h + t) - series(h - t);
@@ -135,19 +128,19 @@ pub(crate) fn asymptotic(h: f64, t: f64) -> f64
 }
 
 // Whether the asymptotic expansion answers document 01's 7.
-pub(crate) fn is_outside_asymptotic_region(h: f64, t: f64) -> bool
+fn is_outside_asymptotic_region(h: f64, t: f64) -> bool
     ensures { result ≡ is_outside_asymptotic_region h t }
 {
     h > H_LARGE || t >= abs(h) - abs(H_LARGE) + SMALL_T
 }
 
-pub fn asymptotic_expansion_of_normalised_black_call(h: f64, t: f64) -> Answer
+pub fn asymptotic_expansion_of_normalised_black_call(h: f64, t: f64) -> Result<f64, Refusal>
     ensures { result ≡ asymptotic_of h t }
 {
     if is_outside_asymptotic_region(h, t) {
-        return Answer::Refused(refusals::OUTSIDE_ASYMPTOTIC_REGION);
+        return Err(Refusal::OutsideAsymptoticRegion);
     }
-    Answer::Value(asymptotic(h, t))
+    Ok(asymptotic(h, t))
 }
 
 pub fn normalised_black_call_using_erfcx(h: f64, t: f64) -> f64
@@ -167,8 +160,8 @@ fn is_asymptotic(x: f64, s: f64) -> bool
 }
 
 // What gives the price out of the money.
-#[derive(Clone, Copy)]
-pub(crate) enum Region {
+#[derive(Clone, Copy, Debug, PartialEq, Eq)]
+enum Region {
     Intrinsic,
     Asymptotic,
     SmallT,
@@ -177,91 +170,63 @@ pub(crate) enum Region {
 
 // Where s is 0 or below and x is finite, the price is the intrinsic value; at an infinite x the product
 // is NaN and the test fails.
-pub(crate) fn region_of(x: f64, s: f64) -> Region
+fn region_of(x: f64, s: f64) -> Region
     ensures { result ≡ region_at x s }
 {
     if s <= abs(x) * 0.0 {
-        return Region::Intrinsic;
-    }
-    if is_asymptotic(x, s) {
-        return Region::Asymptotic;
-    }
-    if 0.5 * s < SMALL_T {
+        Region::Intrinsic
+    } else if is_asymptotic(x, s) {
+        Region::Asymptotic
+    } else if 0.5 * s < SMALL_T {
         Region::SmallT
     } else {
         Region::Codys
     }
 }
 
-fn out_of_the_money(set: RuleSet, x: f64, s: f64) -> Answer
-    ensures { result ≡ out_of_the_money set x s }
+pub(crate) fn out_of_the_money<E: Exponentials>(
+    set: RuleSet,
+    x: f64,
+    s: f64,
+    e: &E,
+) -> Result<f64, Refusal>
+    requires { E.bell e.now ≡ bell_of (x ⊘ s) (half ⊗ s) }
+    ensures { result ≡ out_of_the_money_with set (E.up e.now) (E.down e.now) x s }
 {
     match region_of(x, s) {
-        Region::Intrinsic => Answer::Value(normalised_intrinsic(x, OptionType::Call)),
+        Region::Intrinsic => Ok(normalised_intrinsic(x, OptionType::Call)),
         Region::Asymptotic => asymptotic_expansion_of_normalised_black_call(x / s, 0.5 * s),
-        Region::SmallT => small_t_expansion_of_normalised_black_call(x / s, 0.5 * s),
-        Region::Codys => Answer::Value(
-            normalised_black_call_with_optimal_use_of_codys_functions_under(set, x, s),
-        ),
-    }
-}
-
-// The sum of an amount and a value; a refusal passes up.
-fn plus(amount: f64, price: Answer) -> Answer
-    ensures { result ≡ plus_of amount price }
-{
-    match price {
-        Answer::Value(b) => Answer::Value(amount + b),
-        Answer::Refused(n) => Answer::Refused(n),
-    }
-}
-
-// The same answer, made of its parts: passed on whole, it would be copied byte by byte.
-fn rebuild(answer: Answer) -> Answer
-    ensures { result ≡ answer }
-{
-    match answer {
-        Answer::Value(b) => Answer::Value(b),
-        Answer::Refused(n) => Answer::Refused(n),
+        Region::SmallT => Ok(small_t(x / s, 0.5 * s, e.bell())),
+        Region::Codys => Ok(codys(set, x, s, e)),
     }
 }
 
 // In the money the price at −x is out of the money: the call to itself is made once.
-fn call_at(set: RuleSet, depth: u64, x: f64, s: f64) -> Answer
+fn call_at(set: RuleSet, depth: u64, x: f64, s: f64) -> Result<f64, Refusal>
     ensures { result ≡ call_at depth set x s }
 {
-    if depth == 0 {
-        return out_of_the_money(set, x, s);
+    if depth > 0 && x > 0.0 {
+        let mapped = call_at(set, depth - 1, -x, s)?;
+        return Ok(normalised_intrinsic(x, OptionType::Call) + mapped);
     }
-    if x > 0.0 {
-        let intrinsic = normalised_intrinsic(x, OptionType::Call);
-        return plus(intrinsic, call_at(set, depth - 1, -x, s));
-    }
-    rebuild(out_of_the_money(set, x, s))
+    out_of_the_money(set, x, s, &WhereRead { x, s })
 }
 
-pub fn normalised_black_call_under(set: RuleSet, x: f64, s: f64) -> Answer
+pub fn normalised_black_call(set: RuleSet, x: f64, s: f64) -> Result<f64, Refusal>
     ensures { result ≡ call_of set x s }
 {
     call_at(set, 1, x, s)
 }
 
-pub fn normalised_black_call(x: f64, s: f64) -> Answer
-    ensures { result ≡ call_of rule_set_0 x s }
-{
-    normalised_black_call_under(RULE_SET_0, x, s)
-}
-
-pub fn normalised_black_under(set: RuleSet, x: f64, s: f64, option_type: OptionType) -> Answer
+pub fn normalised_black(
+    set: RuleSet,
+    x: f64,
+    s: f64,
+    option_type: OptionType,
+) -> Result<f64, Refusal>
     ensures { result ≡ normalised_black_of set x s option_type }
 {
-    normalised_black_call_under(set, option_type.times(x), s)
-}
-
-pub fn normalised_black(x: f64, s: f64, option_type: OptionType) -> Answer
-    ensures { result ≡ normalised_black_of rule_set_0 x s option_type }
-{
-    normalised_black_under(RULE_SET_0, x, s, option_type)
+    normalised_black_call(set, option_type * x, s)
 }
 
 // ---- black
@@ -280,19 +245,8 @@ pub fn is_finite(x: f64) -> bool
     x >= MIN && x <= MAX
 }
 
-// The price is the factor times the normalised one, and not below the intrinsic value; a refusal
-// passes up.
-fn price_from_normalised(intrinsic: f64, factor: f64, price: Answer) -> Answer
-    ensures { result ≡ price_from_normalised intrinsic factor price }
-{
-    match price {
-        Answer::Value(b) => Answer::Value(max(intrinsic, factor * b)),
-        Answer::Refused(n) => Answer::Refused(n),
-    }
-}
-
-// s and x come first: the normalised price waits for them, and for the other two roots only the last
-// product does.
+// The price is the factor times the normalised one, and not below the intrinsic value. s and x come
+// first: the normalised price waits for them, and for the other two roots only the last product does.
 fn price(
     set: RuleSet,
     forward: f64,
@@ -300,15 +254,15 @@ fn price(
     sigma: f64,
     expiry: f64,
     option_type: OptionType,
-) -> Answer
+) -> Result<f64, Refusal>
     ensures { result ≡ price_of set forward strike sigma expiry option_type }
 {
-    let intrinsic = max(option_type.times(forward - strike), 0.0);
+    let intrinsic = max(option_type * (forward - strike), 0.0);
     let s = sigma * sqrt(expiry);
     let x = ln(forward / strike);
     let factor = sqrt(forward) * sqrt(strike);
-    let b = normalised_black_under(set, x, s, option_type);
-    price_from_normalised(intrinsic, factor, b)
+    let b = normalised_black(set, x, s, option_type)?;
+    Ok(max(intrinsic, factor * b))
 }
 
 // In the money is mapped to out of the money, once.
@@ -320,59 +274,44 @@ fn black_at(
     sigma: f64,
     expiry: f64,
     option_type: OptionType,
-) -> Answer
+) -> Result<f64, Refusal>
     ensures { result ≡ black_at depth set forward strike sigma expiry option_type }
 {
-    if depth == 0 {
-        return price(set, forward, strike, sigma, expiry, option_type);
-    }
-    let signed_diff = option_type.times(forward - strike);
-    if signed_diff > 0.0 {
-        let other = option_type.neg();
-        let mapped = black_at(set, depth - 1, forward, strike, sigma, expiry, other);
-        return plus(max(signed_diff, 0.0), mapped);
+    let signed_diff = option_type * (forward - strike);
+    if depth > 0 && signed_diff > 0.0 {
+        let mapped = black_at(set, depth - 1, forward, strike, sigma, expiry, -option_type)?;
+        return Ok(max(signed_diff, 0.0) + mapped);
     }
     price(set, forward, strike, sigma, expiry, option_type)
 }
 
 // The Black price, or 2, 3, 5, 4 for an input that has none, or 7 where the roundings at the
 // asymptotic region's edge disagree.
-pub fn black_under(
-    set: RuleSet,
-    forward: f64,
-    strike: f64,
-    sigma: f64,
-    expiry: f64,
-    option_type: OptionType,
-) -> Answer
-    ensures { result ≡ black_of set forward strike sigma expiry option_type }
-{
-    if !is_positive_normal(forward) {
-        return Answer::Refused(refusals::FORWARD);
-    }
-    if !is_positive_normal(strike) {
-        return Answer::Refused(refusals::STRIKE);
-    }
-    if !is_finite(sigma) {
-        return Answer::Refused(refusals::SIGMA);
-    }
-    if !is_positive_normal(expiry) {
-        return Answer::Refused(refusals::EXPIRY);
-    }
-    black_at(set, 1, forward, strike, sigma, expiry, option_type)
-}
-
 pub fn black(
+    set: RuleSet,
     forward_price: f64,
     strike_price: f64,
     sigma: f64,
     time_to_maturity: f64,
     option_type: OptionType,
-) -> Answer
-    ensures { result ≡ black_of rule_set_0 forward_price strike_price sigma time_to_maturity option_type }
+) -> Result<f64, Refusal>
+    ensures { result ≡ black_of set forward_price strike_price sigma time_to_maturity option_type }
 {
-    black_under(
-        RULE_SET_0,
+    if !is_positive_normal(forward_price) {
+        return Err(Refusal::Forward);
+    }
+    if !is_positive_normal(strike_price) {
+        return Err(Refusal::Strike);
+    }
+    if !is_finite(sigma) {
+        return Err(Refusal::Sigma);
+    }
+    if !is_positive_normal(time_to_maturity) {
+        return Err(Refusal::Expiry);
+    }
+    black_at(
+        set,
+        1,
         forward_price,
         strike_price,
         sigma,

@@ -16,7 +16,7 @@ fn near(x: f64, option_type: OptionType) -> f64
     let x2 = x * x;
     let sum = 1.0
         + x2 * (1.0 / 24.0 + x2 * (1.0 / 1920.0 + x2 * (1.0 / 322560.0 + 1.0 / 92897280.0 * x2)));
-    max(option_type.times(x) * sum, 0.0)
+    max(option_type * x * sum, 0.0)
 }
 
 fn far(x: f64, option_type: OptionType) -> f64
@@ -24,13 +24,13 @@ fn far(x: f64, option_type: OptionType) -> f64
 {
     let b_max = exp(0.5 * x);
     let one_over_b_max = 1.0 / b_max;
-    max(option_type.times(b_max - one_over_b_max), 0.0)
+    max(option_type * (b_max - one_over_b_max), 0.0)
 }
 
 pub fn normalised_intrinsic(x: f64, option_type: OptionType) -> f64
     ensures { result ≡ intrinsic_of x option_type }
 {
-    if option_type.times(x) <= 0.0 {
+    if option_type * x <= 0.0 {
         return 0.0;
     }
     if x * x < NORMALISED_X2_THRESHOLD {

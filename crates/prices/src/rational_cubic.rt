@@ -3,8 +3,7 @@ ghost use Rattle.std.specs.Prelude.{◌≡◌, not, ◌&&◌, ◌||◌};
 ghost use Rattle.elementary.specs.Methods.{is_zero};
 ghost use Rattle.prices.specs.RationalCubic.{is_infinite, curve_of, interpolation_of, is_monotonic, is_convex, is_concave, monotonic_parameter, shape_parameter, minimum_parameter_of, denominator_at, control_parameter_of, convex_parameter_of};
 
-use crate::answer::Answer;
-use crate::refusals;
+use crate::refusal::Refusal;
 use elementary::limits::{EPSILON, MIN};
 use elementary::methods::{abs, is_zero, max};
 use elementary::mul_add::mul_add;
@@ -13,7 +12,7 @@ const MINIMUM_RATIONAL_CUBIC_CONTROL_PARAMETER_VALUE: f64 = -(1.0 - 1.4901161193
 
 const MAXIMUM_RATIONAL_CUBIC_CONTROL_PARAMETER_VALUE: f64 = 2.0 / (EPSILON * EPSILON);
 
-#[derive(Clone, Copy)]
+#[derive(Clone, Copy, Debug, PartialEq, Eq)]
 pub enum Side {
     Left,
     Right,
@@ -60,17 +59,17 @@ pub fn rational_cubic_interpolation(
     d_l: f64,
     d_r: f64,
     r: f64,
-) -> Answer
+) -> Result<f64, Refusal>
     ensures { result ≡ interpolation_of x x_l x_r y_l y_r d_l d_r r }
 {
     if any_infinite(x, x_l, x_r) {
-        return Answer::Refused(refusals::INFINITE_PLACE);
+        return Err(Refusal::InfinitePlace);
     }
     let h = x_r - x_l;
     if abs(h) <= EPSILON {
-        return Answer::Value(0.5 * (y_l + y_r));
+        return Ok(0.5 * (y_l + y_r));
     }
-    Answer::Value(curve(h, (x - x_l) / h, y_l, y_r, d_l, d_r, r))
+    Ok(curve(h, (x - x_l) / h, y_l, y_r, d_l, d_r, r))
 }
 
 // ---- the control parameters

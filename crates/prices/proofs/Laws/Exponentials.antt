@@ -1,14 +1,14 @@
 -- A price over given exponentials is the plain one at those of x; and what price_and_vega yields is the answer's. Assumes nothing.
 use mathlib.Core.Path.{◌≡◌, refl}
 use mathlib.Core.Bool.{Bool, true, false, cond}
-use Prim.Native.Nat.{ℕ}
 use lib.Ieee.{Float, lt}
 use Rattle.elementary.specs.Ops.{+0}
 use Rattle.elementary.specs.declared.rule_set.RuleSet.{RuleSet}
-use Rattle.prices.specs.declared.answer.Answer.{Answer}
-use Rattle.prices.specs.declared.answer.Answer.TheVariants.{Value, Refused}
+use Rattle.prices.specs.Answers.{Answer}
+use Rattle.std.specs.Prelude.{Ok, Err}
 use Rattle.prices.specs.Black.{codys_of, out_of_the_money, call_at, call_of}
-use Rattle.prices.specs.declared.point.PriceAndVega.TheVariants.{Both, Refused as Number}
+use Rattle.prices.specs.declared.point.PriceAndVega.{PriceAndVega}
+use Rattle.prices.specs.declared.refusal.Refusal.{Refusal}
 use Rattle.prices.specs.Inside.Exponentials.{up_of, down_of, two_b_with, codys_with, out_of_the_money_with, call_with}
 use Rattle.prices.specs.Inside.Regions.{region_at}
 use Rattle.prices.proofs.Laws.Regions.{in_region_lem}
@@ -20,7 +20,7 @@ module _ (set : RuleSet) (x s : Float) where
   unfolding codys_with two_b_with codys_of
   codys_own = refl
 
-  out_own : out_of_the_money_with set (up_of x) (down_of x) x s ≡ out_of_the_money set x s
+  pub out_own : out_of_the_money_with set (up_of x) (down_of x) x s ≡ out_of_the_money set x s
   unfolding out_of_the_money_with
   out_own = rw codys_own (in_region_lem set x s (region_at x s) (region_at x s) refl refl)
 
@@ -32,11 +32,11 @@ at_own_exponentials set x s = go (lt +0 x) refl
     go true e = refl
     go false e = rw (e, out_own set x s)
 
--- a price with a vega is the answer's, and so is a number
-pub answer_is_price : (a : Answer) (v b w : Float) → Both b w ≡ price_and_vega a v → (a ≡ Value b) × (v ≡ w)
-answer_is_price (Value c) v b w e = (cc, cc)
-answer_is_price (Refused k) v b w e = (cc, cc)
+-- a price with a vega is the answer's, and so is a refusal
+pub answer_is_price : (a : Answer) (v : Float) (p : PriceAndVega) → Ok p ≡ price_and_vega a v → (a ≡ Ok p.price) × (v ≡ p.vega)
+answer_is_price (Ok b) v p e = (cc, cc)
+answer_is_price (Err r) v p e = (cc, cc)
 
-pub answer_is_refusal : (a : Answer) (v : Float) (n : ℕ) → Number n ≡ price_and_vega a v → a ≡ Refused n
-answer_is_refusal (Value c) v n e = cc
-answer_is_refusal (Refused k) v n e = cc
+pub answer_is_refusal : (a : Answer) (v : Float) (r : Refusal) → Err r ≡ price_and_vega a v → a ≡ Err r
+answer_is_refusal (Ok b) v r e = cc
+answer_is_refusal (Err s) v r e = cc

@@ -6,8 +6,8 @@ use Rattle.elementary.specs.Ops.{◌⊗◌, ◌⊘◌, +0, half}
 use Rattle.elementary.specs.Methods.{abs_of}
 use Rattle.elementary.specs.declared.rule_set.RuleSet.{RuleSet}
 use Rattle.prices.specs.declared.inputs.OptionType.TheVariants.{Call}
-use Rattle.prices.specs.declared.answer.Answer.{Answer}
-use Rattle.prices.specs.declared.answer.Answer.TheVariants.{Value}
+use Rattle.prices.specs.Answers.{Answer}
+use Rattle.std.specs.Prelude.{Ok}
 use Rattle.prices.specs.declared.black.Region.{Region}
 use Rattle.prices.specs.declared.black.Region.TheVariants.{Intrinsic, Asymptotic, SmallT, Codys}
 use Rattle.prices.specs.Intrinsic.{intrinsic_of}
@@ -22,15 +22,15 @@ by_tests false false true i s t d = refl
 by_tests false false false i s t d = refl
 
 module _ (set : RuleSet) (x s : Float) (r v : Region) (e : r ≡ region_at x s) (m : r ≡ v) where
-  pub in_region_lem : in_region v (Value (intrinsic_of x Call)) (asymptotic_of (x ⊘ s) (half ⊗ s)) (small_t_of (x ⊘ s) (half ⊗ s)) (Value (codys_of set x s)) ≡ out_of_the_money set x s
+  pub in_region_lem : in_region v (Ok (intrinsic_of x Call)) (asymptotic_of (x ⊘ s) (half ⊗ s)) (small_t_of (x ⊘ s) (half ⊗ s)) (Ok (codys_of set x s)) ≡ out_of_the_money set x s
   unfolding out_of_the_money region_of
   in_region_lem =
-      ap (λ (w : Region). in_region w (Value (intrinsic_of x Call)) (asymptotic_of (x ⊘ s) (half ⊗ s)) (small_t_of (x ⊘ s) (half ⊗ s)) (Value (codys_of set x s))) (sym m ∙ e)
-      ∙ sym (by_tests (le s (abs_of x ⊗ +0)) (is_asymptotic x s) (lt (half ⊗ s) SMALL_T) (Value (intrinsic_of x Call)) (asymptotic_of (x ⊘ s) (half ⊗ s)) (small_t_of (x ⊘ s) (half ⊗ s)) (Value (codys_of set x s)))
+      ap (λ (w : Region). in_region w (Ok (intrinsic_of x Call)) (asymptotic_of (x ⊘ s) (half ⊗ s)) (small_t_of (x ⊘ s) (half ⊗ s)) (Ok (codys_of set x s))) (sym m ∙ e)
+      ∙ sym (by_tests (le s (abs_of x ⊗ +0)) (is_asymptotic x s) (lt (half ⊗ s) SMALL_T) (Ok (intrinsic_of x Call)) (asymptotic_of (x ⊘ s) (half ⊗ s)) (small_t_of (x ⊘ s) (half ⊗ s)) (Ok (codys_of set x s)))
 
-  pub in_region_with : (up down : Float) → in_region v (Value (intrinsic_of x Call)) (asymptotic_of (x ⊘ s) (half ⊗ s)) (small_t_of (x ⊘ s) (half ⊗ s)) (Value (codys_with set up down x s)) ≡ out_of_the_money_with set up down x s
+  pub in_region_with : (up down : Float) → in_region v (Ok (intrinsic_of x Call)) (asymptotic_of (x ⊘ s) (half ⊗ s)) (small_t_of (x ⊘ s) (half ⊗ s)) (Ok (codys_with set up down x s)) ≡ out_of_the_money_with set up down x s
   unfolding out_of_the_money_with
-  in_region_with up down = ap (λ (w : Region). in_region w (Value (intrinsic_of x Call)) (asymptotic_of (x ⊘ s) (half ⊗ s)) (small_t_of (x ⊘ s) (half ⊗ s)) (Value (codys_with set up down x s))) (sym m ∙ e)
+  in_region_with up down = ap (λ (w : Region). in_region w (Ok (intrinsic_of x Call)) (asymptotic_of (x ⊘ s) (half ⊗ s)) (small_t_of (x ⊘ s) (half ⊗ s)) (Ok (codys_with set up down x s))) (sym m ∙ e)
 
 -- in the region of a small t the bound on t holds
 small_test : (a b c : Bool) → cond a Intrinsic (cond b Asymptotic (cond c SmallT Codys)) ≡ SmallT → c ≡ true

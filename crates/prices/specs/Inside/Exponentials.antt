@@ -1,6 +1,6 @@
 -- Prices over given exponentials, since the solver computes those of x once for every s: up stands for exp(x / 2), down for exp(−x / 2), exp-term for the bell
 -- of h and t. Definitions only.
-use Rattle.std.specs.Prelude.{cond, Float}
+use Rattle.std.specs.Prelude.{cond, Float, Ok}
 use Rattle.std.specs.Float.Ieee.{neg, lt}
 use Rattle.elementary.specs.Ops.{◌⊕◌, ◌⊖◌, ◌⊗◌, ◌⊘◌, +0, half}
 use Rattle.elementary.specs.declared.rule_set.RuleSet.{RuleSet}
@@ -8,8 +8,7 @@ use Rattle.elementary.specs.Methods.{max_of}
 use Rattle.elementary.specs.Exp.{exp_of}
 use Rattle.elementary.specs.Cody.{erfc_of, erfcx_of}
 use Rattle.prices.specs.declared.inputs.OptionType.TheVariants.{Call}
-use Rattle.prices.specs.declared.answer.Answer.{Answer}
-use Rattle.prices.specs.declared.answer.Answer.TheVariants.{Value}
+use Rattle.prices.specs.Answers.{Answer}
 use Rattle.prices.specs.Intrinsic.{intrinsic_of}
 use Rattle.prices.specs.Black.{CODYS_THRESHOLD, MINUS_FRAC, bell, small_t_of, asymptotic_of, call_of}
 use Rattle.prices.specs.Inside.Regions.{region_at, in_region}
@@ -41,7 +40,7 @@ codys_with set up down x s =
 -- out_of_the_money
 unfoldable pub out_of_the_money_with : RuleSet → Float → Float → Float → Float → Answer
 out_of_the_money_with set up down x s =
-    in_region (region_at x s) (Value (intrinsic_of x Call)) (asymptotic_of (x ⊘ s) (half ⊗ s)) (small_t_of (x ⊘ s) (half ⊗ s)) (Value (codys_with set up down x s))
+    in_region (region_at x s) (Ok (intrinsic_of x Call)) (asymptotic_of (x ⊘ s) (half ⊗ s)) (small_t_of (x ⊘ s) (half ⊗ s)) (Ok (codys_with set up down x s))
 
 -- call_of; in the money the exponentials of x are not asked for
 abbrev pub call_with : RuleSet → Float → Float → Float → Float → Answer

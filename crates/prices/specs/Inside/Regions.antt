@@ -3,7 +3,7 @@ use Rattle.std.specs.Prelude.{cond, Float}
 use Rattle.std.specs.Float.Ieee.{lt, le}
 use Rattle.elementary.specs.Ops.{◌⊗◌, +0, half}
 use Rattle.elementary.specs.Methods.{abs_of}
-use Rattle.prices.specs.declared.answer.Answer.{Answer}
+use Rattle.prices.specs.Answers.{Answer}
 use Rattle.prices.specs.declared.black.Region.{Region}
 use Rattle.prices.specs.declared.black.Region.TheVariants.{Intrinsic, Asymptotic, SmallT, Codys}
 use Rattle.prices.specs.Black.{SMALL_T, is_asymptotic}

@@ -1,5 +1,8 @@
--- `black::normalised_black` meets its contract: it is `normalised_black_under` with rule set 0. Assumes nothing.
+-- `black::normalised_black` meets its contract. Assumes nothing.
+use mathlib.Core.Path.{◌∙◌}
+use Rattle.prices.specs.Black.{normalised_black_of}
 use Rattle.prices.proofs.black.normalised_black.Goals as goal
 
 pub returns : goal.returns
-returns c = c.normalised_black_under.ensures
+unfolding normalised_black_of
+returns c = c.normalised_black_call.ensures ∙ rw c.mul.ensures

@@ -1,17 +1,24 @@
 -- `black::out_of_the_money` meets its contract: the region that is met says which formula it is (Regions). Assumes nothing.
 use mathlib.Core.Path.{◌∙◌, ap}
-use Rattle.prices.specs.declared.answer.Answer.TheVariants.{Value}
-use Rattle.prices.proofs.Laws.Regions.{in_region_lem}
+use Rattle.std.specs.Prelude.{Ok}
+use Rattle.elementary.proofs.Laws.Compare.{not_le_of_lt}
+use Rattle.prices.specs.Black.{SMALL_T, small_t_of}
+use Rattle.prices.proofs.Laws.Regions.{in_region_with, small_t_region}
 use Rattle.prices.proofs.black.out_of_the_money.Goals as goal
 
+pub small_t-requires : goal.small_t-requires
+small_t-requires g c = c.bell.ensures ∙ c.requires
+
 pub returns-in-Intrinsic : goal.returns-in-Intrinsic
-returns-in-Intrinsic c = ap Value c.normalised_intrinsic.ensures ∙ in_region_lem _ _ _ _ _ c.region_of.ensures c.in-Intrinsic.is
+returns-in-Intrinsic g c = ap Ok c.normalised_intrinsic.ensures ∙ in_region_with _ _ _ _ _ c.region_of.ensures c.in-Intrinsic.is _ _
 
 pub returns-in-Asymptotic : goal.returns-in-Asymptotic
-returns-in-Asymptotic c = c.asymptotic_expansion_of_normalised_black_call.ensures ∙ in_region_lem _ _ _ _ _ c.region_of.ensures c.in-Asymptotic.is
+returns-in-Asymptotic g c = c.asymptotic_expansion_of_normalised_black_call.ensures ∙ in_region_with _ _ _ _ _ c.region_of.ensures c.in-Asymptotic.is _ _
 
 pub returns-in-SmallT : goal.returns-in-SmallT
-returns-in-SmallT c = c.small_t_expansion_of_normalised_black_call.ensures ∙ in_region_lem _ _ _ _ _ c.region_of.ensures c.in-SmallT.is
+unfolding small_t_of
+returns-in-SmallT g c =
+    rw (← in_region_with _ _ _ _ _ c.region_of.ensures c.in-SmallT.is _ _, c.small_t.ensures, not_le_of_lt _ SMALL_T (small_t_region _ _ _ c.region_of.ensures c.in-SmallT.is))
 
 pub returns-in-Codys : goal.returns-in-Codys
-returns-in-Codys c = ap Value c.normalised_black_call_with_optimal_use_of_codys_functions_under.ensures ∙ in_region_lem _ _ _ _ _ c.region_of.ensures c.in-Codys.is
+returns-in-Codys g c = ap Ok c.codys.ensures ∙ in_region_with _ _ _ _ _ c.region_of.ensures c.in-Codys.is _ _

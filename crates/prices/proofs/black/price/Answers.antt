@@ -1,8 +1,24 @@
--- `black::price` meets its contract: each call is its definition. Assumes nothing.
-use mathlib.Core.Path.{◌∙◌}
-use Rattle.prices.specs.Black.{price_of}
+-- `black::price` meets its contract: each call is its definition, and a refusal passes up. Assumes nothing.
+use mathlib.Core.Path.{◌≡◌, sym, ◌∙◌}
+use Rattle.std.proofs.Common.{rules}
+use Rattle.std.specs.Prelude.{Ok, Err}
+use Rattle.std.specs.Float.{binary64}
+use Rattle.elementary.specs.Ops.{◌⊗◌, ◌⊘◌}
+use Rattle.elementary.specs.Sqrt.{sqrt_of}
+use Rattle.elementary.specs.Ln.{ln_of}
+use Rattle.prices.specs.Black.{normalised_black_of, price_of}
 use Rattle.prices.proofs.black.price.Goals as goal
+
+pub returns-in_err-b : goal.returns-in_err-b
+unfolding price_of
+returns-in_err-b c =
+    let e : c.normalised_black.result ≡ Err c.in_err-b.field-0.0 = search rules in
+    let r : c.from_residual.result ≡ Err c.in_err-b.field-0.0 = search rules in
+    r ∙ rw (← c.sqrt.ensures, ← c.ln-x.ensures, ← c.normalised_black.ensures, e)
 
 pub returns : goal.returns
 unfolding price_of
-returns c = c.price_from_normalised.ensures ∙ rw (c.normalised_black_under-b.ensures, c.sqrt-3.ensures, c.sqrt-2.ensures, c.ln-x.ensures, c.sqrt.ensures, c.max-intrinsic.ensures, c.times.ensures)
+returns c =
+    let e : c.normalised_black.result ≡ Ok c.in_ok-b.b = search rules in
+    let b : normalised_black_of c.args.set (ln_of (c.args.forward ⊘ c.args.strike)) (c.args.sigma ⊗ sqrt_of binary64 c.args.expiry) c.args.option_type ≡ Ok c.in_ok-b.b = rw (← c.ln-x.ensures, ← c.sqrt.ensures) (sym c.normalised_black.ensures ∙ e) in
+    rw (b, c.max.ensures, c.max-intrinsic.ensures, c.mul.ensures, c.sqrt-3.ensures, c.sqrt-2.ensures)

@@ -3,4 +3,4 @@ use mathlib.Core.Path.{◌∙◌}
 use Rattle.prices.proofs.intrinsic.far.Goals as goal
 
 pub returns : goal.returns
-returns c = c.max.ensures ∙ rw (c.times.ensures, c.exp-b_max.ensures)
+returns c = c.max.ensures ∙ rw (c.mul.ensures, c.exp-b_max.ensures)

@@ -5,4 +5,4 @@ use Rattle.prices.proofs.intrinsic.near.Goals as goal
 
 pub returns : goal.returns
 unfolding of_bits of_int
-returns c = c.max.ensures ∙ rw c.times.ensures
+returns c = c.max.ensures ∙ rw c.mul.ensures

@@ -2,14 +2,14 @@
 use Rattle.prices.specs.Intrinsic.{intrinsic_of}
 use Rattle.prices.proofs.intrinsic.normalised_intrinsic.Goals as goal
 
-pub returns-then-times : goal.returns-then-times
+pub returns-then-mul : goal.returns-then-mul
 unfolding intrinsic_of
-returns-then-times c = rw (rw c.times.ensures at c.if-times.true)
+returns-then-mul c = rw (rw c.mul.ensures at c.if-mul.true)
 
 pub returns-then-x : goal.returns-then-x
 unfolding intrinsic_of
-returns-then-x c = rw (rw c.times.ensures at c.if-times.false, c.if-x.true) c.near.ensures
+returns-then-x c = rw (rw c.mul.ensures at c.if-mul.false, c.if-x.true) c.near.ensures
 
 pub returns : goal.returns
 unfolding intrinsic_of
-returns c = rw (rw c.times.ensures at c.if-times.false, c.if-x.false) c.far.ensures
+returns c = rw (rw c.mul.ensures at c.if-mul.false, c.if-x.false) c.far.ensures

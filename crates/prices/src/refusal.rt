@@ -1,0 +1,29 @@
+// Document 01's numbers for what this layer refuses.
+ghost use Rattle.std.specs.Prelude.{◌≡◌};
+ghost use Rattle.prices.specs.Answers.{number};
+
+#[derive(Clone, Copy, Debug, PartialEq, Eq)]
+pub enum Refusal {
+    // The forward is not a positive normal number.
+    Forward = 2,
+    // The strike is not a positive normal number.
+    Strike = 3,
+    // The expiry is not a positive normal number.
+    Expiry = 4,
+    // Sigma is not finite.
+    Sigma = 5,
+    // x, x_l or x_r of the rational cubic is infinite.
+    InfinitePlace = 6,
+    // h and t lie outside of the asymptotic expansion's region.
+    OutsideAsymptoticRegion = 7,
+    // t is too large for the small-t expansion.
+    TTooLarge = 8,
+}
+
+impl Refusal {
+    pub fn number(self) -> u8
+        ensures { result ≡ number self }
+    {
+        self as u8
+    }
+}
