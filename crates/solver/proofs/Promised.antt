@@ -9,24 +9,27 @@ use lib.Dec.{ltb}
 use lib.IntN.{ℤ}
 use lib.Ieee.{Float}
 use lib.ListN.{length}
-use borrow.Author.Tests.{ne_eqb, lt-ltb, le-ltb}
+use borrow.Author.Tests.{lt-ltb, le-ltb}
+use Rattle.std.specs.Prelude.{Ok, Err}
 use Rattle.solver.specs.declared.quote.Quote.{Quote}
 use Rattle.solver.specs.declared.quote.QuoteRange.{QuoteRange}
-use Rattle.solver.specs.declared.answers.RangeSolution.TheVariants.{Ends}
+use Rattle.prices.specs.declared.refusal.Refusal.TheVariants.{Forward, Strike, Expiry}
+use Rattle.solver.specs.declared.refusal.Refusal.{Refusal}
+use Rattle.solver.specs.declared.refusal.Refusal.TheVariants.{Price, Pricing, TrailTooShort, LowAboveHigh}
 use Rattle.elementary.specs.declared.rule_set.RuleSet.{RuleSet}
 use Rattle.solver.specs.Trail.{trail_after}
 use Rattle.solver.specs.Guess.{Start}
-use Rattle.solver.specs.Answers.{number_in, range_number_in, low_in, high_in}
-use Rattle.solver.specs.BidAsk.{RangeResult, quote_at, range_number, range_number_with_trails, solve_range, solve_range_with_trails}
-use Rattle.solver.specs.Solve.{first_number, market_number, input_number, start_of, SolveResult, result_from, solve_keeping, solve_of, solve_with_trail, steps_of}
+use Rattle.solver.specs.Answers.{number, number_in, range_number_in, low_in, high_in}
+use Rattle.solver.specs.BidAsk.{RangeResult, quote_at, range_check, range_check_with_trails, solve_range, solve_range_with_trails}
+use Rattle.solver.specs.Solve.{Check, market_check, input_check, start_of, SolveResult, result_from, solve_keeping, solve_of, solve_with_trail, steps_of}
 use Rattle.solver.specs.Promises.Demand3.{Trail, none, of_bytes, LongEnough, run_of, begin_of, OneRun, Sentences, Demand3}
 use Rattle.solver.specs.Promises.Answers.{Numbers, SolveNumbers, LineLength}
 use Rattle.solver.specs.Promises.BidAsk.{call_with, RefusedWith, CheckedInOrder, AsSingle, AsSingleWithTrail, BidAskOrder, BidAskEnds, BidAskWithoutTrails}
 use Rattle.solver.specs.Table.{Table}
-use Rattle.solver.proofs.Laws.Numbers.{Check}
+use Rattle.solver.proofs.Laws.Numbers.{Checked}
 use Rattle.solver.proofs.Laws.Forms.{StartForm, accepted_form, start_form}
 use Rattle.solver.proofs.Laws.Loops.{longer_run, run_steps, one_run, answer_half, run_numbers, later_number}
-use Rattle.solver.proofs.Laws.Ranges.{number_with_trails, number_without, range_passes, trails_pass, number_as_without, answer_as_without}
+use Rattle.solver.proofs.Laws.Ranges.{passes_with_trails, passes_without, range_passes, trails_pass, check_as_without, answer_as_without}
 use Rattle.solver.proofs.Laws.Lines as lines
 use Rattle.solver.proofs.Table.{rows}
 
@@ -63,7 +66,7 @@ module _ (set : RuleSet) (q : Quote) where
   long_run_is : (n : ℤ) (t : Trail) → LongEnough n t → run n t ≡ result_from (start false) q.expiry (steps_of n)
   long_run_is n t l = rw (run_is n t, not_short n t l)
 
-  form : (n : ℤ) (t : Trail) → StartForm (Check (is_short n t)) (start (is_short n t))
+  form : (n : ℤ) (t : Trail) → StartForm (Checked (is_short n t)) (start (is_short n t))
   form n t = start_form set (is_short n t) q
 
   run_facts : (n : ℤ) (t : Trail) → OneRun (steps_of n) (begin n t) (run n t)
@@ -84,7 +87,7 @@ module _ (set : RuleSet) (q : Quote) where
   numbers n t = rw (run_is n t) (run_numbers (LongEnough n t) (not_short n t) _ (form n t) q.expiry (steps_of n))
 
   -- where no check refuses, a run's number is a later one
-  later : (n : ℤ) (t : Trail) → input_number q ≡ 0 → is_short n t ≡ false → OneOf (number_in (run n t).answer) (0 ∷ 6 ∷ 7 ∷ [])
+  later : (n : ℤ) (t : Trail) → input_check q ≡ Ok tt → is_short n t ≡ false → OneOf (number_in (run n t).answer) (0 ∷ 6 ∷ 7 ∷ [])
   unfolding start_of
   later n t e l = rw (run_is n t, l, e) (later_number _ (accepted_form set q) q.expiry (steps_of n))
 
@@ -92,7 +95,7 @@ module _ (set : RuleSet) (q : Quote) where
 
 module _ (set : RuleSet) (r : QuoteRange) (n : ℤ) where
   -- an end whose checks pass, at this price
-  as_single : (price : Float) (t : Trail) → input_number (quote_at r price) ≡ 0 → is_short n t ≡ false → AsSingle set r price n t (run set (quote_at r price) n t).answer
+  as_single : (price : Float) (t : Trail) → input_check (quote_at r price) ≡ Ok tt → is_short n t ≡ false → AsSingle set r price n t (run set (quote_at r price) n t).answer
   as_single price t e l = record { solution = refl; number = later set (quote_at r price) n t e l; demand_3 = sentences set (quote_at r price) }
 
   without_trails : (low high : List ℕ) → LongEnough n (of_bytes (length low)) → LongEnough n (of_bytes (length high)) → solve_range set r (steps_of n) ≡ (call_with set r n low high).answer
@@ -100,47 +103,43 @@ module _ (set : RuleSet) (r : QuoteRange) (n : ℤ) where
       let as_without : (price : Float) (t : Trail) → LongEnough n t → (run set (quote_at r price) n none).answer ≡ (run set (quote_at r price) n t).answer
       = λ price t l. ((sentences set (quote_at r price)).without_trail n t l).1 in
       answer_as_without set r (steps_of n) low high
-      (number_as_without r (steps_of n) (length low) (length high) (not_short n (of_bytes (length low)) a) (not_short n (of_bytes (length high)) b))
+      (check_as_without r (steps_of n) (length low) (length high) (not_short n (of_bytes (length low)) a) (not_short n (of_bytes (length high)) b))
       (as_without r.low (of_bytes (length low)) a) (as_without r.high (of_bytes (length high)) b)
 
-  without_is_ends : range_number r ≡ 0 → solve_range set r (steps_of n) ≡ Ends (run set (quote_at r r.low) n none).answer (run set (quote_at r r.high) n none).answer
+  without_is_ends : range_check r ≡ Ok tt → solve_range set r (steps_of n) ≡ Ok (record { low = (run set (quote_at r r.low) n none).answer; high = (run set (quote_at r r.high) n none).answer })
   unfolding solve_range
   without_is_ends e = rw e
 
   low_end_without : range_number_in (solve_range set r (steps_of n)) ≡ 0 → AsSingle set r r.low n none (low_in (solve_range set r (steps_of n)))
   low_end_without z =
-      let e = sym (number_without set r (steps_of n)) ∙ z in
+      let e = passes_without set r (steps_of n) z in
       rw (without_is_ends e) (as_single r.low none (range_passes r e).0 refl)
 
   high_end_without : range_number_in (solve_range set r (steps_of n)) ≡ 0 → AsSingle set r r.high n none (high_in (solve_range set r (steps_of n)))
   high_end_without z =
-      let e = sym (number_without set r (steps_of n)) ∙ z in
+      let e = passes_without set r (steps_of n) z in
       rw (without_is_ends e) (as_single r.high none (range_passes r e).1 refl)
 
   module _ (low high : List ℕ) where
-    abbrev number : ℕ
-    number = range_number_with_trails r (steps_of n) (length low) (length high)
+    abbrev check : Check
+    check = range_check_with_trails r (steps_of n) (length low) (length high)
 
-    refused_with : (k : ℕ) → number ≡ k → (k ≡ 0 → ⊥) → RefusedWith k set r n low high
+    refused_with : (k : Refusal) → check ≡ Err k → RefusedWith (number k) set r n low high
     unfolding solve_range_with_trails
-    refused_with k e h = record {
-      number_is = rw (e, ne_eqb k 0 h);
-      low_stays = rw (e, ne_eqb k 0 h);
-      high_stays = rw (e, ne_eqb k 0 h);
-    }
+    refused_with k e = record { number_is = rw e refl; low_stays = rw e refl; high_stays = rw e refl }
 
     in_order : CheckedInOrder set r n low high
-    unfolding first_number market_number range_number range_number_with_trails
+    unfolding market_check solve_range_with_trails
     in_order = record {
-      low_price = λ a. refused_with 1 (rw a) (λ h. omega (arith, h));
-      high_price = λ a b. refused_with 1 (rw (a, b)) (λ h. omega (arith, h));
-      low_above_high = λ a b c. refused_with 31 (rw (a, b, c)) (λ h. omega (arith, h));
-      forward = λ p a. refused_with 2 (rw (p.0, p.1, p.2, a)) (λ h. omega (arith, h));
-      strike = λ p a b. refused_with 3 (rw (p.0, p.1, p.2, a, b)) (λ h. omega (arith, h));
-      expiry = λ p a b c. refused_with 4 (rw (p.0, p.1, p.2, a, b, c)) (λ h. omega (arith, h));
-      low_trail = λ p m l. refused_with 21 (rw (p.0, p.1, p.2, m.0, m.1, m.2, lt-ltb _ _ l)) (λ h. omega (arith, h));
-      high_trail = λ p m l h. refused_with 21 (rw (p.0, p.1, p.2, m.0, m.1, m.2, le-ltb _ _ l, lt-ltb _ _ h)) (λ h. omega (arith, h));
-      none_refuses = λ p m l h. rw (number_with_trails set r (steps_of n) low high, p.0, p.1, p.2, m.0, m.1, m.2, le-ltb _ _ l, le-ltb _ _ h);
+      low_price = λ a. refused_with Price (rw a);
+      high_price = λ a b. refused_with Price (rw (a, b));
+      low_above_high = λ a b c. refused_with LowAboveHigh (rw (a, b, c));
+      forward = λ p a. refused_with (Pricing Forward) (rw (p.0, p.1, p.2, a));
+      strike = λ p a b. refused_with (Pricing Strike) (rw (p.0, p.1, p.2, a, b));
+      expiry = λ p a b c. refused_with (Pricing Expiry) (rw (p.0, p.1, p.2, a, b, c));
+      low_trail = λ p m l. refused_with TrailTooShort (rw (p.0, p.1, p.2, m.0, m.1, m.2, lt-ltb _ _ l));
+      high_trail = λ p m l h. refused_with TrailTooShort (rw (p.0, p.1, p.2, m.0, m.1, m.2, le-ltb _ _ l, lt-ltb _ _ h));
+      none_refuses = λ p m l h. rw (p.0, p.1, p.2, m.0, m.1, m.2, le-ltb _ _ l, le-ltb _ _ h);
     }
 
     -- both ends, where no check refuses
@@ -148,21 +147,21 @@ module _ (set : RuleSet) (r : QuoteRange) (n : ℤ) where
     ends =
         let a = run set (quote_at r r.low) n (of_bytes (length low)) in
         let b = run set (quote_at r r.high) n (of_bytes (length high)) in
-        record { answer = Ends a.answer b.answer; low = trail_after a.records low; high = trail_after b.records high }
+        record { answer = Ok (record { low = a.answer; high = b.answer }); low = trail_after a.records low; high = trail_after b.records high }
 
-    call_is_ends : number ≡ 0 → call_with set r n low high ≡ ends
+    call_is_ends : check ≡ Ok tt → call_with set r n low high ≡ ends
     unfolding solve_range_with_trails
     call_is_ends e = rw e
 
     low_end : range_number_in (call_with set r n low high).answer ≡ 0 → AsSingleWithTrail set r r.low n low (low_in (call_with set r n low high).answer) (call_with set r n low high).low
     low_end z =
-        let e = sym (number_with_trails set r (steps_of n) low high) ∙ z in
+        let e = passes_with_trails set r (steps_of n) low high z in
         let p = trails_pass r (steps_of n) (length low) (length high) e in
         rw (call_is_ends e) (record { end = as_single r.low (of_bytes (length low)) (range_passes r p.0).0 p.1.0; bytes = refl })
 
     high_end : range_number_in (call_with set r n low high).answer ≡ 0 → AsSingleWithTrail set r r.high n high (high_in (call_with set r n low high).answer) (call_with set r n low high).high
     high_end z =
-        let e = sym (number_with_trails set r (steps_of n) low high) ∙ z in
+        let e = passes_with_trails set r (steps_of n) low high z in
         let p = trails_pass r (steps_of n) (length low) (length high) e in
         rw (call_is_ends e) (record { end = as_single r.high (of_bytes (length high)) (range_passes r p.0).1 p.1.1; bytes = refl })
 

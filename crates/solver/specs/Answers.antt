@@ -1,112 +1,150 @@
--- What a case of an answer says: document 01's number, 0 where there is none, and its values. Definitions only.
-use Rattle.std.specs.Prelude.{Bool, true, false, ℕ, Float}
+-- What an answer says: document 01's number and 02's, 0 where there is none, and its values. Definitions only.
+use Rattle.std.specs.Prelude.{Bool, true, false, ℕ, Float, Result, Ok, Err, Option, None, Some}
 use Rattle.std.specs.Float.{nan}
-use Rattle.solver.specs.declared.answers.Solution.{Solution}
-use Rattle.solver.specs.declared.answers.Solution.TheVariants.{Solved, Refused}
-use Rattle.solver.specs.declared.answers.RangeSolution.{RangeSolution}
-use Rattle.solver.specs.declared.answers.RangeSolution.TheVariants.{Ends, Refused as NoEnds}
-use Rattle.solver.specs.declared.answers.Target.{Target}
-use Rattle.solver.specs.declared.answers.Target.TheVariants.{Sought, NoLoop, Refused as NoTarget}
-use Rattle.solver.specs.declared.answers.Filing.{Filing}
-use Rattle.solver.specs.declared.answers.Filing.TheVariants.{Filed, Refused as NotFiled}
-use Rattle.solver.specs.declared.answers.Checking.{Checking}
-use Rattle.solver.specs.declared.answers.Checking.TheVariants.{Agrees, Differs, Refused as NotChecked}
+use Rattle.prices.specs.Answers.{number as pricing_number}
+use Rattle.solver.specs.declared.refusal.Refusal.{Refusal}
+use Rattle.solver.specs.declared.refusal.Refusal.TheVariants.{Price, Pricing, TrailTooShort, BookFull, NoSuchRecord, OutsideTheLayout, LowAboveHigh}
+use Rattle.solver.specs.declared.refusal.Failure.{Failure}
+use Rattle.solver.specs.declared.answers.Branch.{Branch}
+use Rattle.solver.specs.declared.answers.Branch.TheVariants.{NoLoop, Lower, LowerMiddle, UpperMiddle, Upper, UpperRest}
+use Rattle.solver.specs.declared.answers.Ending.{Ending}
+use Rattle.solver.specs.declared.answers.Ending.TheVariants.{NoLoop as Unlooped, StepTest, Limit}
+use Rattle.solver.specs.declared.answers.ImpliedVolatility.{ImpliedVolatility}
+use Rattle.solver.specs.declared.answers.Ends.{Ends}
+
+-- a refusal's number
+abbrev pub number : Refusal → ℕ
+number Price = 1
+number (Pricing refusal) = pricing_number refusal
+number TrailTooShort = 21
+number BookFull = 22
+number NoSuchRecord = 23
+number OutsideTheLayout = 24
+number LowAboveHigh = 31
+
+-- a branch's
+abbrev pub branch_number : Branch → ℕ
+branch_number NoLoop = 0
+branch_number Lower = 1
+branch_number LowerMiddle = 2
+branch_number UpperMiddle = 3
+branch_number Upper = 4
+branch_number UpperRest = 5
+
+-- an ending's
+abbrev pub ending_number : Ending → ℕ
+ending_number Unlooped = 0
+ending_number StepTest = 1
+ending_number Limit = 2
+
+-- refused before a loop
+abbrev pub at_once : Refusal → Failure
+at_once refusal = record { refusal = refusal; steps = 0 }
 
 -- ---- solve's
 
+abbrev pub Solution : Type 0
+Solution = Result ImpliedVolatility Failure
+
 -- 0 where it answers
 abbrev pub number_in : Solution → ℕ
-number_in (Solved a) = 0
-number_in (Refused number steps) = number
+number_in (Ok a) = 0
+number_in (Err failure) = number failure.refusal
 
 -- a refusal has none; NaN stands for it
 abbrev pub volatility_in : Solution → Float
-volatility_in (Solved a) = a.volatility
-volatility_in (Refused number steps) = nan
-
--- whether there is an answer
-abbrev pub is_solved : Solution → Bool
-is_solved (Solved a) = true
-is_solved (Refused number steps) = false
+volatility_in (Ok a) = a.volatility
+volatility_in (Err failure) = nan
 
 -- 0 where it is refused
 abbrev pub branch_in : Solution → ℕ
-branch_in (Solved a) = a.branch
-branch_in (Refused number steps) = 0
+branch_in (Ok a) = branch_number a.branch
+branch_in (Err failure) = 0
 
 -- 0 where it is refused
 abbrev pub ending_in : Solution → ℕ
-ending_in (Solved a) = a.ending
-ending_in (Refused number steps) = 0
+ending_in (Ok a) = ending_number a.ending
+ending_in (Err failure) = 0
 
 -- the completed steps
 abbrev pub steps_in : Solution → ℕ
-steps_in (Solved a) = a.steps
-steps_in (Refused number steps) = steps
+steps_in (Ok a) = a.steps
+steps_in (Err failure) = failure.steps
 
 -- ---- the bid and ask call's
 
+abbrev pub RangeSolution : Type 0
+RangeSolution = Result Ends Refusal
+
 -- 0 where both ends have a solution
 abbrev pub range_number_in : RangeSolution → ℕ
-range_number_in (Ends low high) = 0
-range_number_in (NoEnds number) = number
+range_number_in (Ok ends) = 0
+range_number_in (Err refusal) = number refusal
 
--- each end's solution; a number that refuses the call refuses both
+-- each end's solution; what refuses the call refuses both
 abbrev pub low_in : RangeSolution → Solution
-low_in (Ends low high) = low
-low_in (NoEnds number) = Refused number 0
+low_in (Ok ends) = ends.low
+low_in (Err refusal) = Err (at_once refusal)
 
 abbrev pub high_in : RangeSolution → Solution
-high_in (Ends low high) = high
-high_in (NoEnds number) = Refused number 0
+high_in (Ok ends) = ends.high
+high_in (Err refusal) = Err (at_once refusal)
 
 -- ---- file's
 
+-- the used count after it
+abbrev pub Filing : Type 0
+Filing = Result ℕ Failure
+
 -- 0 where it files
 abbrev pub filing_number : Filing → ℕ
-filing_number (Filed used) = 0
-filing_number (NotFiled number steps) = number
+filing_number (Ok used) = 0
+filing_number (Err failure) = number failure.refusal
 
 -- the used count after it; 0 where it is refused
 abbrev pub filing_used : Filing → ℕ
-filing_used (Filed used) = used
-filing_used (NotFiled number steps) = 0
+filing_used (Ok used) = used
+filing_used (Err failure) = 0
 
 -- the completed steps of a refused solve; 0 where it files
 abbrev pub filing_steps : Filing → ℕ
-filing_steps (Filed used) = 0
-filing_steps (NotFiled number steps) = steps
+filing_steps (Ok used) = 0
+filing_steps (Err failure) = failure.steps
 
 -- ---- recheck's
 
+-- whether what is filed agrees
+abbrev pub Checking : Type 0
+Checking = Result Bool Failure
+
 -- 0 where it says yes or no
 abbrev pub checking_number : Checking → ℕ
-checking_number Agrees = 0
-checking_number Differs = 0
-checking_number (NotChecked number steps) = number
+checking_number (Ok agrees) = 0
+checking_number (Err failure) = number failure.refusal
 
 -- it says yes
 abbrev pub checking_agrees : Checking → Bool
-checking_agrees Agrees = true
-checking_agrees Differs = false
-checking_agrees (NotChecked number steps) = false
+checking_agrees (Ok agrees) = agrees
+checking_agrees (Err failure) = false
 
 -- the completed steps of a refused solve
 abbrev pub checking_steps : Checking → ℕ
-checking_steps Agrees = 0
-checking_steps Differs = 0
-checking_steps (NotChecked number steps) = steps
+checking_steps (Ok agrees) = 0
+checking_steps (Err failure) = failure.steps
 
 -- ---- target's
 
+-- what a loop seeks, if there is one
+abbrev pub Target : Type 0
+Target = Result (Option Float) Refusal
+
 -- 0 where there is a target or no loop
 abbrev pub target_number : Target → ℕ
-target_number (Sought beta) = 0
-target_number NoLoop = 0
-target_number (NoTarget number) = number
+target_number (Ok target) = 0
+target_number (Err refusal) = number refusal
 
 -- NaN where there is none
 abbrev pub target_value : Target → Float
-target_value (Sought beta) = beta
-target_value NoLoop = nan
-target_value (NoTarget number) = nan
+target_value (Ok (Some beta)) = beta
+target_value (Ok None) = nan
+target_value (Err refusal) = nan

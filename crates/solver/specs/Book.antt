@@ -1,27 +1,18 @@
 -- The book: records of 64 bytes, little-endian, no header. What file, recheck and read answer, and every byte that they leave. Definitions only.
-use Rattle.std.specs.Prelude.{Bool, true, false, cond, ◌&&◌, List, [], ◌∷◌, ◌++◌, ℕ, suc, ◌+◌, ◌-◌, ◌*◌, ◌/◌, ◌^◌, leb, ltb, eqb, ℤ, pos, negsuc, length, get_or, replicate}
+use Rattle.std.specs.Prelude.{Bool, true, false, cond, ◌&&◌, List, [], ◌∷◌, ◌++◌, ℕ, suc, ◌+◌, ◌-◌, ◌*◌, ◌/◌, ◌^◌, leb, ltb, eqb, ℤ, pos, negsuc, length, get_or, replicate, Result, Ok, Err}
 use Rattle.prices.specs.declared.inputs.OptionType.{OptionType}
-use Rattle.prices.specs.declared.inputs.OptionType.TheVariants.{Call, Put}
+use Rattle.prices.specs.declared.inputs.UnknownKind.{UnknownKind}
+use Rattle.prices.specs.Inputs.{kind_byte, kind_of}
 use Rattle.solver.specs.declared.quote.Quote.{Quote}
-use Rattle.solver.specs.declared.quote.Kind.{Kind}
-use Rattle.solver.specs.declared.quote.Kind.TheVariants.{Known, Unknown}
+use Rattle.solver.specs.declared.refusal.Refusal.{Refusal}
+use Rattle.solver.specs.declared.refusal.Refusal.TheVariants.{BookFull, NoSuchRecord, OutsideTheLayout}
 use Rattle.solver.specs.declared.answers.ImpliedVolatility.{ImpliedVolatility}
-use Rattle.solver.specs.declared.answers.Solution.{Solution}
-use Rattle.solver.specs.declared.answers.Solution.TheVariants.{Solved, Refused}
-use Rattle.solver.specs.declared.answers.Filing.{Filing}
-use Rattle.solver.specs.declared.answers.Filing.TheVariants.{Filed, Refused as NotFiled}
-use Rattle.solver.specs.declared.answers.Checking.{Checking}
-use Rattle.solver.specs.declared.answers.Checking.TheVariants.{Agrees, Differs, Refused as NotChecked}
+use Rattle.solver.specs.Answers.{branch_number, ending_number, at_once, Solution, Filing, Checking}
 use Rattle.elementary.specs.declared.rule_set.RuleSet.{RuleSet}
-use Rattle.solver.specs.Solve.{input_number, solve_of, quote_of, steps_of}
+use Rattle.solver.specs.Solve.{by_check, input_check, solve_of, quote_of, steps_of}
 use Rattle.solver.specs.LittleEndian.{bytes_of, float_bytes, part, number_at, float_at, overwritten}
 
 -- ---- a record's bytes
-
--- the kind as its byte
-abbrev pub kind_byte : OptionType → ℕ
-kind_byte Call = 1
-kind_byte Put = 2
 
 -- a limit as the 32 bits of an i32
 abbrev pub limit_bits : ℤ → ℕ
@@ -38,7 +29,7 @@ book_record_bytes q limit a =
     ++ float_bytes a.volatility
     ++ bytes_of 4 (limit_bits limit)
     ++ bytes_of 4 a.steps
-    ++ (kind_byte q.option_type ∷ a.branch ∷ a.ending ∷ replicate 13 0)
+    ++ (kind_byte q.option_type ∷ branch_number a.branch ∷ ending_number a.ending ∷ replicate 13 0)
 
 -- ---- a record read
 
@@ -46,14 +37,10 @@ book_record_bytes q limit a =
 abbrev pub steps_from : ℕ → ℕ
 steps_from bits = cond (ltb bits (2 ^ 31)) bits 0
 
--- the kind that a byte says: 1 Call, 2 Put, and no other
-unfoldable pub kind_of : ℕ → Kind
-kind_of byte = cond (eqb byte 1) (Known Call) (cond (eqb byte 2) (Known Put) Unknown)
-
 -- what is answered of a kind, or where there is none
-abbrev pub by_kind : {A : Type 0} → Kind → (OptionType → A) → A → A
-by_kind (Known kind) answer none = answer kind
-by_kind Unknown answer none = none
+abbrev pub by_kind : {A : Type 0} → Result OptionType UnknownKind → (OptionType → A) → A → A
+by_kind (Ok kind) answer none = answer kind
+by_kind (Err unknown) answer none = none
 
 -- every byte is 0
 abbrev pub all_zero : List ℕ → Bool
@@ -72,7 +59,7 @@ quote_in r kind = quote_of (float_at 0 r) (float_at 8 r) (float_at 16 r) (float_
 unfoldable pub solve_record : RuleSet → List ℕ → Solution
 solve_record set r =
     let again : OptionType → Solution = λ kind. (solve_of set (quote_in r kind) (steps_from (number_at 40 4 r))).answer in
-    by_kind (kind_of (get_or r 48 0)) (λ kind. cond (in_layout r) (again kind) (Refused 24 0)) (Refused 24 0)
+    by_kind (kind_of (get_or r 48 0)) (λ kind. cond (in_layout r) (again kind) (Err (at_once OutsideTheLayout))) (Err (at_once OutsideTheLayout))
 
 -- byte for byte
 abbrev pub same_bytes : List ℕ → List ℕ → Bool
@@ -83,12 +70,12 @@ same_bytes (a ∷ as') (b ∷ bs) = eqb a b && same_bytes as' bs
 
 -- the record's volatility, steps, branch and ending are those of this answer: bytes 32..39, 44..47, 49 and 50
 abbrev pub agrees : List ℕ → ImpliedVolatility → Bool
-agrees r a = same_bytes (part 32 8 r) (float_bytes a.volatility) && same_bytes (part 44 4 r) (bytes_of 4 a.steps) && eqb (get_or r 49 0) a.branch && eqb (get_or r 50 0) a.ending
+agrees r a = same_bytes (part 32 8 r) (float_bytes a.volatility) && same_bytes (part 44 4 r) (bytes_of 4 a.steps) && eqb (get_or r 49 0) (branch_number a.branch) && eqb (get_or r 50 0) (ending_number a.ending)
 
 -- what recheck says of an answer
 abbrev pub checking_of : List ℕ → Solution → Checking
-checking_of r (Solved a) = cond (agrees r a) Agrees Differs
-checking_of r (Refused n steps) = NotChecked n steps
+checking_of r (Ok a) = Ok (agrees r a)
+checking_of r (Err failure) = Err failure
 
 -- ---- the book
 
@@ -104,21 +91,16 @@ record_exists book used k = ltb k used && leb used (slots book)
 abbrev pub record_at : ℕ → List ℕ → List ℕ
 record_at k book = part (64 * k) 64 book
 
--- read answers with record k's own part of the book, or 23
-pub record Read : Type 0 where
-  pub number : ℕ
-  pub bytes : List ℕ
-
--- record k, of a book with so many used
-unfoldable pub read_of : List ℕ → ℕ → ℕ → Read
-read_of book used k = cond (record_exists book used k) (record { number = 0; bytes = record_at k book }) (record { number = 23; bytes = [] })
+-- record k, of a book with so many used, or 23
+unfoldable pub read_of : List ℕ → ℕ → ℕ → Result (List ℕ) Refusal
+read_of book used k = cond (record_exists book used k) (Ok (record_at k book)) (Err NoSuchRecord)
 
 -- recheck: 23, 24, 1 to 4, then 6 or 7
 unfoldable pub recheck_of : RuleSet → List ℕ → ℕ → ℕ → Checking
 recheck_of set book used k =
     let r = record_at k book in
     let again = checking_of r (solve_record set r) in
-    cond (record_exists book used k) again (NotChecked 23 0)
+    cond (record_exists book used k) again (Err (at_once NoSuchRecord))
 
 -- file: 1 to 4, 23, 22, then 6 or 7. The record takes slot `used`; a refusal leaves the book as it was.
 pub record FileResult : Type 0 where
@@ -128,16 +110,15 @@ pub record FileResult : Type 0 where
 module _ (q : Quote) (limit : ℤ) (book : List ℕ) (used : ℕ) where
   -- a record in slot `used` for an answer, none for a refusal
   abbrev pub file_answer : Solution → FileResult
-  file_answer (Solved a) = record { answer = Filed (used + 1); book = overwritten (64 * used) (book_record_bytes q limit a) book }
-  file_answer (Refused n steps) = record { answer = NotFiled n steps; book = book }
+  file_answer (Ok a) = record { answer = Ok (used + 1); book = overwritten (64 * used) (book_record_bytes q limit a) book }
+  file_answer (Err failure) = record { answer = Err failure; book = book }
 
-  -- refused with this number before a step
-  abbrev pub refuse_filing : ℕ → FileResult
-  refuse_filing n = record { answer = NotFiled n 0; book = book }
+  -- refused before a step
+  abbrev pub refuse_filing : Refusal → FileResult
+  refuse_filing refusal = record { answer = Err (at_once refusal); book = book }
 
-  -- the numbers in their order, then the record
+  -- the refusals in their order, then the record
   unfoldable pub file_of : RuleSet → FileResult
   file_of set =
       let solved = file_answer (solve_of set q (steps_of limit)).answer in
-      let number = input_number q in
-      cond (eqb number 0) (cond (leb used (slots book)) (cond (ltb used (slots book)) solved (refuse_filing 22)) (refuse_filing 23)) (refuse_filing number)
+      by_check (input_check q) (cond (leb used (slots book)) (cond (ltb used (slots book)) solved (refuse_filing BookFull)) (refuse_filing NoSuchRecord)) refuse_filing

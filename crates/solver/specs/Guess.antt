@@ -1,6 +1,6 @@
 -- The guess of so_rational.rs, operation by operation: both maps with their two derivatives, and for each branch the first s and the starting ends.
 -- Definitions only.
-use Rattle.std.specs.Prelude.{Bool, true, false, cond, ◌&&◌, ℕ, Float}
+use Rattle.std.specs.Prelude.{Bool, true, false, cond, ◌&&◌, Float, Ok, Err}
 use Rattle.std.specs.Float.{binary64}
 use Rattle.std.specs.Float.Ieee.{neg, lt, le}
 use Rattle.elementary.specs.Ops.{◌⊕◌, ◌⊖◌, ◌⊗◌, ◌⊘◌, bits, float, +0, half, one, two, MAX, eighth, MIN, quarter}
@@ -11,8 +11,7 @@ use Rattle.elementary.specs.Exp.{exp_of}
 use Rattle.elementary.specs.Ln.{cube_root_of}
 use Rattle.elementary.specs.NormalDistribution.{cdf_of, inverse_of, inverse_f_upper_map_of}
 use Rattle.prices.specs.declared.inputs.OptionType.{OptionType}
-use Rattle.prices.specs.declared.answer.Answer.{Answer}
-use Rattle.prices.specs.declared.answer.Answer.TheVariants.{Value, Refused as Number}
+use Rattle.prices.specs.Answers.{Answer}
 use Rattle.prices.specs.declared.rational_cubic.Side.{Side}
 use Rattle.prices.specs.declared.rational_cubic.Side.TheVariants.{Left, Right}
 use Rattle.prices.specs.Inputs.{times}
@@ -22,8 +21,11 @@ use Rattle.prices.specs.Black.{call_of}
 use Rattle.prices.specs.RationalCubic.{interpolation_of, convex_parameter_of}
 use Rattle.solver.specs.declared.state.State.{State}
 use Rattle.solver.specs.declared.state.MapAndDerivatives.{MapAndDerivatives}
-use Rattle.solver.specs.declared.state.StepResult.{StepResult}
-use Rattle.solver.specs.Step.{lower_step, upper_step, general_step}
+use Rattle.solver.specs.declared.refusal.Refusal.{Refusal}
+use Rattle.solver.specs.declared.refusal.Refusal.TheVariants.{Pricing}
+use Rattle.solver.specs.declared.answers.Branch.{Branch}
+use Rattle.solver.specs.declared.answers.Branch.TheVariants.{Lower, LowerMiddle, UpperMiddle, Upper, UpperRest}
+use Rattle.solver.specs.Step.{StepResult, lower_step, upper_step, general_step}
 
 -- The Rust's constants, as it rounds them.
 abbrev pub SQRT_DBL_MAX : Float
@@ -85,12 +87,12 @@ lower_map set x s =
     let horizon = is_below_horizon s in
     record { f = cond horizon +0 f; fp = cond horizon one fp; fpp = fpp }
 
--- ---- the first s of each branch: a value, or 6 from the cubic
+-- ---- the first s of each branch, or the cubic's refusal
 
--- a value goes on, a number passes up
+-- a value goes on, a refusal passes up
 unfoldable pub on_value : Answer → (Float → Float) → Answer
-on_value (Value f) g = Value (g f)
-on_value (Number n) g = Number n
+on_value (Ok f) g = Ok (g f)
+on_value (Err refusal) g = Err refusal
 
 -- branch 1
 unfoldable pub lower_guess : RuleSet → Float → Float → Float → Float → Answer
@@ -112,7 +114,7 @@ abbrev pub upper_f : Float → Float → Float → MapAndDerivatives → Answer
 upper_f beta b_max b_h m =
     let r = convex_parameter_of b_h b_max m.f +0 m.fp (neg half) m.fpp true Left in
     let interpolated = interpolation_of beta b_h b_max m.f +0 m.fp (neg half) r in
-    cond (lt (neg SQRT_DBL_MAX) m.fpp && lt m.fpp SQRT_DBL_MAX) interpolated (Value MIN)
+    cond (lt (neg SQRT_DBL_MAX) m.fpp && lt m.fpp SQRT_DBL_MAX) interpolated (Ok MIN)
 
 -- branches 4 and 5
 unfoldable pub upper_guess : RuleSet → Float → Float → Float → Float → Float → Answer
@@ -130,14 +132,14 @@ pub data Start : Type 0 where
   -- answered before a guess: branch 0, ending 0
   answered : Float → Start
   -- refused before a loop
-  stopped : ℕ → Start
+  stopped : Refusal → Start
   -- the branch, the target, the loop's step and the state before the first one
-  looping : ℕ → Float → (State → StepResult) → State → Start
+  looping : Branch → Float → (State → StepResult) → State → Start
 
--- a value goes on, a number ends the run
+-- a value goes on, a refusal ends the run
 unfoldable pub with_value : Answer → (Float → Start) → Start
-with_value (Value b) f = f b
-with_value (Number n) f = stopped n
+with_value (Ok b) f = f b
+with_value (Err refusal) f = stopped (Pricing refusal)
 
 -- ds is −f64::MAX and the previous one 0 before the first step
 abbrev pub start_at : Float → Float → Float → State
@@ -148,8 +150,8 @@ unfoldable pub lower_start : RuleSet → Float → Float → Float → Float →
 lower_start set x beta s_c b_c v_c =
     let s_l = s_c ⊖ b_c ⊘ v_c in
     with_value (call_of set x s_l) (λ b_l.
-    let loop_1 = with_value (lower_guess set x beta b_l s_l) (λ s. looping 1 beta (lower_step set x beta) (start_at MIN s_l s)) in
-    let loop_2 = with_value (middle_guess beta b_l b_c s_l s_c (vega_of x s_l) v_c Right) (λ s. looping 2 beta (general_step set x beta) (start_at s_l s_c s)) in
+    let loop_1 = with_value (lower_guess set x beta b_l s_l) (λ s. looping Lower beta (lower_step set x beta) (start_at MIN s_l s)) in
+    let loop_2 = with_value (middle_guess beta b_l b_c s_l s_c (vega_of x s_l) v_c Right) (λ s. looping LowerMiddle beta (general_step set x beta) (start_at s_l s_c s)) in
     cond (lt beta b_l) loop_1 loop_2)
 
 -- s_h, from b_c on
@@ -159,8 +161,8 @@ upper_place b_max s_c b_c v_c = cond (lt MIN v_c) (s_c ⊕ (b_max ⊖ b_c) ⊘ v
 -- above b_h
 unfoldable pub tail_start : RuleSet → Float → Float → Float → Float → Float → Start
 tail_start set x beta b_max b_h s_h =
-    let loop_4 : Float → Start = λ s. looping 4 beta (upper_step set b_max x beta) (start_at s_h MAX s) in
-    let loop_5 : Float → Start = λ s. looping 5 beta (general_step set x beta) (start_at s_h MAX s) in
+    let loop_4 : Float → Start = λ s. looping Upper beta (upper_step set b_max x beta) (start_at s_h MAX s) in
+    let loop_5 : Float → Start = λ s. looping UpperRest beta (general_step set x beta) (start_at s_h MAX s) in
     with_value (upper_guess set x beta b_max b_h s_h) (λ s. cond (lt (half ⊗ b_max) beta) (loop_4 s) (loop_5 s))
 
 -- from b_c on
@@ -168,7 +170,7 @@ unfoldable pub upper_start : RuleSet → Float → Float → Float → Float →
 upper_start set x beta b_max s_c b_c v_c =
     let s_h = upper_place b_max s_c b_c v_c in
     with_value (call_of set x s_h) (λ b_h.
-    let loop_3 = with_value (middle_guess beta b_c b_h s_c s_h v_c (vega_of x s_h) Left) (λ s. looping 3 beta (general_step set x beta) (start_at s_c s_h s)) in
+    let loop_3 = with_value (middle_guess beta b_c b_h s_c s_h v_c (vega_of x s_h) Left) (λ s. looping UpperMiddle beta (general_step set x beta) (start_at s_c s_h s)) in
     let tail = tail_start set x beta b_max b_h s_h in
     cond (le beta b_h) loop_3 tail)
 

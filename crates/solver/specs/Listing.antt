@@ -1,9 +1,9 @@
 -- A line of `relist`, byte by byte. Definitions only.
-use Rattle.std.specs.Prelude.{cond, List, [], ◌∷◌, ◌++◌, ℕ, zero, suc, ◌+◌, ◌/◌, ◌%◌, ltb, length}
+use Rattle.std.specs.Prelude.{cond, List, [], ◌∷◌, ◌++◌, ℕ, zero, suc, ◌+◌, ◌/◌, ◌%◌, ltb, length, Ok, Err}
 use Rattle.std.specs.Float.{binary64}
 use Rattle.std.specs.Float.Ieee.{to_bits}
-use Rattle.solver.specs.declared.answers.Solution.{Solution}
-use Rattle.solver.specs.declared.answers.Solution.TheVariants.{Solved, Refused}
+use Rattle.solver.specs.declared.refusal.Refusal.TheVariants.{NoSuchRecord}
+use Rattle.solver.specs.Answers.{number, branch_number, ending_number, at_once, Solution}
 use Rattle.elementary.specs.declared.rule_set.RuleSet.{RuleSet}
 use Rattle.solver.specs.Book.{solve_record}
 use Rattle.solver.specs.LittleEndian.{overwritten}
@@ -30,14 +30,14 @@ hex_by (suc k) n = hex_by k (n / 16) ++ (hex_digit (n % 16) ∷ [])
 abbrev pub space_and_count : ℕ → List ℕ
 space_and_count n = 32 ∷ decimal n
 
--- after the record number: the volatility's bits, steps, branch and ending, or "REF" and the refusal
+-- after the record number: the volatility's bits, steps, branch and ending, or "REF" and the refusal's number
 abbrev pub answer_bytes : Solution → List ℕ
-answer_bytes (Solved a) = 32 ∷ hex_by 16 (to_bits binary64 a.volatility) ++ space_and_count a.steps ++ space_and_count a.branch ++ space_and_count a.ending
-answer_bytes (Refused n steps) = 32 ∷ 82 ∷ 69 ∷ 70 ∷ space_and_count n
+answer_bytes (Ok a) = 32 ∷ hex_by 16 (to_bits binary64 a.volatility) ++ space_and_count a.steps ++ space_and_count (branch_number a.branch) ++ space_and_count (ending_number a.ending)
+answer_bytes (Err failure) = 32 ∷ 82 ∷ 69 ∷ 70 ∷ space_and_count (number failure.refusal)
 
 -- what the bytes of a record answer; a last part under 64 bytes gives 23
 unfoldable pub answer_at : RuleSet → List ℕ → Solution
-answer_at set bytes = let again = solve_record set bytes in cond (ltb (length bytes) 64) (Refused 23 0) again
+answer_at set bytes = let again = solve_record set bytes in cond (ltb (length bytes) 64) (Err (at_once NoSuchRecord)) again
 
 -- the line of record i
 unfoldable pub line_of : RuleSet → ℕ → List ℕ → List ℕ

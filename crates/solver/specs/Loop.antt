@@ -1,11 +1,12 @@
 -- A loop that takes steps until its test holds, its limit is reached or a step is refused: over any type S of states, R of records, and any rule for what
 -- a state leads to. Definitions only.
 use Rattle.std.specs.Prelude.{List, [], ◌∷◌, ◌++◌, ℕ, zero, suc}
+use Rattle.prices.specs.declared.refusal.Refusal.{Refusal}
 
--- how a run ends: its test holds, its limit is reached, or a step meets a number
+-- how a run ends: its test holds, its limit is reached, or a step is refused
 pub data Ending (S : Type 0) : Type 0 where
   by_test by_limit : S → Ending S
-  by_refusal : ℕ → Ending S
+  by_refusal : Refusal → Ending S
 
 -- what a state leads to: a completed step, with its record and the state after it, or an ending
 pub data Transition (S R : Type 0) : Type 0 where

@@ -1,5 +1,5 @@
 -- solve: `implied_volatility_from_a_transformed_rational_guess_with_limited_iterations` with document 01's refusals. Definitions only.
-use Rattle.std.specs.Prelude.{Bool, true, false, cond, ◌&&◌, List, [], ◌∷◌, ℕ, ◌*◌, length, ltb, eqb, ℤ, pos, negsuc, Float}
+use Rattle.std.specs.Prelude.{Bool, true, false, cond, ◌&&◌, List, [], ℕ, ◌*◌, length, ltb, ℤ, pos, negsuc, Float, ⊤, Result, Ok, Err, None, Some}
 use Rattle.std.specs.Float.{binary64}
 use Rattle.std.specs.Float.Ieee.{lt, le}
 use Rattle.elementary.specs.Ops.{◌⊖◌, ◌⊗◌, ◌⊘◌, +0, MAX, MIN}
@@ -10,14 +10,19 @@ use Rattle.elementary.specs.Ln.{ln_of}
 use Rattle.prices.specs.declared.inputs.OptionType.{OptionType}
 use Rattle.prices.specs.declared.inputs.OptionType.TheVariants.{Call, Put}
 use Rattle.prices.specs.Inputs.{negated, times}
+use Rattle.prices.specs.declared.refusal.Refusal.{Refusal as Unpriced}
+use Rattle.prices.specs.declared.refusal.Refusal.TheVariants.{Forward, Strike, Expiry}
 use Rattle.prices.specs.Black.{is_positive_normal, is_finite}
 use Rattle.solver.specs.declared.quote.Quote.{Quote}
 use Rattle.solver.specs.declared.state.State.{State}
 use Rattle.solver.specs.declared.state.Record.{Record}
-use Rattle.solver.specs.declared.answers.Solution.{Solution}
-use Rattle.solver.specs.declared.answers.Solution.TheVariants.{Solved, Refused}
-use Rattle.solver.specs.declared.answers.Target.{Target}
-use Rattle.solver.specs.declared.answers.Target.TheVariants.{Sought, NoLoop, Refused as NoTarget}
+use Rattle.solver.specs.declared.refusal.Refusal.{Refusal}
+use Rattle.solver.specs.declared.refusal.Refusal.TheVariants.{Price, Pricing, TrailTooShort}
+use Rattle.solver.specs.declared.answers.Branch.{Branch}
+use Rattle.solver.specs.declared.answers.Branch.TheVariants.{NoLoop}
+use Rattle.solver.specs.declared.answers.Ending.{Ending as CodeEnding}
+use Rattle.solver.specs.declared.answers.Ending.TheVariants.{NoLoop as Unlooped, StepTest, Limit}
+use Rattle.solver.specs.Answers.{Solution, Target, at_once}
 use Rattle.solver.specs.Loop.{Ending, by_test, by_limit, by_refusal, Run, run}
 use Rattle.solver.specs.Step.{next_by}
 use Rattle.solver.specs.Guess.{Start, answered, stopped, looping, normalised_start}
@@ -27,7 +32,7 @@ use Rattle.solver.specs.Guess.{Start, answered, stopped, looping, normalised_sta
 -- a volatility over one unit of time, as one over the expiry
 abbrev pub over_expiry : Float → Start → Start
 over_expiry expiry (answered v) = answered (v ⊘ sqrt_of binary64 expiry)
-over_expiry expiry (stopped n) = stopped n
+over_expiry expiry (stopped refusal) = stopped refusal
 over_expiry expiry (looping branch beta step st) = looping branch beta step st
 
 -- the price from which on no volatility is looked for: the strike for a Call and the forward for a Put, as in the Rust, or by the textbook the other one
@@ -47,36 +52,49 @@ accepted_start set q =
     let guessed = cond (lt +0 (times kind x)) mapped direct in
     cond (lt q.price intrinsic) (answered MIN) (cond (le (cap_of set kind q.forward q.strike) q.price) (answered MAX) guessed)
 
--- ---- the checks of the input: each is its number where it refuses, else 0
+-- ---- the checks of the input: each passes, or refuses
+
+abbrev pub Check : Type 0
+Check = Result ⊤ Refusal
 
 -- the first check that refuses
-unfoldable pub first_number : List ℕ → ℕ
-first_number [] = 0
-first_number (n ∷ ns) = let rest = first_number ns in cond (eqb n 0) rest n
+abbrev pub and_then : Check → Check → Check
+and_then (Ok passed) next = next
+and_then (Err refusal) next = Err refusal
 
-abbrev pub price_number : Float → ℕ
-price_number price = cond (is_finite price) 0 1
+-- 1
+abbrev pub price_check : Float → Check
+price_check price = cond (is_finite price) (Ok tt) (Err Price)
 
 -- 2, 3, 4 in this order
-unfoldable pub market_number : Float → Float → Float → ℕ
-market_number forward strike expiry = cond (is_positive_normal forward) (cond (is_positive_normal strike) (cond (is_positive_normal expiry) 0 4) 3) 2
+unfoldable pub market_check : Float → Float → Float → Result ⊤ Unpriced
+market_check forward strike expiry = cond (is_positive_normal forward) (cond (is_positive_normal strike) (cond (is_positive_normal expiry) (Ok tt) (Err Expiry)) (Err Strike)) (Err Forward)
 
--- 1, 2, 3, 4 in this order, or 0 where none is met
-unfoldable pub input_number : Quote → ℕ
-input_number q = cond (is_finite q.price) (cond (is_positive_normal q.forward) (cond (is_positive_normal q.strike) (cond (is_positive_normal q.expiry) 0 4) 3) 2) 1
+-- as one of this layer's checks
+abbrev pub passed_up : Result ⊤ Unpriced → Check
+passed_up (Ok passed) = Ok passed
+passed_up (Err refusal) = Err (Pricing refusal)
+
+-- 1, 2, 3, 4 in this order
+abbrev pub input_check : Quote → Check
+input_check q = and_then (price_check q.price) (passed_up (market_check q.forward q.strike q.expiry))
+
+-- what is answered where a check passes, or where it refuses
+abbrev pub by_check : {A : Type 0} → Check → A → (Refusal → A) → A
+by_check (Ok passed) answer refused = answer
+by_check (Err refusal) answer refused = refused refusal
 
 -- 1 to 4, then 21 where the trail is too short
 unfoldable pub start_of : RuleSet → Bool → Quote → Start
 start_of set short q =
-    let number = input_number q in
     let accepted = accepted_start set q in
-    cond (eqb number 0) (cond short (stopped 21) accepted) (stopped number)
+    by_check (input_check q) (cond short (stopped TrailTooShort) accepted) stopped
 
 -- what a loop seeks: the target that its start has
 abbrev pub target_in : Start → Target
-target_in (answered v) = NoLoop
-target_in (stopped n) = NoTarget n
-target_in (looping branch beta step st) = Sought beta
+target_in (answered v) = Ok None
+target_in (stopped refusal) = Err refusal
+target_in (looping branch beta step st) = Ok (Some beta)
 
 -- of a quote's loop
 unfoldable pub target_of : RuleSet → Quote → Target
@@ -90,23 +108,23 @@ pub record SolveResult : Type 0 where
   pub answer : Solution
 
 -- a volatility with its branch, ending and steps
-abbrev pub solution_of : Float → ℕ → ℕ → ℕ → Solution
-solution_of v branch ending steps = Solved (record { volatility = v; branch = branch; ending = ending; steps = steps })
+abbrev pub solution_of : Float → Branch → CodeEnding → ℕ → Solution
+solution_of v branch ending steps = Ok (record { volatility = v; branch = branch; ending = ending; steps = steps })
 
--- ending 1 step test, 2 limit; a number met inside the loop comes with the completed steps
-abbrev pub answer_of : ℕ → Float → Ending State → ℕ → Solution
-answer_of branch root (by_test st) steps = solution_of (st.s ⊘ root) branch 1 steps
-answer_of branch root (by_limit st) steps = solution_of (st.s ⊘ root) branch 2 steps
-answer_of branch root (by_refusal n) steps = Refused n steps
+-- a refusal met inside the loop comes with the completed steps
+abbrev pub answer_of : Branch → Float → Ending State → ℕ → Solution
+answer_of branch root (by_test st) steps = solution_of (st.s ⊘ root) branch StepTest steps
+answer_of branch root (by_limit st) steps = solution_of (st.s ⊘ root) branch Limit steps
+answer_of branch root (by_refusal refusal) steps = Err (record { refusal = Pricing refusal; steps = steps })
 
 -- what a loop's run records and answers
-abbrev pub result_of_run : ℕ → Float → Run State Record → SolveResult
+abbrev pub result_of_run : Branch → Float → Run State Record → SolveResult
 result_of_run branch root w = record { records = w.records; answer = answer_of branch root w.ending (length w.records) }
 
 -- with a limit of n steps
 unfoldable pub result_from : Start → Float → ℕ → SolveResult
-result_from (answered v) expiry n = record { records = []; answer = solution_of v 0 0 0 }
-result_from (stopped k) expiry n = record { records = []; answer = Refused k 0 }
+result_from (answered v) expiry n = record { records = []; answer = solution_of v NoLoop Unlooped 0 }
+result_from (stopped refusal) expiry n = record { records = []; answer = Err (at_once refusal) }
 result_from (looping branch beta step st) expiry n = result_of_run branch (sqrt_of binary64 expiry) (run (next_by step) n st)
 
 -- with a trail of so many bytes where `keep` is true, else with none; n is max(limit, 0)

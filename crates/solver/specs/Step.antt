@@ -1,19 +1,18 @@
 -- The three steps of so_rational.rs, operation by operation. Definitions only.
-use Rattle.std.specs.Prelude.{Bool, cond, ◌&&◌, ◌||◌, Float}
+use Rattle.std.specs.Prelude.{Bool, cond, ◌&&◌, ◌||◌, Float, Result, Ok, Err}
 use Rattle.std.specs.Float.Ieee.{neg, lt, le}
 use Rattle.elementary.specs.Ops.{◌⊕◌, ◌⊖◌, ◌⊗◌, ◌⊘◌, float, +0, half, one, two, EPSILON, MIN, quarter}
 use Rattle.elementary.specs.declared.rule_set.RuleSet.{RuleSet}
 use Rattle.elementary.specs.Methods.{abs_of, max_of, square_of}
 use Rattle.elementary.specs.Ln.{ln_of}
-use Rattle.prices.specs.declared.answer.Answer.{Answer}
-use Rattle.prices.specs.declared.answer.Answer.TheVariants.{Value, Refused as Number}
+use Rattle.prices.specs.declared.refusal.Refusal.{Refusal}
+use Rattle.prices.specs.Answers.{Answer}
 use Rattle.prices.specs.Vega.{vega_of}
 use Rattle.prices.specs.Black.{call_of}
 use Rattle.solver.specs.declared.state.State.{State}
 use Rattle.solver.specs.declared.state.Bracket.{Bracket}
 use Rattle.solver.specs.declared.state.Record.{Record}
-use Rattle.solver.specs.declared.state.StepResult.{StepResult}
-use Rattle.solver.specs.declared.state.StepResult.TheVariants.{Completed, Refused}
+use Rattle.solver.specs.declared.state.Step.{Step}
 use Rattle.solver.specs.Loop.{Transition, advance, stop, by_test, by_refusal}
 
 -- the factor that a third-order step puts on Newton's
@@ -111,14 +110,18 @@ module _ (ds_of : Float → Float → Float → Bracket → Float) (after_of : F
   abbrev pub state_after : State
   state_after = record { s = after_of st.s ds_at; ds = ds_at; previous = st.ds; left = bracket_of.left; right = bracket_of.right }
 
+-- a completed step, or a refused one
+abbrev pub StepResult : Type 0
+StepResult = Result Step Refusal
+
 -- the price at s may be refused
-abbrev pub with_price : Answer → (Float → StepResult) → StepResult
-with_price (Value b) f = f b
-with_price (Number n) f = Refused n
+abbrev pub with_price : Answer → (Float → Step) → StepResult
+with_price (Ok b) f = Ok (f b)
+with_price (Err refusal) f = Err refusal
 
 -- a step with these formulas of ds and of s after
 abbrev pub step_by : (Float → Float → Float → Bracket → Float) → (Float → Float → Float) → RuleSet → Float → Float → State → StepResult
-step_by ds_of after_of set x beta st = with_price (call_of set x st.s) (λ b. Completed (state_after ds_of after_of beta st b (vega_of x st.s)) (record_of ds_of after_of beta st b (vega_of x st.s)))
+step_by ds_of after_of set x beta st = with_price (call_of set x st.s) (λ b. record { state = state_after ds_of after_of beta st b (vega_of x st.s); kept = record_of ds_of after_of beta st b (vega_of x st.s) })
 
 -- branch 1
 unfoldable pub lower_step : RuleSet → Float → Float → State → StepResult
@@ -140,8 +143,8 @@ is_close st = le (abs_of st.ds) (EPSILON ⊗ st.s)
 
 -- a completed step goes on, a refused one ends the run
 abbrev pub transition_of : StepResult → Transition State Record
-transition_of (Completed st r) = advance r st
-transition_of (Refused n) = stop (by_refusal n)
+transition_of (Ok taken) = advance taken.kept taken.state
+transition_of (Err refusal) = stop (by_refusal refusal)
 
 -- The test comes before the step. `iterations` stays 0 in the Rust, so its bisection after three reversals is never taken.
 abbrev pub next_by : (State → StepResult) → State → Transition State Record

@@ -10,8 +10,9 @@ use Rattle.prices.specs.declared.inputs.OptionType.TheVariants.{Call, Put}
 use Rattle.prices.specs.Answers.{number_of, value_of}
 use Rattle.prices.specs.Black.{asymptotic_of}
 use Rattle.prices.specs.RationalCubic.{interpolation_of}
-use Rattle.solver.specs.declared.answers.Solution.{Solution}
-use Rattle.solver.specs.Answers.{number_in, volatility_in, branch_in, ending_in, steps_in}
+use Rattle.solver.specs.declared.answers.Branch.TheVariants.{NoLoop}
+use Rattle.solver.specs.declared.answers.Ending.TheVariants.{NoLoop as Unlooped}
+use Rattle.solver.specs.Answers.{Solution, number_in, volatility_in, branch_in, ending_in, steps_in}
 use Rattle.solver.specs.Solve.{solve_of, solve_with_trail, quote_of}
 use Rattle.solver.specs.Book.{book_record_bytes}
 use Rattle.solver.specs.Listing.{line_of}
@@ -26,7 +27,7 @@ with_trail bytes = (solve_with_trail rule_set_0 (quote_of (float 150) (float 100
 
 -- the line of record i, a Call with limit 2 and the other fields 0
 abbrev pub line_of_call : ℕ → Float → Float → Float → Float → List ℕ
-line_of_call i price forward strike expiry = line_of rule_set_0 i (book_record_bytes (quote_of price forward strike expiry Call) (pos 2) (record { volatility = +0; branch = 0; ending = 0; steps = 0 }))
+line_of_call i price forward strike expiry = line_of rule_set_0 i (book_record_bytes (quote_of price forward strike expiry Call) (pos 2) (record { volatility = +0; branch = NoLoop; ending = Unlooped; steps = 0 }))
 
 -- this volatility, answered before a guess
 pub record Gives (a : Solution) (volatility : Float) : Type 0 where

@@ -1,47 +1,57 @@
-// What solve, the bid and ask call, file, recheck and target answer. A refusal has document 01's number and, where there is
-// a loop, the completed steps.
+// What solve answers, and the bid and ask call.
+ghost use Rattle.std.specs.Prelude.{◌≡◌};
+ghost use Rattle.solver.specs.Answers.{branch_number, ending_number};
+
+use crate::refusal::Failure;
+
+// The loop that found a volatility, or none: 2 and 3 lie below and above the middle, 5 is what branch 4
+// leaves of the upper tail.
+#[derive(Clone, Copy, Debug, PartialEq, Eq)]
+pub enum Branch {
+    NoLoop = 0,
+    Lower = 1,
+    LowerMiddle = 2,
+    UpperMiddle = 3,
+    Upper = 4,
+    UpperRest = 5,
+}
+
+impl Branch {
+    pub fn number(self) -> u8
+        ensures { result ≡ branch_number self }
+    {
+        self as u8
+    }
+}
+
+// How the loop ended, if there was one: by its step test or by its limit.
+#[derive(Clone, Copy, Debug, PartialEq, Eq)]
+pub enum Ending {
+    NoLoop = 0,
+    StepTest = 1,
+    Limit = 2,
+}
+
+impl Ending {
+    pub fn number(self) -> u8
+        ensures { result ≡ ending_number self }
+    {
+        self as u8
+    }
+}
 
 // A volatility, the branch whose loop found it, how that loop ended, and its completed steps.
 #[derive(Clone, Copy)]
 pub struct ImpliedVolatility {
     pub volatility: f64,
-    pub branch: u8,
-    pub ending: u8,
+    pub branch: Branch,
+    pub ending: Ending,
     pub steps: u32,
 }
 
+// What solve answers at a low and at a high price.
 #[derive(Clone, Copy)]
-pub enum Solution {
-    Solved(ImpliedVolatility),
-    Refused(u8, u32),
-}
-
-// A low and a high price: the low one's solution and the high one's, or the number that refuses both.
-#[derive(Clone, Copy)]
-pub enum RangeSolution {
-    Ends(Solution, Solution),
-    Refused(u8),
-}
-
-// Filing answers the used count after it.
-#[derive(Clone, Copy)]
-pub enum Filing {
-    Filed(u64),
-    Refused(u8, u32),
-}
-
-#[derive(Clone, Copy)]
-pub enum Checking {
-    Agrees,
-    Differs,
-    Refused(u8, u32),
-}
-
-// The price that a loop seeks, out of the money and normalised; no loop where the answer comes before
-// a guess.
-#[derive(Clone, Copy)]
-pub enum Target {
-    Sought(f64),
-    NoLoop,
-    Refused(u8),
+pub struct Ends {
+    pub low: Result<ImpliedVolatility, Failure>,
+    pub high: Result<ImpliedVolatility, Failure>,
 }

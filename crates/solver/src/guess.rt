@@ -3,12 +3,12 @@
 ghost use Rattle.std.specs.Prelude.{◌≡◌, cond};
 ghost use Rattle.elementary.specs.Ops.{◌⊗◌, +0};
 ghost use Rattle.solver.specs.Inside.Branch.{branch_step};
-ghost use Rattle.solver.specs.Inside.Start.{HasExponentials, Implements};
+ghost use Rattle.solver.specs.Inside.Start.{meaning};
 ghost use Rattle.solver.specs.Guess as Guess;
 ghost use Rattle.solver.specs.Guess.{TWO_PI_OVER_SQRT_TWENTY_SEVEN, is_below_horizon, inverse_f_lower_map, upper_map, lower_map, lower_guess, middle_guess, upper_f, upper_guess, start_at, with_value, tail_start, upper_place, lower_start, upper_start, guessed_start, mapped_start, normalised_start};
 
-use crate::normalised_market::{NormalisedMarket, price_and_vega_at};
-use crate::numbers;
+use crate::answers::Branch;
+use crate::normalised_market::NormalisedMarket;
 use crate::state::{MapAndDerivatives, Start, State};
 use elementary::exp::exp;
 use elementary::limits::{MAX, MIN};
@@ -19,13 +19,12 @@ use elementary::normal_distribution::{
 };
 use elementary::rule_set::RuleSet;
 use elementary::sqrt::sqrt;
-use prices::answer::Answer;
 use prices::inputs::OptionType;
 use prices::intrinsic::normalised_intrinsic;
-use prices::point::PriceAndVega;
 use prices::rational_cubic::{
     Side, convex_rational_cubic_control_parameter, rational_cubic_interpolation,
 };
+use prices::refusal::Refusal;
 
 const SQRT_DBL_MAX: f64 = 1.3407807929942596e154;
 
@@ -126,7 +125,7 @@ fn compute_f_lower_map_and_first_two_derivatives(set: RuleSet, x: f64, s: f64) -
 
 // ---- the first s of each branch
 
-fn lower_guess(set: RuleSet, x: f64, beta: f64, b_l: f64, s_l: f64) -> Answer
+fn lower_guess(set: RuleSet, x: f64, beta: f64, b_l: f64, s_l: f64) -> Result<f64, Refusal>
     ensures { result ≡ lower_guess set x beta b_l s_l }
 {
     let m = compute_f_lower_map_and_first_two_derivatives(set, x, s_l);
@@ -142,16 +141,12 @@ fn lower_guess(set: RuleSet, x: f64, beta: f64, b_l: f64, s_l: f64) -> Answer
         true,
         Side::Right,
     );
-    match rational_cubic_interpolation(beta, 0.0, b_l, 0.0, f_l, 1.0, m.fp, r_ll) {
-        Answer::Value(f) => {
-            if f <= 0.0 {
-                let t = beta / b_l;
-                return Answer::Value(inverse_f_lower_map(set, x, (f_l * t + b_l * (1.0 - t)) * t));
-            }
-            Answer::Value(inverse_f_lower_map(set, x, f))
-        }
-        Answer::Refused(n) => Answer::Refused(n),
+    let f = rational_cubic_interpolation(beta, 0.0, b_l, 0.0, f_l, 1.0, m.fp, r_ll)?;
+    if f <= 0.0 {
+        let t = beta / b_l;
+        return Ok(inverse_f_lower_map(set, x, (f_l * t + b_l * (1.0 - t)) * t));
     }
+    Ok(inverse_f_lower_map(set, x, f))
 }
 
 // Between two places with their prices and vegas, for either middle branch.
@@ -164,7 +159,7 @@ fn middle_guess(
     v_1: f64,
     v_2: f64,
     side: Side,
-) -> Answer
+) -> Result<f64, Refusal>
     ensures { result ≡ middle_guess beta b_1 b_2 s_1 s_2 v_1 v_2 side }
 {
     let r = convex_rational_cubic_control_parameter(
@@ -182,7 +177,7 @@ fn middle_guess(
 }
 
 // The cubic's f, or -f64::MAX where the second derivative is too large for it.
-fn upper_f(beta: f64, b_max: f64, b_h: f64, m: MapAndDerivatives) -> Answer
+fn upper_f(beta: f64, b_max: f64, b_h: f64, m: MapAndDerivatives) -> Result<f64, Refusal>
     ensures { result ≡ upper_f beta b_max b_h m }
 {
     let fpp = m.fpp;
@@ -200,28 +195,28 @@ fn upper_f(beta: f64, b_max: f64, b_h: f64, m: MapAndDerivatives) -> Answer
         );
         rational_cubic_interpolation(beta, b_h, b_max, m.f, 0.0, m.fp, -0.5, r_hh)
     } else {
-        Answer::Value(MIN)
+        Ok(MIN)
     }
 }
 
-fn upper_guess(set: RuleSet, x: f64, beta: f64, b_max: f64, b_h: f64, s_h: f64) -> Answer
+fn upper_guess(
+    set: RuleSet,
+    x: f64,
+    beta: f64,
+    b_max: f64,
+    b_h: f64,
+    s_h: f64,
+) -> Result<f64, Refusal>
     ensures { result ≡ upper_guess set x beta b_max b_h s_h }
 {
     let m = compute_f_upper_map_and_first_two_derivatives(set, x, s_h);
-    match upper_f(beta, b_max, b_h, m) {
-        Answer::Value(f) => {
-            if f <= 0.0 {
-                let h = b_max - b_h;
-                let t = (beta - b_h) / h;
-                return Answer::Value(inverse_f_upper_map_under(
-                    set,
-                    (m.f * (1.0 - t) + 0.5 * h * t) * (1.0 - t),
-                ));
-            }
-            Answer::Value(inverse_f_upper_map_under(set, f))
-        }
-        Answer::Refused(n) => Answer::Refused(n),
+    let f = upper_f(beta, b_max, b_h, m)?;
+    if f <= 0.0 {
+        let h = b_max - b_h;
+        let t = (beta - b_h) / h;
+        return Ok(inverse_f_upper_map_under(set, (m.f * (1.0 - t) + 0.5 * h * t) * (1.0 - t)));
     }
+    Ok(inverse_f_upper_map_under(set, f))
 }
 
 // ---- where a run begins
@@ -241,51 +236,47 @@ fn start_at(left: f64, right: f64, s: f64) -> State
 
 // A loop from its guess; a refusal passes up.
 fn start_loop(
-    set: RuleSet,
-    branch: u8,
+    branch: Branch,
     m: NormalisedMarket,
     left: f64,
     right: f64,
-    guess: Answer,
-) -> Start
-    requires { HasExponentials m }
-    ensures { Implements set result (with_value guess (λ s. Guess.looping branch m.beta (branch_step set branch m.b_max m.x m.beta) (start_at left right s))) }
+    guess: Result<f64, Refusal>,
+) -> Result<Start, Refusal>
+    ensures { (set : RuleSet) → meaning set result ≡ with_value guess (λ s. Guess.looping branch m.beta (branch_step set branch m.b_max m.x m.beta) (start_at left right s)) }
 {
-    match guess {
-        Answer::Value(s) => Start::Looping(branch, m, start_at(left, right, s)),
-        Answer::Refused(n) => Start::Stopped(n),
-    }
+    Ok(Start::Looping(branch, m, start_at(left, right, guess?)))
 }
 
 // Below b_c: branches 1 and 2.
-fn lower_start(set: RuleSet, m: NormalisedMarket, s_c: f64, b_c: f64, v_c: f64) -> Start
-    requires { HasExponentials m }
-    ensures { Implements set result (lower_start set m.x m.beta s_c b_c v_c) }
+fn lower_start(
+    set: RuleSet,
+    m: NormalisedMarket,
+    s_c: f64,
+    b_c: f64,
+    v_c: f64,
+) -> Result<Start, Refusal>
+    ensures { meaning set result ≡ lower_start set m.x m.beta s_c b_c v_c }
 {
     let s_l = s_c - b_c / v_c;
-    match price_and_vega_at(set, m, s_l) {
-        PriceAndVega::Both(b_l, v_l) => {
-            if m.beta < b_l {
-                let guess = lower_guess(set, m.x, m.beta, b_l, s_l);
-                return start_loop(set, numbers::LOWER, m, MIN, s_l, guess);
-            }
-            let guess = middle_guess(m.beta, b_l, b_c, s_l, s_c, v_l, v_c, Side::Right);
-            start_loop(set, numbers::LOWER_MIDDLE, m, s_l, s_c, guess)
-        }
-        PriceAndVega::Refused(n) => Start::Stopped(n),
+    let at_l = m.price_and_vega(set, s_l)?;
+    let b_l = at_l.price;
+    if m.beta < b_l {
+        let guess = lower_guess(set, m.x, m.beta, b_l, s_l);
+        return start_loop(Branch::Lower, m, MIN, s_l, guess);
     }
+    let guess = middle_guess(m.beta, b_l, b_c, s_l, s_c, at_l.vega, v_c, Side::Right);
+    start_loop(Branch::LowerMiddle, m, s_l, s_c, guess)
 }
 
 // Above b_h: branches 4 and 5.
-fn tail_start(set: RuleSet, m: NormalisedMarket, b_h: f64, s_h: f64) -> Start
-    requires { HasExponentials m }
-    ensures { Implements set result (tail_start set m.x m.beta m.b_max b_h s_h) }
+fn tail_start(set: RuleSet, m: NormalisedMarket, b_h: f64, s_h: f64) -> Result<Start, Refusal>
+    ensures { meaning set result ≡ tail_start set m.x m.beta m.b_max b_h s_h }
 {
     let guess = upper_guess(set, m.x, m.beta, m.b_max, b_h, s_h);
     if m.beta > 0.5 * m.b_max {
-        return start_loop(set, numbers::UPPER, m, s_h, MAX, guess);
+        return start_loop(Branch::Upper, m, s_h, MAX, guess);
     }
-    start_loop(set, numbers::UPPER_REST, m, s_h, MAX, guess)
+    start_loop(Branch::UpperRest, m, s_h, MAX, guess)
 }
 
 fn upper_place(b_max: f64, s_c: f64, b_c: f64, v_c: f64) -> f64
@@ -299,53 +290,50 @@ fn upper_place(b_max: f64, s_c: f64, b_c: f64, v_c: f64) -> f64
 }
 
 // From b_c on: branches 3, 4 and 5.
-fn upper_start(set: RuleSet, m: NormalisedMarket, s_c: f64, b_c: f64, v_c: f64) -> Start
-    requires { HasExponentials m }
-    ensures { Implements set result (upper_start set m.x m.beta m.b_max s_c b_c v_c) }
+fn upper_start(
+    set: RuleSet,
+    m: NormalisedMarket,
+    s_c: f64,
+    b_c: f64,
+    v_c: f64,
+) -> Result<Start, Refusal>
+    ensures { meaning set result ≡ upper_start set m.x m.beta m.b_max s_c b_c v_c }
 {
     let s_h = upper_place(m.b_max, s_c, b_c, v_c);
-    match price_and_vega_at(set, m, s_h) {
-        PriceAndVega::Both(b_h, v_h) => {
-            if m.beta <= b_h {
-                let guess = middle_guess(m.beta, b_c, b_h, s_c, s_h, v_c, v_h, Side::Left);
-                return start_loop(set, numbers::UPPER_MIDDLE, m, s_c, s_h, guess);
-            }
-            tail_start(set, m, b_h, s_h)
-        }
-        PriceAndVega::Refused(n) => Start::Stopped(n),
+    let at_h = m.price_and_vega(set, s_h)?;
+    let b_h = at_h.price;
+    if m.beta <= b_h {
+        let guess = middle_guess(m.beta, b_c, b_h, s_c, s_h, v_c, at_h.vega, Side::Left);
+        return start_loop(Branch::UpperMiddle, m, s_c, s_h, guess);
     }
+    tail_start(set, m, b_h, s_h)
 }
 
 // From the price at √(2 |x|) on.
-fn guessed_start(set: RuleSet, m: NormalisedMarket) -> Start
-    requires { HasExponentials m }
-    ensures { Implements set result (guessed_start set m.x m.beta m.b_max) }
+fn guessed_start(set: RuleSet, m: NormalisedMarket) -> Result<Start, Refusal>
+    ensures { meaning set result ≡ guessed_start set m.x m.beta m.b_max }
 {
     let s_c = sqrt(2.0 * abs(m.x));
-    match price_and_vega_at(set, m, s_c) {
-        PriceAndVega::Both(b_c, v_c) => {
-            if m.beta < b_c {
-                return lower_start(set, m, s_c, b_c, v_c);
-            }
-            upper_start(set, m, s_c, b_c, v_c)
-        }
-        PriceAndVega::Refused(n) => Start::Stopped(n),
+    let at_c = m.price_and_vega(set, s_c)?;
+    if m.beta < at_c.price {
+        return lower_start(set, m, s_c, at_c.price, at_c.vega);
     }
+    upper_start(set, m, s_c, at_c.price, at_c.vega)
 }
 
 // From the target and x after all mapping.
-fn mapped_start(set: RuleSet, x: f64, beta: f64) -> Start
-    ensures { Implements set result (mapped_start set x beta) }
+fn mapped_start(set: RuleSet, x: f64, beta: f64) -> Result<Start, Refusal>
+    ensures { meaning set result ≡ mapped_start set x beta }
 {
     if beta <= 0.0 {
-        return Start::Answered(0.0);
+        return Ok(Start::Answered(0.0));
     }
     if beta < 0.0 {
-        return Start::Answered(0.0);
+        return Ok(Start::Answered(0.0));
     }
     let b_max = exp(0.5 * x);
     if beta >= b_max {
-        return Start::Answered(MAX);
+        return Ok(Start::Answered(MAX));
     }
     let down = exp(-0.5 * x);
     guessed_start(
@@ -360,13 +348,18 @@ fn mapped_start(set: RuleSet, x: f64, beta: f64) -> Start
 }
 
 // The Rust's unchecked_normalised_implied_volatility_.., up to its loops.
-pub(crate) fn normalised_start(set: RuleSet, beta: f64, x: f64, option_type: OptionType) -> Start
-    ensures { Implements set result (normalised_start set beta x option_type) }
+pub(crate) fn normalised_start(
+    set: RuleSet,
+    beta: f64,
+    x: f64,
+    option_type: OptionType,
+) -> Result<Start, Refusal>
+    ensures { meaning set result ≡ normalised_start set beta x option_type }
 {
-    let mapped_x = option_type.times(x);
-    let mut target = beta;
-    if mapped_x > 0.0 {
-        target = max(beta - normalised_intrinsic(x, option_type), 0.0);
-    }
-    mapped_start(set, mapped_x, target)
+    let beta = if option_type * x > 0.0 {
+        max(beta - normalised_intrinsic(x, option_type), 0.0)
+    } else {
+        beta
+    };
+    mapped_start(set, option_type * x, beta)
 }

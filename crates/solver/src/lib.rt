@@ -4,8 +4,8 @@
 
 pub mod normalised_market; // what a run looks at
 pub mod quote; // what is asked
-pub mod answers; // what solve, file and recheck answer
-pub mod numbers; // refusals, branches and endings
+pub mod refusal; // what is refused, by number
+pub mod answers; // what solve answers
 pub mod state; // what the loops carry
 mod step; // the three Householder steps
 mod guess; // where a run starts, after normalising

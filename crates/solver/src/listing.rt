@@ -1,14 +1,13 @@
 // A line of relist, byte by byte.
 ghost use Rattle.std.specs.Prelude.{◌≡◌, [], ◌∷◌, ◌+◌, ◌≤◌, length};
-ghost use Rattle.elementary.specs.RuleSets.{rule_set_0};
 ghost use Rattle.solver.specs.LittleEndian.{overwritten};
 ghost use Rattle.solver.specs.Listing.{decimal_by, hex_digit, hex_by, space_and_count, answer_bytes, answer_at, line_in};
 
-use crate::answers::Solution;
+use crate::answers::ImpliedVolatility;
 use crate::book::solve_record;
-use crate::numbers;
+use crate::refusal::{Failure, Refusal};
 use elementary::methods::bits_of;
-use elementary::rule_set::{RULE_SET_0, RuleSet};
+use elementary::rule_set::RuleSet;
 
 // The bytes that any line fits in.
 const LINE_BYTES: usize = 128;
@@ -70,41 +69,41 @@ fn put_space_and_count(out: &mut [u8], at: usize, n: u64) -> usize
 }
 
 // What follows the record number, but for the line feed.
-fn put_answer(out: &mut [u8], at: usize, answer: Solution) -> usize
+fn put_answer(out: &mut [u8], at: usize, answer: Result<ImpliedVolatility, Failure>) -> usize
     requires { at + 80 ≤ length out.old }
     ensures value { result ≡ at + length (answer_bytes answer) }
     ensures out_after { out.new ≡ overwritten at (answer_bytes answer) out.old }
 {
     let end = put_byte(out, at, b' ');
     match answer {
-        Solution::Solved(a) => {
+        Ok(a) => {
             let end = put_hex(out, end, 16, bits_of(a.volatility));
             let end = put_space_and_count(out, end, a.steps as u64);
-            let end = put_space_and_count(out, end, a.branch as u64);
-            put_space_and_count(out, end, a.ending as u64)
+            let end = put_space_and_count(out, end, a.branch.number() as u64);
+            put_space_and_count(out, end, a.ending.number() as u64)
         }
-        Solution::Refused(n, _) => {
+        Err(failure) => {
             let end = put_byte(out, end, b'R');
             let end = put_byte(out, end, b'E');
             let end = put_byte(out, end, b'F');
-            put_space_and_count(out, end, n as u64)
+            put_space_and_count(out, end, failure.refusal.number() as u64)
         }
     }
 }
 
 // What the record answers; a part under 64 bytes 23.
-fn answer_of(set: RuleSet, bytes: &[u8]) -> Solution
+fn answer_of(set: RuleSet, bytes: &[u8]) -> Result<ImpliedVolatility, Failure>
     ensures { result ≡ answer_at set bytes.now }
 {
     if bytes.len() < 64 {
-        return Solution::Refused(numbers::NO_SUCH_RECORD, 0);
+        return Err(Failure::from(Refusal::NoSuchRecord));
     }
     solve_record(set, bytes)
 }
 
 // Writes the line of record `index` to the start of `out` and answers its length. An `out` under 128
 // bytes stays as it is, and the answer is 0.
-fn line_under(set: RuleSet, index: u64, bytes: &[u8], out: &mut [u8]) -> usize
+pub fn line(set: RuleSet, index: u64, bytes: &[u8], out: &mut [u8]) -> usize
     ensures value { result ≡ (line_in set index bytes.now out.old).count }
     ensures out_after { out.new ≡ (line_in set index bytes.now out.old).bytes }
 {
@@ -114,11 +113,4 @@ fn line_under(set: RuleSet, index: u64, bytes: &[u8], out: &mut [u8]) -> usize
     let end = put_decimal(out, 0, 20, index);
     let end = put_answer(out, end, answer_of(set, bytes));
     put_byte(out, end, b'\n')
-}
-
-pub fn line(index: u64, bytes: &[u8], out: &mut [u8]) -> usize
-    ensures value { result ≡ (line_in rule_set_0 index bytes.now out.old).count }
-    ensures out_after { out.new ≡ (line_in rule_set_0 index bytes.now out.old).bytes }
-{
-    line_under(RULE_SET_0, index, bytes, out)
 }

@@ -1,4 +1,5 @@
 // What solve is asked for: the market price of an option on a future.
+
 use prices::inputs::OptionType;
 
 #[derive(Clone, Copy)]
@@ -19,11 +20,4 @@ pub struct QuoteRange {
     pub strike: f64,
     pub expiry: f64,
     pub option_type: OptionType,
-}
-
-// What a kind's byte says, in a record or from another language.
-#[derive(Clone, Copy)]
-pub enum Kind {
-    Known(OptionType),
-    Unknown,
 }

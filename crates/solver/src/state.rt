@@ -1,4 +1,5 @@
 // What the loops carry.
+use crate::answers::Branch;
 use crate::normalised_market::NormalisedMarket;
 
 // A loop's state: document 01's five floats.
@@ -38,25 +39,17 @@ pub struct Record {
     pub after: f64,
 }
 
-// A step is completed, or meets 7.
+// A completed step: the state after it, and what the trail keeps of it.
 #[derive(Clone, Copy)]
-pub enum StepResult {
-    Completed(State, Record),
-    Refused(u8),
+pub struct Step {
+    pub state: State,
+    pub kept: Record,
 }
 
-// Where a run begins: answered before a guess, refused before a loop, or with a loop's branch, its
-// market and the state before its first step.
+// Where a run begins: answered before a guess, or with a loop's branch, its market and the state before
+// its first step.
 #[derive(Clone, Copy)]
 pub enum Start {
     Answered(f64),
-    Stopped(u8),
-    Looping(u8, NormalisedMarket, State),
-}
-
-// How a loop ends, and its last state.
-#[derive(Clone, Copy)]
-pub struct LoopExit {
-    pub ending: u8,
-    pub st: State,
+    Looping(Branch, NormalisedMarket, State),
 }

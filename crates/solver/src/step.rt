@@ -1,18 +1,17 @@
 // The Householder steps of so_rational.rs: the lower loop's (branch 1), the upper loop's (branch 4)
 // and the general one's (branches 2, 3 and 5).
 ghost use Rattle.std.specs.Prelude.{◌≡◌};
-ghost use Rattle.solver.specs.Inside.Start.{HasExponentials};
 ghost use Rattle.solver.specs.Step.{householder_factor, bracket_after, to_middle, halley_of, hh3_of, lower_ds, upper_ds, general_ds, is_close};
 ghost use Rattle.solver.specs.Inside.Branch.{branch_ds, branch_after, branch_step};
 
-use crate::normalised_market::{NormalisedMarket, price_and_vega_at};
-use crate::numbers;
-use crate::state::{Bracket, Record, State, StepResult};
+use crate::answers::Branch;
+use crate::normalised_market::NormalisedMarket;
+use crate::state::{Bracket, Record, State, Step};
 use elementary::limits::{EPSILON, MIN};
 use elementary::ln::ln;
 use elementary::methods::{abs, max, powi_2};
 use elementary::rule_set::RuleSet;
-use prices::point::PriceAndVega;
+use prices::refusal::Refusal;
 
 fn householder_factor(newton: f64, halley: f64, hh3: f64) -> f64
     ensures { result ≡ householder_factor newton halley hh3 }
@@ -104,7 +103,7 @@ fn general_ds(x: f64, beta: f64, s: f64, b: f64, bp: f64, bracket: Bracket) -> f
 
 // The branch's own ds.
 fn branch_ds(
-    branch: u8,
+    branch: Branch,
     b_max: f64,
     x: f64,
     beta: f64,
@@ -115,61 +114,57 @@ fn branch_ds(
 ) -> f64
     ensures { result ≡ branch_ds branch b_max x beta s b bp bracket }
 {
-    if branch == numbers::LOWER {
-        lower_ds(x, beta, s, b, bp, bracket)
-    } else if branch == numbers::UPPER {
-        upper_ds(b_max, x, beta, s, b, bp, bracket)
-    } else {
-        general_ds(x, beta, s, b, bp, bracket)
+    match branch {
+        Branch::Lower => lower_ds(x, beta, s, b, bp, bracket),
+        Branch::Upper => upper_ds(b_max, x, beta, s, b, bp, bracket),
+        _ => general_ds(x, beta, s, b, bp, bracket),
     }
 }
 
 // s after the branch's step: in the lower and the upper loop not below its half.
-fn branch_after(branch: u8, s: f64, ds: f64) -> f64
+fn branch_after(branch: Branch, s: f64, ds: f64) -> f64
     ensures { result ≡ branch_after branch s ds }
 {
-    if branch == numbers::LOWER {
-        s + max(ds, -0.5 * s)
-    } else if branch == numbers::UPPER {
-        s + max(ds, -0.5 * s)
-    } else {
-        s + ds
+    match branch {
+        Branch::Lower | Branch::Upper => s + max(ds, -0.5 * s),
+        _ => s + ds,
     }
 }
 
 // One Householder step of the branch's loop.
-pub(crate) fn step(set: RuleSet, branch: u8, m: NormalisedMarket, st: State) -> StepResult
-    requires { HasExponentials m }
+pub(crate) fn step(
+    set: RuleSet,
+    branch: Branch,
+    m: NormalisedMarket,
+    st: State,
+) -> Result<Step, Refusal>
     ensures { result ≡ branch_step set branch m.b_max m.x m.beta st }
 {
     let s = st.s;
-    match price_and_vega_at(set, m, s) {
-        PriceAndVega::Both(b, vega) => {
-            let bracket = bracket_after(b, m.beta, s, st.left, st.right);
-            let ds = branch_ds(branch, m.b_max, m.x, m.beta, s, b, vega, bracket);
-            let after = branch_after(branch, s, ds);
-            let left = bracket.left;
-            let right = bracket.right;
-            StepResult::Completed(
-                State {
-                    s: after,
-                    ds,
-                    previous: st.ds,
-                    left,
-                    right,
-                },
-                Record {
-                    s,
-                    b,
-                    vega,
-                    left,
-                    right,
-                    after,
-                },
-            )
-        }
-        PriceAndVega::Refused(n) => StepResult::Refused(n),
-    }
+    let at_s = m.price_and_vega(set, s)?;
+    let b = at_s.price;
+    let vega = at_s.vega;
+    let bracket = bracket_after(b, m.beta, s, st.left, st.right);
+    let ds = branch_ds(branch, m.b_max, m.x, m.beta, s, b, vega, bracket);
+    let after = branch_after(branch, s, ds);
+    let left = bracket.left;
+    let right = bracket.right;
+    let state = State {
+        s: after,
+        ds,
+        previous: st.ds,
+        left,
+        right,
+    };
+    let kept = Record {
+        s,
+        b,
+        vega,
+        left,
+        right,
+        after,
+    };
+    Ok(Step { state, kept })
 }
 
 // The step test.

@@ -7,28 +7,30 @@ use native.Mathlib.Omega.{arith}
 use lib.Ieee.{Float, nan, inf, fin, lt}
 use Rattle.elementary.specs.declared.rule_set.RuleSet.{RuleSet}
 use Rattle.elementary.proofs.Laws.Compare.{lt_asym}
-use Rattle.prices.specs.declared.answer.Answer.{Answer}
-use Rattle.prices.specs.declared.answer.Answer.TheVariants.{Value, Refused as Number}
+use Rattle.std.specs.Prelude.{Ok, Err}
+use Rattle.prices.specs.Answers.{Answer}
 use Rattle.prices.specs.Vega.{vega_of}
 use Rattle.prices.specs.Black.{call_of}
 use Rattle.solver.specs.declared.state.State.{State}
 use Rattle.solver.specs.declared.state.Record.{Record}
-use Rattle.solver.specs.declared.state.StepResult.{StepResult}
-use Rattle.solver.specs.declared.state.StepResult.TheVariants.{Completed, Refused}
+use Rattle.solver.specs.declared.state.Step.{Step}
 use Rattle.solver.specs.Loop.{advance, stop, by_test, run}
 use Rattle.solver.specs.declared.state.Bracket.{Bracket}
-use Rattle.solver.specs.Step.{bracket_after, ds_at, record_of, state_after, with_price, step_by, is_close, transition_of, next_by}
+use Rattle.solver.specs.Step.{StepResult, bracket_after, ds_at, record_of, state_after, with_price, step_by, is_close, transition_of, next_by}
 use Rattle.solver.specs.Promises.Demand3.{At, Linked, NotBelow, NotAbove, EndFrom}
 use Rattle.solver.proofs.Laws.Runs.{trace, every, linked, from}
 
 -- ---- a completed step, from the state that it starts at
-pub step_completed : (step : State → StepResult) (st st' : State) (r : Record) → next_by step st ≡ advance r st' → step st ≡ Completed st' r
+pub step_completed : (step : State → StepResult) (st st' : State) (r : Record) → next_by step st ≡ advance r st' → step st ≡ Ok (record { state = st'; kept = r })
 step_completed step st st' r = cases (is_close st) (step st)
   where
-    cases : (c : Bool) (w : StepResult) → cond c (stop (by_test st)) (transition_of w) ≡ advance r st' → w ≡ Completed st' r
+    cases : (c : Bool) (w : StepResult) → cond c (stop (by_test st)) (transition_of w) ≡ advance r st' → w ≡ Ok (record { state = st'; kept = r })
     cases true w e = cc
-    cases false (Completed st'' q) e = cc
-    cases false (Refused n) e = cc
+    cases false (Ok taken) e =
+        let kept : taken.kept ≡ r = cc in
+        let after : taken.state ≡ st' = cc in
+        rw (← kept, ← after) refl
+    cases false (Err n) e = cc
 
 -- ---- what it says of the ends: those of its record are the state's, moved by its price and its s, and the next state has them
 pub record BracketMove (beta : Float) (st st' : State) (r : Record) : Type 0 where
@@ -48,25 +50,17 @@ module _ (ds_of : Float → Float → Float → Bracket → Float) (after_of : F
   pub step_facts : (st st' : State) (r : Record) → next_by (step_by ds_of after_of set x beta) st ≡ advance r st' → StepFacts st st' r
   step_facts st st' r e = priced (call_of set x st.s) (step_completed (step_by ds_of after_of set x beta) st st' r e)
     where
-      S : Float → State
-      S b = state_after ds_of after_of beta st b (vega_of x st.s)
+      S : Float → Step
+      S b = record { state = state_after ds_of after_of beta st b (vega_of x st.s); kept = record_of ds_of after_of beta st b (vega_of x st.s) }
 
-      R : Float → Record
-      R b = record_of ds_of after_of beta st b (vega_of x st.s)
+      taken : (b : Float) → ◌≡◌ {A = StepResult} (Ok (S b)) (Ok (record { state = st'; kept = r })) → S b ≡ record { state = st'; kept = r }
+      taken b h = cc
 
-      same_state : (b : Float) → Completed (S b) (R b) ≡ Completed st' r → S b ≡ st'
-      same_state b h = cc
-
-      same_record : (b : Float) → Completed (S b) (R b) ≡ Completed st' r → R b ≡ r
-      same_record b h = cc
-
-      apart : (n : ℕ) → Refused n ≡ Completed st' r → ⊥
-      apart n h = let z : ◌≡◌ {A = ℕ} 0 1 = cc in omega arith
-
-      priced : (a : Answer) → with_price a (λ b. Completed (S b) (R b)) ≡ Completed st' r → StepFacts st st' r
-      priced (Number n) h = absurd (apart n h)
-      priced (Value b) h =
-          rw (← same_state b h, ← same_record b h)
+      priced : (a : Answer) → with_price a S ≡ Ok (record { state = st'; kept = r }) → StepFacts st st' r
+      priced (Err n) h = cc
+      priced (Ok b) h =
+          let t = taken b h in
+          rw (← ap (λ (w : Step). w.state) t, ← ap (λ (w : Step). w.kept) t)
           (record { moves = record { bracket = refl; left = refl; right = refl }; from_s = refl; ds = ds_at ds_of after_of beta st b (vega_of x st.s); after = refl; next_s = refl })
 
 -- ---- the ends

@@ -1,40 +1,33 @@
--- A list of checks: the first that refuses gives its number. Assumes nothing.
+-- Checks one after the other: what the first says, and what all that passed say. Assumes nothing.
 use mathlib.Core.Path.{◌≡◌, refl}
-use mathlib.Core.List.{List, [], ◌∷◌}
-use Prim.Native.Nat.{ℕ, zero, suc, ◌*◌, ◌<◌, ◌≤◌}
-use native.Mathlib.Omega.{arith}
+use Prim.Native.Nat.{ℕ, ◌*◌, ◌<◌, ◌≤◌}
 use native.Mathlib.Nat.{mul_comm}
-use borrow.Author.Tests.{ne_eqb, lt-ltb, le-ltb}
-use Rattle.solver.specs.Solve.{first_number}
-use Rattle.solver.specs.BidAsk.{trail_number}
-
-module _ (k n : ℕ) (ns : List ℕ) (e : k ≡ n) where
-  -- this check refuses
-  pub refuses : (k ≡ 0 → ⊥) → k ≡ first_number (n ∷ ns)
-  unfolding first_number
-  refuses h = rw (← e, ne_eqb k 0 h)
-
-  -- it does not: the others say
-  pub passes : k ≡ 0 → (r : ℕ) → r ≡ first_number ns → r ≡ first_number (n ∷ ns)
-  unfolding first_number
-  passes z r h = rw (← e, z) h
+use borrow.Author.Tests.{lt-ltb, le-ltb}
+use Rattle.std.specs.Prelude.{Result, ⊤, Ok, Err}
+use Rattle.prices.specs.declared.refusal.Refusal.{Refusal as Unpriced}
+use Rattle.solver.specs.declared.refusal.Refusal.TheVariants.{TrailTooShort}
+use Rattle.solver.specs.Solve.{Check, and_then, passed_up}
+use Rattle.solver.specs.BidAsk.{trail_check}
 
 -- no check refuses: not the first, and none of the others
-pub all_pass : (n : ℕ) (ns : List ℕ) → first_number (n ∷ ns) ≡ 0 → (n ≡ 0) × (first_number ns ≡ 0)
-unfolding first_number
-all_pass zero ns e = (refl, e)
-all_pass (suc n) ns e = absurd (omega (arith, rw (ne_eqb (suc n) 0 (λ h. omega (arith, h))) at e))
+pub both_pass : (c d : Check) → and_then c d ≡ Ok tt → (c ≡ Ok tt) × (d ≡ Ok tt)
+both_pass (Ok tt) d e = (refl, e)
+both_pass (Err r) d e = cc
 
--- the last check says itself
-pub last : (k n : ℕ) → k ≡ n → k ≡ first_number (n ∷ [])
-unfolding first_number
-last k zero e = e
-last k (suc n) e = rw (ne_eqb (suc n) 0 (λ h. omega (arith, h))) e
+-- one that passes as this layer's passes
+pub market_passes : (c : Result ⊤ Unpriced) → passed_up c ≡ Ok tt → c ≡ Ok tt
+market_passes (Ok tt) e = refl
+market_passes (Err r) e = cc
+
+-- what passes adds nothing
+pub and_passed : (c : Check) → and_then c (Ok tt) ≡ c
+and_passed (Ok tt) = refl
+and_passed (Err r) = refl
 
 -- a trail's check, from what the code compared
 module _ (n bytes : ℕ) where
-  pub short : bytes < n * 48 → 21 ≡ trail_number n bytes
+  pub short : bytes < n * 48 → trail_check n bytes ≡ Err TrailTooShort
   short h = rw (mul_comm 48 n, lt-ltb bytes (n * 48) h)
 
-  pub long : n * 48 ≤ bytes → 0 ≡ trail_number n bytes
+  pub long : n * 48 ≤ bytes → trail_check n bytes ≡ Ok tt
   long h = rw (mul_comm 48 n, le-ltb bytes (n * 48) h)

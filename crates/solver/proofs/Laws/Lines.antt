@@ -8,8 +8,8 @@ use lib.Dec.{ltb}
 use lib.Ieee.{binary64, to_bits}
 use lib.ListN.{length, length-append}
 use borrow.Author.Tests.{le-ltb}
-use Rattle.solver.specs.declared.answers.Solution.{Solution}
-use Rattle.solver.specs.declared.answers.Solution.TheVariants.{Solved, Refused}
+use Rattle.std.specs.Prelude.{Ok, Err}
+use Rattle.solver.specs.Answers.{number, branch_number, ending_number, Solution}
 use Rattle.elementary.specs.declared.rule_set.RuleSet.{RuleSet}
 use Rattle.solver.specs.LittleEndian.{overwritten}
 use Rattle.solver.specs.Listing.{decimal_by, hex_by, answer_bytes, answer_at, line_of, line_in}
@@ -29,9 +29,9 @@ hex_length zero n = refl
 hex_length (suc k) n = simp length-append (omega (arith, hex_length k (n / 16)))
 
 pub answer_length : (answer : Solution) → length (answer_bytes answer) ≤ 80
-answer_length (Solved a) =
-    simp length-append (omega (arith, hex_length 16 (to_bits binary64 a.volatility), decimal_length 20 a.steps, decimal_length 20 a.branch, decimal_length 20 a.ending))
-answer_length (Refused n steps) = omega (arith, decimal_length 20 n)
+answer_length (Ok a) =
+    simp length-append (omega (arith, hex_length 16 (to_bits binary64 a.volatility), decimal_length 20 a.steps, decimal_length 20 (branch_number a.branch), decimal_length 20 (ending_number a.ending)))
+answer_length (Err failure) = omega (arith, decimal_length 20 (number failure.refusal))
 
 module _ (set : RuleSet) (i : ℕ) (bytes : List ℕ) where
   pub line_length : length (line_of set i bytes) ≤ 101

@@ -9,10 +9,12 @@ use lib.ListN.{length}
 use lib.Ieee.{Float}
 use Rattle.solver.specs.declared.state.State.{State}
 use Rattle.solver.specs.declared.state.Record.{Record}
-use Rattle.solver.specs.declared.state.StepResult.{StepResult}
-use Rattle.solver.specs.declared.state.StepResult.TheVariants.{Completed, Refused}
+use Rattle.std.specs.Prelude.{Ok, Err}
+use Rattle.prices.specs.declared.refusal.Refusal.{Refusal as Unpriced}
+use Rattle.solver.specs.declared.state.Step.{Step}
+use Rattle.solver.specs.declared.answers.Branch.{Branch}
 use Rattle.solver.specs.Loop.{Ending, by_test, by_limit, by_refusal, Transition, advance, stop, Run, after, run}
-use Rattle.solver.specs.Step.{is_close, next_by}
+use Rattle.solver.specs.Step.{StepResult, is_close, next_by}
 use Rattle.solver.specs.Solve.{answer_of, result_of_run}
 use Rattle.solver.specs.LittleEndian.{overwritten}
 use Rattle.solver.specs.Trail.{record_bytes, all_bytes, trail_after}
@@ -70,17 +72,17 @@ one_more rs r old trail trail' steps n e f =
 
 -- what the test and the step found, as what the state leads to
 module _ (step_of : State → StepResult) (st : State) (close : Bool) (stepped : StepResult) (c : close ≡ is_close st) (s : stepped ≡ step_of st) where
-  pub next_advances : close ≡ false → (st' : State) (r : Record) → stepped ≡ Completed st' r → next_by step_of st ≡ advance r st'
-  next_advances n st' r e = rw (← c, n, ← s, e)
+  pub next_advances : close ≡ false → (taken : Step) → stepped ≡ Ok taken → next_by step_of st ≡ advance taken.kept taken.state
+  next_advances n taken e = rw (← c, n, ← s, e)
 
-  pub next_by_refusal : close ≡ false → (k : ℕ) → stepped ≡ Refused k → next_by step_of st ≡ stop (by_refusal k)
+  pub next_by_refusal : close ≡ false → (k : Unpriced) → stepped ≡ Err k → next_by step_of st ≡ stop (by_refusal k)
   next_by_refusal n k e = rw (← c, n, ← s, e)
 
 pub next_by_test : (step_of : State → StepResult) (st : State) (close : Bool) → close ≡ is_close st → close ≡ true → next_by step_of st ≡ stop (by_test st)
 next_by_test step_of st close c n = rw (← c, n)
 
 -- a run that has ended, and what it answers and leaves in the trail
-pub ended : (w : Run State Record) (rs : List Record) (e : Ending State) (branch : ℕ) (root : Float) (keep : Bool) (old trail : List ℕ) (steps : ℕ)
+pub ended : (w : Run State Record) (rs : List Record) (e : Ending State) (branch : Branch) (root : Float) (keep : Bool) (old trail : List ℕ) (steps : ℕ)
     → w ≡ record { records = rs; ending = e } → length rs ≡ steps → trail ≡ trail_if_kept keep rs old
     → (answer_of branch root e steps ≡ (result_of_run branch root w).answer) × (trail ≡ trail_if_kept keep w.records old)
 ended w rs e branch root keep old trail steps p n t = (rw (p, n), rw p t)

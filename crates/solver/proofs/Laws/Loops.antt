@@ -17,26 +17,29 @@ use Rattle.elementary.specs.Sqrt.{sqrt_of}
 use Rattle.solver.specs.declared.state.State.{State}
 use Rattle.solver.specs.declared.state.Record.{Record}
 use Rattle.solver.specs.declared.state.Bracket.{Bracket}
-use Rattle.solver.specs.declared.state.StepResult.{StepResult}
-use Rattle.solver.specs.declared.state.StepResult.TheVariants.{Completed, Refused as NoStep}
-use Rattle.solver.specs.declared.answers.Solution.{Solution}
-use Rattle.solver.specs.declared.answers.Solution.TheVariants.{Solved, Refused}
+use Rattle.std.specs.Prelude.{Ok, Err, is_ok}
+use Rattle.prices.specs.Answers.{number as pricing_number}
+use Rattle.prices.proofs.Laws.Refusals.{refused_above_0}
+use Rattle.solver.specs.declared.refusal.Refusal.{Refusal}
+use Rattle.solver.specs.declared.refusal.Refusal.TheVariants.{Price, Pricing, TrailTooShort, BookFull, NoSuchRecord, OutsideTheLayout, LowAboveHigh}
+use Rattle.solver.specs.declared.answers.Branch.{Branch}
+use Rattle.solver.specs.declared.answers.Branch.TheVariants.{Lower, LowerMiddle, UpperMiddle, Upper, UpperRest}
 use Rattle.solver.specs.Loop.{Ending, by_test, by_limit, by_refusal, Run, run, advance, stop}
-use Rattle.solver.specs.Step.{lower_ds, upper_ds, general_ds, at_least_half, whole_step, step_by, lower_step, upper_step, general_step, is_close, transition_of, next_by}
+use Rattle.solver.specs.Step.{StepResult, lower_ds, upper_ds, general_ds, at_least_half, whole_step, step_by, lower_step, upper_step, general_step, is_close, transition_of, next_by}
 use Rattle.solver.specs.Guess.{Start, answered, stopped, looping}
-use Rattle.solver.specs.Answers.{number_in, is_solved, branch_in, ending_in, steps_in}
+use Rattle.solver.specs.Answers.{number, branch_number, Solution, number_in, branch_in, ending_in, steps_in}
 use Rattle.solver.specs.Solve.{SolveResult, answer_of, result_of_run, result_from}
 use Rattle.solver.specs.Promises.Demand3.{At, here, there, LeavesHalf, LongerRun, LoopRecords, LoopAnswer, OneRun}
 use Rattle.solver.specs.Promises.Answers.{Numbers}
 use Rattle.solver.proofs.Laws.Runs.{is_by_limit, Counts, counts, begins, same, steps, trace, every}
 use Rattle.solver.proofs.Laws.Bracket.{BracketMove, step_facts, left_never_falls, right_never_grows, left_stays, right_stays, left_from, right_from}
 use Rattle.solver.proofs.Laws.Half.{leaves_half}
-use Rattle.solver.proofs.Laws.Numbers.{Check, price_number, forward_number, strike_number, expiry_number, trail_number, Refusal, by_check, NoCheck, cubic_number, region_number, OnlySeven, loop_ends}
+use Rattle.solver.proofs.Laws.Numbers.{Checked, price_refused, forward_refused, strike_refused, expiry_refused, trail_refused, Refused, by_a_check, NoCheck, cubic_refused, region_refused, OnlySeven, loop_ends}
 use Rattle.solver.proofs.Laws.Forms.{LoopForm, lower, upper, lower_middle, upper_middle, upper_tail, StartForm, ended, loop}
 use Rattle.solver.proofs.Laws.Trails.{begins_alike}
 
 -- ---- a short run and a long one
-not_by_limit : (branch : ℕ) (root : Float) (e : Ending State) (k : ℕ) → (ending_in (answer_of branch root e k) ≡ 2 → ⊥) → is_by_limit e ≡ false
+not_by_limit : (branch : Branch) (root : Float) (e : Ending State) (k : ℕ) → (ending_in (answer_of branch root e k) ≡ 2 → ⊥) → is_by_limit e ≡ false
 not_by_limit branch root (by_test st) k h = refl
 not_by_limit branch root (by_limit st) k h = absurd (h refl)
 not_by_limit branch root (by_refusal n) k h = refl
@@ -60,7 +63,7 @@ longer_run (looping branch beta step st) expiry n m l =
     }
 
 -- ---- the steps of a run
-loop_steps : (branch : ℕ) (root : Float) (e : Ending State) (k : ℕ) → steps_in (answer_of branch root e k) ≡ k
+loop_steps : (branch : Branch) (root : Float) (e : Ending State) (k : ℕ) → steps_in (answer_of branch root e k) ≡ k
 loop_steps branch root (by_test st) k = refl
 loop_steps branch root (by_limit st) k = refl
 loop_steps branch root (by_refusal n) k = refl
@@ -83,16 +86,16 @@ not_limited step st (by_limit q) h = go (is_close st) (step st) h
   where
     go : (c : Bool) (w : StepResult) → cond c (stop (by_test st)) (transition_of w) ≡ stop (by_limit q) → true ≡ false
     go true w e = cc
-    go false (Completed q' r) e = cc
-    go false (NoStep k) e = cc
+    go false (Ok taken) e = cc
+    go false (Err k) e = cc
 
-loop_answer : (branch : ℕ) → (1 ≤ branch) × (branch ≤ 5) → (root : Float) (n : ℕ) (w : Run State Record) → OnlySeven w.ending → Counts n w → LoopAnswer n branch (result_of_run branch root w).answer
+loop_answer : (branch : Branch) → (1 ≤ branch_number branch) × (branch_number branch ≤ 5) → (root : Float) (n : ℕ) (w : Run State Record) → OnlySeven w.ending → Counts n w → LoopAnswer n (branch_number branch) (result_of_run branch root w).answer
 loop_answer branch range root n w = go w.ending
   where
-    go : (e : Ending State) → OnlySeven e → (is_by_limit e ≡ true → length w.records ≡ n) × (is_by_limit e ≡ false → length w.records < n) → LoopAnswer n branch (answer_of branch root e (length w.records))
+    go : (e : Ending State) → OnlySeven e → (is_by_limit e ≡ true → length w.records ≡ n) × (is_by_limit e ≡ false → length w.records < n) → LoopAnswer n (branch_number branch) (answer_of branch root e (length w.records))
     go (by_test st) h c = record { a_loop = range; number = inl refl; branch_is = λ z. refl; ending_is = λ z. inl (refl, c.1 refl) }
     go (by_limit st) h c = record { a_loop = range; number = inl refl; branch_is = λ z. refl; ending_is = λ z. inr (refl, c.0 refl) }
-    go (by_refusal k) h c = record { a_loop = range; number = inr h; branch_is = λ z. absurd (omega arith); ending_is = λ z. absurd (omega arith) }
+    go (by_refusal k) h c = record { a_loop = range; number = inr (ap pricing_number h); branch_is = λ z. absurd (refused_above_0 k z); ending_is = λ z. absurd (refused_above_0 k z) }
 
 half_from : (r : Record) (s ds : Float) → r.s ≡ s → r.after ≡ at_least_half s ds → T (fits binary64 s) → LeavesHalf r
 half_from r s ds a b f = rw (a, b) (leaves_half s ds f)
@@ -111,7 +114,8 @@ module _ (ds_of : Float → Float → Float → Bracket → Float) (after_of : F
   move : (q q' : State) (r : Record) → next_by step q ≡ advance r q' → BracketMove beta q q' r
   move q q' r e = (step_facts ds_of after_of set x beta q q' r e).moves
 
-  in_loop : (branch : ℕ) → (1 ≤ branch) × (branch ≤ 5) → ((branch ≡ 1) ⊎ (branch ≡ 4) → HalfSteps) → LoopRecords branch beta st.left st.right w.records × LoopAnswer n branch (result_of_run branch root w).answer
+  in_loop : (branch : Branch) → (1 ≤ branch_number branch) × (branch_number branch ≤ 5) → ((branch_number branch ≡ 1) ⊎ (branch_number branch ≡ 4) → HalfSteps)
+      → LoopRecords (branch_number branch) beta st.left st.right w.records × LoopAnswer n (branch_number branch) (result_of_run branch root w).answer
   in_loop branch range half = (
     record {
       left_holds = left_never_falls step beta move n st;
@@ -138,21 +142,21 @@ neither : {branch : ℕ} {A : Type 0} → (branch ≡ 1 → ⊥) → (branch ≡
 neither f g (inl e) = absurd (f e)
 neither f g (inr e) = absurd (g e)
 
-loop_run : (branch : ℕ) (beta : Float) (step : State → StepResult) (st : State) → LoopForm branch beta step st → (root : Float) (n : ℕ)
-    → LoopRecords branch beta st.left st.right (run (next_by step) n st).records × LoopAnswer n branch (result_of_run branch root (run (next_by step) n st)).answer
+loop_run : (branch : Branch) (beta : Float) (step : State → StepResult) (st : State) → LoopForm branch beta step st → (root : Float) (n : ℕ)
+    → LoopRecords (branch_number branch) beta st.left st.right (run (next_by step) n st).records × LoopAnswer n (branch_number branch) (result_of_run branch root (run (next_by step) n st)).answer
 unfolding lower_step upper_step general_step
 loop_run branch beta step st (lower set x f) root n =
-    in_loop (lower_ds x beta) at_least_half set x beta root n st 1 (omega arith, omega arith) (λ o. half_steps (lower_ds x beta) set x beta root n st f)
+    in_loop (lower_ds x beta) at_least_half set x beta root n st Lower (omega arith, omega arith) (λ o. half_steps (lower_ds x beta) set x beta root n st f)
 loop_run branch beta step st (upper set b_max x f) root n =
-    in_loop (upper_ds b_max x beta) at_least_half set x beta root n st 4 (omega arith, omega arith) (λ o. half_steps (upper_ds b_max x beta) set x beta root n st f)
+    in_loop (upper_ds b_max x beta) at_least_half set x beta root n st Upper (omega arith, omega arith) (λ o. half_steps (upper_ds b_max x beta) set x beta root n st f)
 loop_run branch beta step st (lower_middle set x) root n =
-    in_loop (general_ds x beta) whole_step set x beta root n st 2 (omega arith, omega arith) (neither (λ e. omega arith) (λ e. omega arith))
+    in_loop (general_ds x beta) whole_step set x beta root n st LowerMiddle (omega arith, omega arith) (neither (λ e. omega arith) (λ e. omega arith))
 loop_run branch beta step st (upper_middle set x) root n =
-    in_loop (general_ds x beta) whole_step set x beta root n st 3 (omega arith, omega arith) (neither (λ e. omega arith) (λ e. omega arith))
+    in_loop (general_ds x beta) whole_step set x beta root n st UpperMiddle (omega arith, omega arith) (neither (λ e. omega arith) (λ e. omega arith))
 loop_run branch beta step st (upper_tail set x) root n =
-    in_loop (general_ds x beta) whole_step set x beta root n st 5 (omega arith, omega arith) (neither (λ e. omega arith) (λ e. omega arith))
+    in_loop (general_ds x beta) whole_step set x beta root n st UpperRest (omega arith, omega arith) (neither (λ e. omega arith) (λ e. omega arith))
 
-pub one_run : {Checked : ℕ → Type 0} (b : Start) → StartForm Checked b → (expiry : Float) (n : ℕ) → OneRun n b (result_from b expiry n)
+pub one_run : {Checks : Refusal → Type 0} (b : Start) → StartForm Checks b → (expiry : Float) (n : ℕ) → OneRun n b (result_from b expiry n)
 unfolding result_from
 one_run (answered v) f expiry n = (refl, refl, refl, refl, refl)
 one_run (stopped k) f expiry n = (refl, refl)
@@ -164,8 +168,8 @@ nothing_at here e = let z : ◌≡◌ {A = ℕ} 0 1 = cc in omega arith
 nothing_at (there a) e = let z : ◌≡◌ {A = ℕ} 0 1 = cc in omega arith
 
 refused_branch : (a : Solution) → number_in a ≡ 7 → branch_in a ≡ 0
-refused_branch (Solved a) e = absurd (omega arith)
-refused_branch (Refused n steps) e = refl
+refused_branch (Ok a) e = absurd (omega arith)
+refused_branch (Err failure) e = refl
 
 loop_branch : {limit branch : ℕ} {a : Solution} → LoopAnswer limit branch a → (branch_in a ≡ 1) ⊎ (branch_in a ≡ 4) → branch_in a ≡ branch
 loop_branch {limit} {branch} {a} f = go f.number
@@ -181,58 +185,55 @@ answer_half n (stopped m) w k o i r a = absurd (nothing_at a k.0)
 answer_half n (looping branch beta step st) w k o i r a = k.0.half_step (subst (λ c. (c ≡ 1) ⊎ (c ≡ 4)) (loop_branch k.1 o) o) i r a
 
 -- ---- the numbers
-refusal_number : {short : Bool} {k : ℕ} → Refusal (Check short) k → OneOf k (0 ∷ 1 ∷ 2 ∷ 3 ∷ 4 ∷ 21 ∷ 6 ∷ 7 ∷ [])
-refusal_number (by_check price_number) = next (first refl)
-refusal_number (by_check forward_number) = next (next (first refl))
-refusal_number (by_check strike_number) = next (next (next (first refl)))
-refusal_number (by_check expiry_number) = next (next (next (next (first refl))))
-refusal_number (by_check (trail_number e)) = next (next (next (next (next (first refl)))))
-refusal_number cubic_number = next (next (next (next (next (next (first refl))))))
-refusal_number region_number = next (next (next (next (next (next (next (first refl)))))))
+refused_number : {short : Bool} {r : Refusal} → Refused (Checked short) r → OneOf (number r) (0 ∷ 1 ∷ 2 ∷ 3 ∷ 4 ∷ 21 ∷ 6 ∷ 7 ∷ [])
+refused_number (by_a_check price_refused) = next (first refl)
+refused_number (by_a_check forward_refused) = next (next (first refl))
+refused_number (by_a_check strike_refused) = next (next (next (first refl)))
+refused_number (by_a_check expiry_refused) = next (next (next (next (first refl))))
+refused_number (by_a_check (trail_refused e)) = next (next (next (next (next (first refl)))))
+refused_number cubic_refused = next (next (next (next (next (next (first refl))))))
+refused_number region_refused = next (next (next (next (next (next (next (first refl)))))))
 
-not_21 : {short : Bool} {k : ℕ} → Refusal (Check short) k → short ≡ false → k ≡ 21 → ⊥
-not_21 (by_check price_number) s e = omega arith
-not_21 (by_check forward_number) s e = omega arith
-not_21 (by_check strike_number) s e = omega arith
-not_21 (by_check expiry_number) s e = omega arith
-not_21 (by_check (trail_number t)) s e = true≢false (sym t ∙ s)
-not_21 cubic_number s e = omega arith
-not_21 region_number s e = omega arith
+not_21 : {short : Bool} {r : Refusal} → Refused (Checked short) r → short ≡ false → number r ≡ 21 → ⊥
+not_21 (by_a_check price_refused) s e = omega arith
+not_21 (by_a_check forward_refused) s e = omega arith
+not_21 (by_a_check strike_refused) s e = omega arith
+not_21 (by_a_check expiry_refused) s e = omega arith
+not_21 (by_a_check (trail_refused t)) s e = true≢false (sym t ∙ s)
+not_21 cubic_refused s e = omega arith
+not_21 region_refused s e = omega arith
 
-not_0 : {short : Bool} {k : ℕ} → Refusal (Check short) k → k ≡ 0 → ⊥
-not_0 (by_check price_number) e = omega arith
-not_0 (by_check forward_number) e = omega arith
-not_0 (by_check strike_number) e = omega arith
-not_0 (by_check expiry_number) e = omega arith
-not_0 (by_check (trail_number t)) e = omega arith
-not_0 cubic_number e = omega arith
-not_0 region_number e = omega arith
+-- nothing is refused with 0
+pub above_0 : (r : Refusal) → number r ≡ 0 → ⊥
+above_0 Price e = omega arith
+above_0 (Pricing r) e = refused_above_0 r e
+above_0 TrailTooShort e = omega arith
+above_0 BookFull e = omega arith
+above_0 NoSuchRecord e = omega arith
+above_0 OutsideTheLayout e = omega arith
+above_0 LowAboveHigh e = omega arith
 
--- a loop's answer of number 0 has the loop's branch, and so is no refusal
-loop_solved : (limit branch : ℕ) (a : Solution) → LoopAnswer limit branch a → number_in a ≡ 0 → is_solved a ≡ true
-loop_solved limit branch (Solved a) l z = refl
-loop_solved limit branch (Refused n k) l z = absurd (none (l.branch_is z) l.a_loop.0)
-  where
-    none : 0 ≡ branch → 1 ≤ branch → ⊥
-    none e h = omega arith
+zero_is_ok : (a : Solution) → number_in a ≡ 0 → is_ok a ≡ true
+zero_is_ok (Ok a) z = refl
+zero_is_ok (Err failure) z = absurd (above_0 failure.refusal z)
 
-loop_numbers : (enough : Type 0) (a : Solution) → (number_in a ≡ 0 → is_solved a ≡ true) → (number_in a ≡ 0) ⊎ (number_in a ≡ 7) → Numbers enough a
-loop_numbers enough a s (inl z) = record { answered = s; number = first z; no_21 = λ l e. omega arith; steps = λ h. first z }
-loop_numbers enough a s (inr z) = record { answered = s; number = rw z (refusal_number {short = false} region_number); no_21 = λ l e. omega arith; steps = λ h. next (first z) }
+loop_numbers : (enough : Type 0) (a : Solution) → (number_in a ≡ 0) ⊎ (number_in a ≡ 7) → Numbers enough a
+loop_numbers enough a (inl z) = record { answered = zero_is_ok a; number = first z; no_21 = λ l e. omega arith; steps = λ h. first z }
+loop_numbers enough a (inr z) = record { answered = zero_is_ok a; number = rw z (refused_number {short = false} region_refused); no_21 = λ l e. omega arith; steps = λ h. next (first z) }
 
-pub run_numbers : {short : Bool} (enough : Type 0) → (enough → short ≡ false) → (b : Start) → StartForm (Check short) b → (expiry : Float) (n : ℕ) → Numbers enough (result_from b expiry n).answer
+pub run_numbers : {short : Bool} (enough : Type 0) → (enough → short ≡ false) → (b : Start) → StartForm (Checked short) b → (expiry : Float) (n : ℕ) → Numbers enough (result_from b expiry n).answer
 unfolding result_from
-run_numbers enough l (answered v) f expiry n = loop_numbers enough _ (λ z. refl) (inl refl)
-run_numbers enough l (stopped k) (ended r) expiry n = record { answered = λ z. absurd (not_0 r z); number = refusal_number r; no_21 = λ h. not_21 r (l h); steps = λ h. absurd (omega arith) }
-run_numbers enough l (looping branch beta step st) (loop form) expiry n = let a = (loop_run branch beta step st form (sqrt_of binary64 expiry) n).1 in loop_numbers enough _ (loop_solved n branch _ a) a.number
+run_numbers enough l (answered v) f expiry n = loop_numbers enough _ (inl refl)
+run_numbers enough l (stopped k) (ended r) expiry n = record { answered = λ z. absurd (above_0 k z); number = refused_number r; no_21 = λ h. not_21 r (l h); steps = λ h. absurd (omega arith) }
+run_numbers enough l (looping branch beta step st) (loop form) expiry n = loop_numbers enough _ (loop_run branch beta step st form (sqrt_of binary64 expiry) n).1.number
 
 -- where no check refuses, none but a later number comes
 pub later_number : (b : Start) → StartForm NoCheck b → (expiry : Float) (n : ℕ) → OneOf (number_in (result_from b expiry n).answer) (0 ∷ 6 ∷ 7 ∷ [])
 unfolding result_from
 later_number (answered v) f expiry n = first refl
-later_number (stopped k) (ended (by_check c)) expiry n = absurd c
-later_number (stopped k) (ended cubic_number) expiry n = next (first refl)
-later_number (stopped k) (ended region_number) expiry n = next (next (first refl))
+later_number (stopped k) (ended (by_a_check c)) expiry n = absurd c
+later_number (stopped k) (ended cubic_refused) expiry n = next (first refl)
+later_number (stopped k) (ended region_refused) expiry n = next (next (first refl))
 later_number (looping branch beta step st) (loop form) expiry n = go (loop_run branch beta step st form (sqrt_of binary64 expiry) n).1.number
   where
     go : {k : ℕ} → (k ≡ 0) ⊎ (k ≡ 7) → OneOf k (0 ∷ 6 ∷ 7 ∷ [])

@@ -1,51 +1,53 @@
--- Which numbers pass up into solve: from a price none but 7, from the cubic none but 6, from the input 1 to 4, and 21 where the trail is too short. Assumes nothing.
+-- What passes up into solve: from a price no refusal but 7, from the cubic none but 6, from the input 1 to 4, and 21 where the trail is too short. Assumes nothing.
 use mathlib.Core.Path.{◌≡◌, refl}
 use mathlib.Core.Bool.{Bool, true, false, cond, ◌&&◌, ◌||◌}
-use mathlib.Core.Logic.{◌⊎◌, inl, inr}
 use Prim.Native.Nat.{ℕ}
 use lib.Ieee.{Float, neg, lt, le}
+use Rattle.std.specs.Prelude.{Ok, Err}
 use Rattle.elementary.specs.Ops.{◌⊖◌, EPSILON}
 use Rattle.elementary.specs.Methods.{abs_of}
 use Rattle.elementary.specs.declared.rule_set.RuleSet.{RuleSet}
-use Rattle.prices.specs.declared.answer.Answer.{Answer}
-use Rattle.prices.specs.declared.answer.Answer.TheVariants.{Value, Refused as Number}
+use Rattle.prices.specs.declared.refusal.Refusal.{Refusal as Unpriced}
+use Rattle.prices.specs.declared.refusal.Refusal.TheVariants.{Forward, Strike, Expiry, InfinitePlace, OutsideAsymptoticRegion}
+use Rattle.prices.specs.Answers.{Answer}
 use Rattle.prices.specs.Black.{call_of, is_positive_normal, is_finite}
 use Rattle.prices.specs.RationalCubic.{is_infinite, interpolation_of}
 use Rattle.prices.proofs.Laws.Refusals.{CallAnswer, price as a_price, outside_the_region, call_answer}
 use Rattle.solver.specs.declared.quote.Quote.{Quote}
+use Rattle.solver.specs.declared.refusal.Refusal.{Refusal}
+use Rattle.solver.specs.declared.refusal.Refusal.TheVariants.{Price, Pricing, TrailTooShort}
 use Rattle.solver.specs.declared.state.State.{State}
 use Rattle.solver.specs.declared.state.Record.{Record}
+use Rattle.solver.specs.declared.state.Step.{Step}
 use Rattle.solver.specs.declared.state.Bracket.{Bracket}
 use Rattle.solver.specs.declared.state.MapAndDerivatives.{MapAndDerivatives}
-use Rattle.solver.specs.declared.state.StepResult.{StepResult}
-use Rattle.solver.specs.declared.state.StepResult.TheVariants.{Completed, Refused}
 use Rattle.solver.specs.Loop.{Ending, by_test, by_limit, by_refusal, stop, run}
-use Rattle.solver.specs.Step.{record_of, state_after, with_price, step_by, is_close, transition_of, next_by}
+use Rattle.solver.specs.Step.{StepResult, record_of, state_after, with_price, step_by, is_close, transition_of, next_by}
 use Rattle.solver.specs.Guess.{SQRT_DBL_MAX, upper_f}
-use Rattle.solver.specs.Solve.{input_number}
+use Rattle.solver.specs.Solve.{Check, and_then, passed_up, input_check, market_check}
 use Rattle.prices.specs.Vega.{vega_of}
 use Rattle.solver.proofs.Laws.Runs.{ends_as}
 
--- what layer 2 says: a price is refused with no number but 7
-pub call_refusal : (set : RuleSet) (x s : Float) (n : ℕ) → call_of set x s ≡ Number n → n ≡ 7
-call_refusal set x s n = go (call_answer 1 set x s)
+-- what layer 2 says: a price is refused with nothing but 7
+pub call_refusal : (set : RuleSet) (x s : Float) (r : Unpriced) → call_of set x s ≡ Err r → r ≡ OutsideAsymptoticRegion
+call_refusal set x s r = go (call_answer 1 set x s)
   where
-    go : {a : Answer} → CallAnswer a → a ≡ Number n → n ≡ 7
+    go : {a : Answer} → CallAnswer a → a ≡ Err r → r ≡ OutsideAsymptoticRegion
     go a_price e = cc
     go outside_the_region e = cc
 
--- an answer with a value, or with a number that passes up
+-- an answer with a value, or with a refusal that passes up
 pub data Passes : Answer → Type 0 where
-  value : {v : Float} → Passes (Value v)
-  cubic : Passes (Number 6)
-  region : Passes (Number 7)
+  value : {v : Float} → Passes (Ok v)
+  cubic : Passes (Err InfinitePlace)
+  region : Passes (Err OutsideAsymptoticRegion)
 
 pub call_passes : (set : RuleSet) (x s : Float) → Passes (call_of set x s)
 call_passes set x s = go (call_of set x s) refl
   where
     go : (a : Answer) → call_of set x s ≡ a → Passes a
-    go (Value v) e = value
-    go (Number n) e = rw (call_refusal set x s n e) region
+    go (Ok v) e = value
+    go (Err r) e = rw (call_refusal set x s r e) region
 
 either : (c : Bool) {a b : Answer} → Passes a → Passes b → Passes (cond c a b)
 either true h k = h
@@ -60,67 +62,69 @@ upper_f_passes beta b_max b_h m = either (lt (neg SQRT_DBL_MAX) m.fpp && lt m.fp
 
 -- ---- before a loop: what solve refuses with
 
--- the checks' numbers; `short` says whether the trail is too short
-pub data Check (short : Bool) : ℕ → Type 0 where
-  price_number : Check short 1
-  forward_number : Check short 2
-  strike_number : Check short 3
-  expiry_number : Check short 4
-  trail_number : short ≡ true → Check short 21
+-- what the checks refuse; `short` says whether the trail is too short
+pub data Checked (short : Bool) : Refusal → Type 0 where
+  price_refused : Checked short Price
+  forward_refused : Checked short (Pricing Forward)
+  strike_refused : Checked short (Pricing Strike)
+  expiry_refused : Checked short (Pricing Expiry)
+  trail_refused : short ≡ true → Checked short TrailTooShort
 
--- a number of some checks, or a later one
-pub data Refusal (Checked : ℕ → Type 0) : ℕ → Type 0 where
-  by_check : {n : ℕ} → Checked n → Refusal Checked n
-  cubic_number : Refusal Checked 6
-  region_number : Refusal Checked 7
+-- what some checks refuse, or what comes later
+pub data Refused (Checks : Refusal → Type 0) : Refusal → Type 0 where
+  by_a_check : {r : Refusal} → Checks r → Refused Checks r
+  cubic_refused : Refused Checks (Pricing InfinitePlace)
+  region_refused : Refused Checks (Pricing OutsideAsymptoticRegion)
 
 -- no check refuses
-abbrev pub NoCheck : ℕ → Type 0
-NoCheck n = ⊥
+abbrev pub NoCheck : Refusal → Type 0
+NoCheck r = ⊥
 
-pub input_number_lem : (short : Bool) (q : Quote) → (input_number q ≡ 0) ⊎ Check short (input_number q)
-unfolding input_number
-input_number_lem short q = go (is_finite q.price) (is_positive_normal q.forward) (is_positive_normal q.strike) (is_positive_normal q.expiry)
+-- a check passes, or refuses as one of the input's
+pub data CheckForm (short : Bool) : Check → Type 0 where
+  passed : CheckForm short (Ok tt)
+  refused : {r : Refusal} → Checked short r → CheckForm short (Err r)
+
+pub input_form : (short : Bool) (q : Quote) → CheckForm short (input_check q)
+unfolding market_check
+input_form short q = go (is_finite q.price) (is_positive_normal q.forward) (is_positive_normal q.strike) (is_positive_normal q.expiry)
   where
-    number : Bool → Bool → Bool → Bool → ℕ
-    number p f k e = cond p (cond f (cond k (cond e 0 4) 3) 2) 1
+    check : Bool → Bool → Bool → Bool → Check
+    check p f k e = and_then (cond p (Ok tt) (Err Price)) (passed_up (cond f (cond k (cond e (Ok tt) (Err Expiry)) (Err Strike)) (Err Forward)))
 
-    go : (p f k e : Bool) → (number p f k e ≡ 0) ⊎ Check short (number p f k e)
-    go true true true true = inl refl
-    go true true true false = inr expiry_number
-    go true true false e = inr strike_number
-    go true false k e = inr forward_number
-    go false f k e = inr price_number
+    go : (p f k e : Bool) → CheckForm short (check p f k e)
+    go true true true true = passed
+    go true true true false = refused expiry_refused
+    go true true false e = refused strike_refused
+    go true false k e = refused forward_refused
+    go false f k e = refused price_refused
 
--- ---- in a loop: an ending with no number but 7
+-- ---- in a loop: an ending with no refusal but 7
 abbrev pub OnlySeven : Ending State → Type 0
 OnlySeven (by_test st) = Unit
 OnlySeven (by_limit st) = Unit
-OnlySeven (by_refusal n) = n ≡ 7
+OnlySeven (by_refusal r) = r ≡ OutsideAsymptoticRegion
 
 module _ (ds_of : Float → Float → Float → Bracket → Float) (after_of : Float → Float → Float) (set : RuleSet) (x beta : Float) where
-  step_refusal : (st : State) (n : ℕ) → step_by ds_of after_of set x beta st ≡ Refused n → n ≡ 7
-  step_refusal st n = go (call_of set x st.s) refl
+  step_refusal : (st : State) (r : Unpriced) → step_by ds_of after_of set x beta st ≡ Err r → r ≡ OutsideAsymptoticRegion
+  step_refusal st r = go (call_of set x st.s) refl
     where
-      S : Float → State
-      S b = state_after ds_of after_of beta st b (vega_of x st.s)
+      S : Float → Step
+      S b = record { state = state_after ds_of after_of beta st b (vega_of x st.s); kept = record_of ds_of after_of beta st b (vega_of x st.s) }
 
-      R : Float → Record
-      R b = record_of ds_of after_of beta st b (vega_of x st.s)
-
-      go : (a : Answer) → call_of set x st.s ≡ a → with_price a (λ b. Completed (S b) (R b)) ≡ Refused n → n ≡ 7
-      go (Value b) q e = cc
-      go (Number k) q e = cc (call_refusal set x st.s k q)
+      go : (a : Answer) → call_of set x st.s ≡ a → with_price a S ≡ Err r → r ≡ OutsideAsymptoticRegion
+      go (Ok b) q e = cc
+      go (Err k) q e = cc (call_refusal set x st.s k q)
 
   next_ends : (st : State) (e : Ending State) → next_by (step_by ds_of after_of set x beta) st ≡ stop e → OnlySeven e
   next_ends st (by_test q) h = tt
   next_ends st (by_limit q) h = tt
-  next_ends st (by_refusal n) h = step_refusal st n (go (is_close st) (step_by ds_of after_of set x beta st) h)
+  next_ends st (by_refusal r) h = step_refusal st r (go (is_close st) (step_by ds_of after_of set x beta st) h)
     where
-      go : (c : Bool) (w : StepResult) → cond c (stop (by_test st)) (transition_of w) ≡ stop (by_refusal n) → w ≡ Refused n
+      go : (c : Bool) (w : StepResult) → cond c (stop (by_test st)) (transition_of w) ≡ stop (by_refusal r) → w ≡ Err r
       go true w e = cc
-      go false (Completed q r) e = cc
-      go false (Refused k) e = cc
+      go false (Ok taken) e = cc
+      go false (Err k) e = cc
 
   pub loop_ends : (n : ℕ) (st : State) → OnlySeven (run (next_by (step_by ds_of after_of set x beta)) n st).ending
   loop_ends n st = ends_as (next_by (step_by ds_of after_of set x beta)) OnlySeven (λ q. tt) next_ends n st

@@ -5,8 +5,7 @@ use Rattle.std.specs.Float.Ieee.{lt}
 use Rattle.elementary.specs.declared.rule_set.RuleSet.{RuleSet}
 use Rattle.prices.specs.Black.{is_finite, is_positive_normal}
 use Rattle.solver.specs.declared.quote.QuoteRange.{QuoteRange}
-use Rattle.solver.specs.declared.answers.Solution.{Solution}
-use Rattle.solver.specs.Answers.{number_in, range_number_in, low_in, high_in}
+use Rattle.solver.specs.Answers.{Solution, number_in, range_number_in, low_in, high_in}
 use Rattle.solver.specs.Solve.{steps_of}
 use Rattle.solver.specs.Trail.{trail_after}
 use Rattle.solver.specs.BidAsk.{quote_at, RangeResult, solve_range_with_trails, solve_range}

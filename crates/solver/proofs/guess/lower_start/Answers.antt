@@ -1,31 +1,28 @@
--- `guess::lower_start` meets its contract: the case met and the test say which start it is, and the step of a branch is found by computing. Assumes nothing.
-use mathlib.Core.Path.{refl}
+-- `guess::lower_start` meets its contract: the price at s_l and the test say which start it is, and the step of a branch is found by computing. Assumes nothing.
+use mathlib.Core.Path.{◌≡◌, refl, ◌∙◌}
+use Rattle.std.proofs.Common.{rules}
+use Rattle.std.specs.Prelude.{Ok, Err}
 use Rattle.solver.specs.Step.{lower_step, general_step}
 use Rattle.solver.specs.Guess.{with_value, lower_start}
 use Rattle.solver.proofs.Laws.PriceAndVega.{price_is, refusal_is, vega_is}
 use Rattle.solver.proofs.guess.lower_start.Goals as goal
 
-pub price_and_vega_at-requires : goal.price_and_vega_at-requires
-price_and_vega_at-requires c = c.requires
-
-pub start_loop-requires : goal.start_loop-requires
-start_loop-requires c = c.requires
+pub returns-in_err-at_l : goal.returns-in_err-at_l
+unfolding lower_start with_value
+returns-in_err-at_l c =
+    let e : c.price_and_vega.result ≡ Err c.in_err-at_l.field-0.0 = search rules in
+    let r : c.from_residual.result ≡ Err c.in_err-at_l.field-0.0 = search rules in
+    rw (r, refusal_is _ _ _ _ c.price_and_vega.ensures _ e)
 
 pub returns-then-m-b_l : goal.returns-then-m-b_l
 unfolding lower_start with_value lower_step
 returns-then-m-b_l c =
-    rw (price_is _ _ _ _ c.price_and_vega_at.ensures _ _ c.in-Both.is, c.if-m-b_l.true, ← c.lower_guess-guess.ensures) c.start_loop.ensures
+    let e : c.price_and_vega.result ≡ Ok c.in_ok-at_l.at_l = search rules in
+    rw (price_is _ _ _ _ c.price_and_vega.ensures _ e, c.if-m-b_l.true, ← c.lower_guess-guess.ensures) (c.start_loop.ensures c.args.set)
 
-pub start_loop-requires-in-Both : goal.start_loop-requires-in-Both
-start_loop-requires-in-Both c = c.requires
-
-pub returns-else-m-b_l : goal.returns-else-m-b_l
+pub returns : goal.returns
 unfolding lower_start with_value general_step
-returns-else-m-b_l c =
-    let found = c.price_and_vega_at.ensures in
-    rw (price_is _ _ _ _ found _ _ c.in-Both.is, c.if-m-b_l.false, vega_is _ _ _ _ found _ _ c.in-Both.is, ← c.middle_guess-guess.ensures) c.start_loop-in-Both.ensures
-
-pub returns-in-Refused : goal.returns-in-Refused
-unfolding lower_start with_value
-returns-in-Refused c =
-    rw (refusal_is _ _ _ _ c.price_and_vega_at.ensures _ c.in-Refused.is) (record { meaning = refl; exponentials = tt })
+returns c =
+    let e : c.price_and_vega.result ≡ Ok c.in_ok-at_l.at_l = search rules in
+    let found = c.price_and_vega.ensures in
+    rw (price_is _ _ _ _ found _ e, c.if-m-b_l.false, vega_is _ _ _ _ found _ e, ← c.middle_guess-guess.ensures) (c.start_loop-2.ensures c.args.set)

@@ -1,12 +1,19 @@
--- `guess::start_loop` meets its contract: the variant met says which case it is. Assumes nothing.
-use mathlib.Core.Path.{refl}
+-- `guess::start_loop` meets its contract: a guess goes on, a refusal passes up. Assumes nothing.
+use mathlib.Core.Path.{◌≡◌, refl, ◌∙◌}
+use Rattle.std.proofs.Common.{rules}
+use Rattle.std.specs.Prelude.{Ok, Err}
 use Rattle.solver.specs.Guess.{with_value}
 use Rattle.solver.proofs.guess.start_loop.Goals as goal
 
-pub returns-in-Value : goal.returns-in-Value
+pub returns-in_err-guess : goal.returns-in_err-guess
 unfolding with_value
-returns-in-Value c = rw (c.start_at.ensures, c.in-Value.is) (record { meaning = refl; exponentials = c.requires })
+returns-in_err-guess c = λ set.
+    let e : c.args.guess ≡ Err c.in_err-guess.field-0.0 = search rules in
+    let r : c.from_residual.result ≡ Err c.in_err-guess.field-0.0 = search rules in
+    rw (r, e)
 
-pub returns-in-Refused : goal.returns-in-Refused
+pub returns : goal.returns
 unfolding with_value
-returns-in-Refused c = rw c.in-Refused.is (record { meaning = refl; exponentials = tt })
+returns c = λ set.
+    let e : c.args.guess ≡ Ok c.in_ok-guess.field-0 = search rules in
+    rw (e, c.start_at.ensures)

@@ -3,16 +3,10 @@ use Rattle.solver.specs.Step.{upper_step, general_step}
 use Rattle.solver.specs.Guess.{tail_start}
 use Rattle.solver.proofs.guess.tail_start.Goals as goal
 
-pub start_loop-requires : goal.start_loop-requires
-start_loop-requires c = c.requires
-
 pub returns-then-m : goal.returns-then-m
 unfolding tail_start upper_step
-returns-then-m c = rw (← c.upper_guess-guess.ensures, c.if-m.true) c.start_loop.ensures
-
-pub start_loop-requires-2 : goal.start_loop-requires-2
-start_loop-requires-2 c = c.requires
+returns-then-m c = rw (← c.upper_guess-guess.ensures, c.if-m.true) (c.start_loop.ensures c.args.set)
 
 pub returns : goal.returns
 unfolding tail_start general_step
-returns c = rw (← c.upper_guess-guess.ensures, c.if-m.false) c.start_loop-2.ensures
+returns c = rw (← c.upper_guess-guess.ensures, c.if-m.false) (c.start_loop-2.ensures c.args.set)

@@ -1,4 +1,4 @@
--- `book::file_quote` meets its contract: a case of the definition for each way out.
+-- `book::file` meets its contract: a case of the definition for each way out.
 use mathlib.Core.Path.{◌≡◌, refl}
 use mathlib.Core.List.{List}
 use Prim.Native.Nat.{ℕ, ◌/◌, ◌≤◌, ◌<◌}
@@ -15,7 +15,7 @@ use Rattle.solver.specs.declared.answers.Filing.TheVariants.{Refused as NotFiled
 use Rattle.elementary.specs.declared.rule_set.RuleSet.{RuleSet}
 use Rattle.solver.specs.Solve.{input_number, solve_of, steps_of}
 use Rattle.solver.specs.Book.{file_answer, file_of}
-use Rattle.solver.proofs.book.file_quote.Goals as goal
+use Rattle.solver.proofs.book.file.Goals as goal
 
 module _ (set : RuleSet) (q : Quote) (limit : ℤ) (book : List ℕ) (used : ℕ) where
   -- the answer, and the book that is left
