@@ -21,7 +21,7 @@ use Rattle.elementary.specs.RuleSets.{rule_set_0}
 use Rattle.solver.specs.Loop.{run}
 use Rattle.solver.specs.Step.{lower_step, upper_step, general_step, lower_ds, upper_ds, general_ds, householder_factor, is_close}
 use Rattle.solver.specs.Guess.{normalised_start, mapped_start, lower_start, upper_start, tail_start, lower_guess, middle_guess, upper_guess, lower_map, upper_map, inverse_f_lower_map, with_value, on_value}
-use Rattle.solver.specs.Solve.{solve_of, solve_keeping, result_from, start_of, market_check, input_check, accepted_start, quote_of}
+use Rattle.solver.specs.Solve.{solve_of, solve_keeping, result_from, start_of, market_check, accepted_start, quote_of}
 use Rattle.solver.specs.Answers.{volatility_in}
 
 -- the bits of the volatility at a price, forward, strike and expiry given by their bits, for a kind and a limit

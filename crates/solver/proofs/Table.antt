@@ -16,7 +16,7 @@ use Rattle.solver.specs.Answers.{Solution}
 use Rattle.solver.specs.Guess.{normalised_start, mapped_start}
 use Rattle.solver.specs.Book.{book_record_bytes, solve_record}
 use Rattle.solver.specs.Listing.{decimal_by, hex_by, answer_at, line_of}
-use Rattle.solver.specs.Solve.{accepted_start, market_check, input_check, start_of, solution_of, result_from, solve_keeping, solve_of, solve_with_trail}
+use Rattle.solver.specs.Solve.{accepted_start, market_check, start_of, solution_of, result_from, solve_keeping, solve_of, solve_with_trail}
 use Rattle.solver.specs.Table.{Gives, Table}
 
 gives : (a : Solution) (v : Float) → a ≡ solution_of v NoLoop Unlooped 0 → Gives a v

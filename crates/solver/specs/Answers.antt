@@ -1,5 +1,5 @@
 -- What an answer says: document 01's number and 02's, 0 where there is none, and its values. Definitions only.
-use Rattle.std.specs.Prelude.{Bool, true, false, ℕ, Float, Result, Ok, Err, Option, None, Some}
+use Rattle.std.specs.Prelude.{Bool, false, ℕ, Float, Result, Ok, Err, Option, None, Some}
 use Rattle.std.specs.Float.{nan}
 use Rattle.prices.specs.Answers.{number as pricing_number}
 use Rattle.solver.specs.declared.refusal.Refusal.{Refusal}

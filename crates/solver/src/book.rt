@@ -99,7 +99,7 @@ pub(crate) fn solve_record(set: RuleSet, r: &[u8]) -> Result<ImpliedVolatility, 
     requires { 64 ≤ length r.now }
     ensures { result ≡ solve_record set r.now }
 {
-    let option_type = OptionType::try_from(r[48]).map_err(Refusal::from)?;
+    let option_type = OptionType::try_from(r[48])?;
     if !in_layout(r) {
         return Err(Failure::from(Refusal::OutsideTheLayout));
     }
@@ -112,10 +112,10 @@ fn agrees(r: &[u8], a: ImpliedVolatility) -> bool
     requires { 64 ≤ length r.now }
     ensures { result ≡ agrees_of r.now a }
 {
-    number_at(r, 32, 8) == bits_of(a.volatility)
-        && number_at(r, 44, 4) == a.steps as u64
-        && r[49] == a.branch.number()
-        && r[50] == a.ending.number()
+    (number_at(r, 32, 8) == bits_of(a.volatility))
+        & (number_at(r, 44, 4) == a.steps as u64)
+        & (r[49] == a.branch.number())
+        & (r[50] == a.ending.number())
 }
 
 // ---- the book

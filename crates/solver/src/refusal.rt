@@ -58,6 +58,14 @@ pub struct Failure {
     pub steps: u32,
 }
 
+impl From<UnknownKind> for Failure {
+    ghost from_gives = { λ _ r. r ≡ record { refusal = OutsideTheLayout; steps = 0 } };
+
+    fn from(byte: UnknownKind) -> Failure {
+        Failure::from(Refusal::from(byte))
+    }
+}
+
 // Before a loop.
 impl From<prices::refusal::Refusal> for Failure {
     ghost from_gives = { λ refusal r. r ≡ record { refusal = Pricing refusal; steps = 0 } };

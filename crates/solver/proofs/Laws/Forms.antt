@@ -1,6 +1,6 @@
 -- Which step each branch's loop takes, for every input: branch 1 the lower one, 4 the upper one, 2, 3 and 5 the general one. And in branches 1 and 4 the first s is a
 -- value of binary64. Before a loop there is no refusal but those of Numbers. Assumes nothing.
-use mathlib.Core.Path.{◌≡◌, refl}
+use mathlib.Core.Path.{refl}
 use mathlib.Core.Bool.{Bool, true, false, cond}
 use lib.Dec.{T}
 use lib.Ieee.{Float, binary64, neg, lt, le, fits}
@@ -10,7 +10,6 @@ use Rattle.elementary.specs.Ops.{◌⊖◌, ◌⊗◌, ◌⊘◌, +0, half, two}
 use Rattle.elementary.specs.declared.rule_set.RuleSet.{RuleSet}
 use Rattle.elementary.proofs.Laws.Bits.{abs_fits}
 use Rattle.elementary.specs.NormalDistribution.{inverse_of, inverse_f_upper_map_of}
-use Rattle.std.specs.Prelude.{Ok, Err}
 use Rattle.prices.specs.Answers.{Answer}
 use Rattle.solver.specs.declared.quote.Quote.{Quote}
 use Rattle.solver.specs.declared.state.State.{State}
@@ -20,7 +19,7 @@ use Rattle.solver.specs.declared.answers.Branch.{Branch}
 use Rattle.solver.specs.declared.answers.Branch.TheVariants.{Lower, LowerMiddle, UpperMiddle, Upper, UpperRest}
 use Rattle.solver.specs.Step.{StepResult, lower_step, upper_step, general_step}
 use Rattle.solver.specs.Guess.{is_below_horizon, inverse_f_lower_map, on_value, lower_guess, middle_guess, upper_map, upper_guess, Start, answered, stopped, looping, with_value, lower_start, tail_start, upper_start, mapped_start, normalised_start}
-use Rattle.solver.specs.Solve.{Check, by_check, over_expiry, accepted_start, input_check, start_of}
+use Rattle.solver.specs.Solve.{Check, by_check, over_expiry, accepted_start, start_of}
 use Rattle.solver.proofs.Laws.Numbers.{Passes, value, cubic, region, call_passes, cubic_passes, upper_f_passes, Checked, trail_refused, Refused, by_a_check, cubic_refused, region_refused, CheckForm, passed, refused, input_form}
 
 pub data LoopForm : Branch → Float → (State → StepResult) → State → Type 0 where

@@ -17,7 +17,6 @@ use Rattle.solver.specs.declared.quote.Quote.{Quote}
 use Rattle.solver.specs.declared.refusal.Refusal.{Refusal}
 use Rattle.solver.specs.declared.refusal.Refusal.TheVariants.{Price, Pricing, TrailTooShort}
 use Rattle.solver.specs.declared.state.State.{State}
-use Rattle.solver.specs.declared.state.Record.{Record}
 use Rattle.solver.specs.declared.state.Step.{Step}
 use Rattle.solver.specs.declared.state.Bracket.{Bracket}
 use Rattle.solver.specs.declared.state.MapAndDerivatives.{MapAndDerivatives}

@@ -1,5 +1,5 @@
 -- What the bid and ask call is once its checks are looked at: a refusal, or both ends; and what passed checks say of each end. Assumes nothing.
-use mathlib.Core.Path.{◌≡◌, refl, sym, ◌∙◌}
+use mathlib.Core.Path.{◌≡◌, refl}
 use mathlib.Core.Bool.{Bool, true, false, cond}
 use mathlib.Core.List.{List}
 use Prim.Native.Nat.{ℕ, ◌*◌}
@@ -10,7 +10,7 @@ use Rattle.elementary.specs.declared.rule_set.RuleSet.{RuleSet}
 use Rattle.solver.specs.declared.quote.QuoteRange.{QuoteRange}
 use Rattle.solver.specs.declared.refusal.Refusal.{Refusal}
 use Rattle.solver.specs.declared.refusal.Refusal.TheVariants.{TrailTooShort}
-use Rattle.solver.specs.Answers.{number, Solution, RangeSolution, range_number_in}
+use Rattle.solver.specs.Answers.{Solution, RangeSolution, range_number_in}
 use Rattle.solver.specs.Solve.{Check, and_then, by_check, passed_up, price_check, market_check, input_check, SolveResult, solve_of, solve_with_trail}
 use Rattle.solver.specs.Trail.{trail_after}
 use Rattle.solver.specs.BidAsk.{RangeResult, quote_at, order_check, range_check, trail_check, range_check_with_trails, solve_range, solve_range_with_trails}

@@ -1,17 +1,18 @@
 -- A record's slot of the book: where the record exists, its 64 bytes are inside, and what read and recheck answer there.
 use mathlib.Core.Path.{◌≡◌, refl, sym}
 use mathlib.Core.Bool.{Bool, true, false, true≢false, cond, ◌&&◌}
-use mathlib.Core.List.{List, []}
+use mathlib.Core.List.{List}
 use Prim.Native.Nat.{ℕ, ◌+◌, ◌-◌, ◌*◌, ◌≤◌}
 use native.Mathlib.Omega.{arith}
 use native.Mathlib.Nat.{mul_comm}
 use borrow.Author.Tests.{ltb-true, leb-true}
 use lib.Dec.{ltb, leb}
-use lib.ListN.{length, take, drop}
-use Rattle.solver.specs.declared.answers.Checking.{Checking}
-use Rattle.solver.specs.declared.answers.Checking.TheVariants.{Refused}
-use Rattle.elementary.specs.declared.rule_set.RuleSet.{RuleSet}
-use Rattle.solver.specs.Book.{slots, record_exists, record_at, Read, read_of, recheck_of, solve_record, checking_of}
+use lib.ListN.{length, take, drop, length-drop}
+use lib.Seq.{length-take-le}
+use Rattle.std.specs.Prelude.{Result, Ok, Err}
+use Rattle.solver.specs.declared.refusal.Refusal.{Refusal}
+use Rattle.solver.specs.declared.refusal.Refusal.TheVariants.{NoSuchRecord}
+use Rattle.solver.specs.Book.{slots, record_exists, record_at, read_of}
 
 both : (a b : Bool) → (a && b) ≡ true → (a ≡ true) × (b ≡ true)
 both true b e = (refl, e)
@@ -26,33 +27,32 @@ slot_is k book =
     let m : k * 64 + 64 - k * 64 ≡ 64 = omega arith in
     rw (m, mul_comm k 64)
 
-number_zero : (h : Bool) (bytes : List ℕ) → (cond {A = Read} h (record { number = 0; bytes = bytes }) (record { number = 23; bytes = [] })).number ≡ 0 → h ≡ true
-number_zero true bytes e = refl
-number_zero false bytes e = absurd (omega (arith, e))
-
 module _ (book : List ℕ) (used k : ℕ) where
   pub inside : record_exists book used k ≡ true → k * 64 + 64 ≤ length book
   inside e =
       let h = both (ltb k used) (leb used (slots book)) e in
       omega (arith, ltb-true k used h.0, leb-true used (slots book) h.1)
 
-  -- read's number says it too
-  pub exists : (read_of book used k).number ≡ 0 → record_exists book used k ≡ true
+  pub read_existing : record_exists book used k ≡ true → Ok (slot k book) ≡ read_of book used k
   unfolding read_of
-  exists e = number_zero (record_exists book used k) (record_at k book) e
+  read_existing e = rw (e, slot_is k book)
 
-  pub read_existing : record_exists book used k ≡ true → (slot k book ≡ (read_of book used k).bytes) × (0 ≡ (read_of book used k).number)
+  -- what is read says that the record exists
+  pub exists : (part : List ℕ) → Ok part ≡ read_of book used k → (record_exists book used k ≡ true) × (part ≡ record_at k book)
   unfolding read_of
-  read_existing e = rw (e, slot_is k book) (refl, refl)
+  exists part e = go (record_exists book used k) e
+    where
+      go : (b : Bool) → ◌≡◌ {A = Result (List ℕ) Refusal} (Ok part) (cond b (Ok (record_at k book)) (Err NoSuchRecord)) → (b ≡ true) × (part ≡ record_at k book)
+      go true h = (refl, cc)
+      go false h = cc
 
-  pub read_none : record_exists book used k ≡ false → ([] ≡ (read_of book used k).bytes) × (23 ≡ (read_of book used k).number)
+  pub missing : (r : Refusal) → Err r ≡ read_of book used k → (record_exists book used k ≡ false) × (r ≡ NoSuchRecord)
   unfolding read_of
-  read_none e = rw e (refl, refl)
+  missing r e = go (record_exists book used k) e
+    where
+      go : (b : Bool) → ◌≡◌ {A = Result (List ℕ) Refusal} (Err r) (cond b (Ok (record_at k book)) (Err NoSuchRecord)) → (b ≡ false) × (r ≡ NoSuchRecord)
+      go true h = cc
+      go false h = (refl, cc)
 
-  pub recheck_existing : (set : RuleSet) (a : Checking) → record_exists book used k ≡ true → a ≡ checking_of (slot k book) (solve_record set (slot k book)) → a ≡ recheck_of set book used k
-  unfolding recheck_of
-  recheck_existing set a e h = rw e (rw (slot_is k book) at h)
-
-  pub recheck_none : (set : RuleSet) → record_exists book used k ≡ false → Refused 23 0 ≡ recheck_of set book used k
-  unfolding recheck_of
-  recheck_none set e = rw e
+  pub record_length : record_exists book used k ≡ true → length (record_at k book) ≡ 64
+  record_length e = let i = inside e in length-take-le 64 (drop (64 * k) book) (simp length-drop (omega arith))

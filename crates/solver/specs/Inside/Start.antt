@@ -1,5 +1,5 @@
 -- What the code's start of a run means. Definitions only.
-use Rattle.std.specs.Prelude.{Float, Result, Ok, Err}
+use Rattle.std.specs.Prelude.{Result, Ok, Err}
 use Rattle.elementary.specs.declared.rule_set.RuleSet.{RuleSet}
 use Rattle.prices.specs.declared.refusal.Refusal.{Refusal}
 use Rattle.solver.specs.declared.refusal.Refusal.TheVariants.{Pricing}

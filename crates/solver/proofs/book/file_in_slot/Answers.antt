@@ -11,8 +11,9 @@ use mir.Syntax.{w32}
 use mir.ValLaws.{to_z-of_z}
 use Rattle.solver.specs.declared.quote.Quote.{Quote}
 use Rattle.solver.specs.declared.answers.ImpliedVolatility.{ImpliedVolatility}
-use Rattle.solver.specs.declared.answers.Solution.{Solution}
-use Rattle.solver.specs.declared.answers.Solution.TheVariants.{Solved}
+use Rattle.std.proofs.Common.{rules}
+use Rattle.std.specs.Prelude.{Ok}
+use Rattle.solver.specs.Answers.{Solution}
 use Rattle.solver.specs.Book.{book_record_bytes, file_answer}
 use Rattle.solver.proofs.Laws.Parts.{part_overwritten}
 use Rattle.solver.proofs.Laws.BySet.{by_set}
@@ -26,13 +27,14 @@ module _ (q : Quote) (limit : ℤ) (book : List ℕ) (used : ℕ) (v : ImpliedVo
   unfolding book_record_bytes
   bytes_length = refl
 
-  files : (ys : List ℕ) (a w : Solution) → a ≡ w → a ≡ Solved v → ys ≡ bytes ++ drop 64 (mid_of (used * 64) (length book - used * 64) book)
+  files : (ys : List ℕ) (a w : Solution) → a ≡ w → a ≡ Ok v → ys ≡ bytes ++ drop 64 (mid_of (used * 64) (length book - used * 64) book)
       → put_mid (used * 64) (length book - used * 64) book ys ≡ (file_answer q limit book used w).book
   files ys a w e s h = rw (← e, s) (rw (mul_comm 64 used) (part_overwritten (used * 64) book bytes ys (rw bytes_length h)))
 
-pub returns-in-Solved-clause-book_after : goal.returns-in-Solved-clause-book_after
-returns-in-Solved-clause-book_after c =
+pub returns-clause-book_after : goal.returns-clause-book_after
+returns-clause-book_after c =
     let a = c.args in
     let z = to_z-of_z w32 a.limit c.ranges.limit in
-    files a.quote a.limit a.book.now a.used _ _ _ _ (by_set (λ s. c.solve_quote.result ≡ (solve_of s a.quote (steps_of a.limit)).answer) a.set (rw (c.steps_of.ensures, z) at c.solve_quote.ensures) refl) c.in-Solved.is
+    let e : c.solve.result ≡ Ok c.in_ok-a.a = search rules in
+    files a.quote a.limit a.book.now a.used _ _ _ _ (by_set (λ s. c.solve.result ≡ (solve_of s a.quote (steps_of a.limit)).answer) a.set (rw (c.steps_of.ensures, z) at c.solve.ensures) refl) e
     (rw z at c.put_book_record.ensures)

@@ -1,8 +1,7 @@
 -- `book::read` meets its contract: the record's own part of the book, where there is one. Assumes nothing.
-use mathlib.Core.Path.{◌≡◌, refl, sym, ◌∙◌}
-use native.Mathlib.Omega.{arith}
-use native.Mathlib.Nat.{mul_comm}
+use mathlib.Core.Path.{sym, ◌∙◌}
 use Rattle.solver.specs.Book.{read_of}
+use Rattle.solver.proofs.book.Slots.{read_existing}
 use Rattle.solver.proofs.book.read.Goals as goal
 
 pub returns-then-not-record_exists : goal.returns-then-not-record_exists
@@ -10,5 +9,6 @@ unfolding read_of
 returns-then-not-record_exists c = rw (sym c.record_exists.ensures ∙ c.if-not-record_exists.true)
 
 pub returns : goal.returns
-unfolding read_of
-returns c = ?
+returns c =
+    let a = c.args in
+    read_existing a.book.now a.used a.k (sym c.record_exists.ensures ∙ c.if-not-record_exists.false)

@@ -1,5 +1,5 @@
 -- `guess::guessed_start` meets its contract: the price at s_c and the test say which start it is. Assumes nothing.
-use mathlib.Core.Path.{◌≡◌, refl, ◌∙◌}
+use mathlib.Core.Path.{◌≡◌}
 use Rattle.std.proofs.Common.{rules}
 use Rattle.std.specs.Prelude.{Ok, Err}
 use Rattle.solver.specs.Guess.{with_value}

@@ -1,5 +1,5 @@
 -- `guess::lower_guess` meets its contract: what the cubic answers and the test say which case it is. Assumes nothing.
-use mathlib.Core.Path.{◌≡◌, refl, ◌∙◌}
+use mathlib.Core.Path.{◌≡◌, ◌∙◌}
 use Rattle.std.proofs.Common.{rules}
 use Rattle.std.specs.Prelude.{Ok, Err}
 use Rattle.solver.specs.Guess.{on_value, lower_guess}

@@ -1,5 +1,5 @@
 -- `guess::lower_start` meets its contract: the price at s_l and the test say which start it is, and the step of a branch is found by computing. Assumes nothing.
-use mathlib.Core.Path.{◌≡◌, refl, ◌∙◌}
+use mathlib.Core.Path.{◌≡◌}
 use Rattle.std.proofs.Common.{rules}
 use Rattle.std.specs.Prelude.{Ok, Err}
 use Rattle.solver.specs.Step.{lower_step, general_step}

@@ -1,5 +1,5 @@
 -- `guess::start_loop` meets its contract: a guess goes on, a refusal passes up. Assumes nothing.
-use mathlib.Core.Path.{◌≡◌, refl, ◌∙◌}
+use mathlib.Core.Path.{◌≡◌}
 use Rattle.std.proofs.Common.{rules}
 use Rattle.std.specs.Prelude.{Ok, Err}
 use Rattle.solver.specs.Guess.{with_value}

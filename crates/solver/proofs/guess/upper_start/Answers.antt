@@ -1,5 +1,5 @@
 -- `guess::upper_start` meets its contract: the price at s_h and the test say which start it is, and the step of a branch is found by computing. Assumes nothing.
-use mathlib.Core.Path.{◌≡◌, refl, ◌∙◌}
+use mathlib.Core.Path.{◌≡◌}
 use Rattle.std.proofs.Common.{rules}
 use Rattle.std.specs.Prelude.{Ok, Err}
 use Rattle.solver.specs.Step.{general_step}

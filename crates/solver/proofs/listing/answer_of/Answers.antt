@@ -6,7 +6,7 @@ use Rattle.solver.proofs.listing.answer_of.Goals as goal
 
 pub returns-then-bytes-lt64 : goal.returns-then-bytes-lt64
 unfolding answer_at
-returns-then-bytes-lt64 c = rw (lt-ltb (length c.args.bytes.now) 64 c.if-bytes-lt64.true)
+returns-then-bytes-lt64 c = rw (lt-ltb (length c.args.bytes.now) 64 c.if-bytes-lt64.true, c.from.ensures)
 
 pub returns : goal.returns
 unfolding answer_at

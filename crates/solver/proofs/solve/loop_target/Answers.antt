@@ -1,5 +1,5 @@
 -- `solve::loop_target` meets its contract: what the start says. Assumes nothing.
-use mathlib.Core.Path.{◌≡◌, refl, ◌∙◌}
+use mathlib.Core.Path.{◌≡◌, ◌∙◌}
 use Rattle.std.proofs.Common.{rules}
 use Rattle.std.specs.Prelude.{Ok, Err}
 use Rattle.solver.specs.declared.refusal.Refusal.TheVariants.{Pricing}

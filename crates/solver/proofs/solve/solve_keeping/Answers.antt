@@ -6,7 +6,6 @@ use Rattle.std.proofs.Common.{rules}
 use Rattle.std.specs.Prelude.{Ok, Err}
 use Rattle.solver.specs.declared.refusal.Refusal.TheVariants.{Pricing}
 use Rattle.solver.specs.Answers.{at_once}
-use Rattle.solver.specs.Inside.Start.{meaning}
 use Rattle.solver.specs.Solve.{result_from}
 use Rattle.solver.proofs.Laws.LoopInvariant.{no_record}
 use Rattle.solver.proofs.Laws.SolveCases.{by_refusal, by_trail, by_start, leads_to, Long, short, long, room}
