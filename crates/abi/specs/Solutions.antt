@@ -1,25 +1,20 @@
 -- How the answers of solve, file, recheck and read cross as plain numbers. Definitions only.
-use Rattle.std.specs.Prelude.{cond, List, [], ℕ, ◌+◌, ◌*◌, ◌^◌, eqb, ℤ}
+use Rattle.std.specs.Prelude.{cond, List, [], ℕ, ◌+◌, ◌*◌, ◌^◌, ℤ, Result, Ok, Err}
+use Rattle.std.specs.Result.{result_map_both}
 use Rattle.std.specs.Float.{binary64}
 use Rattle.std.specs.Float.Ieee.{of_bits}
-use Rattle.solver.specs.declared.answers.Solution.{Solution}
-use Rattle.solver.specs.declared.answers.Solution.TheVariants.{Refused}
-use Rattle.solver.specs.declared.answers.RangeSolution.{RangeSolution}
-use Rattle.solver.specs.declared.answers.RangeSolution.TheVariants.{Refused as NoEnds}
-use Rattle.solver.specs.declared.answers.Target.{Target}
-use Rattle.solver.specs.declared.answers.Target.TheVariants.{Refused as NoTarget}
-use Rattle.solver.specs.declared.answers.Filing.{Filing}
-use Rattle.solver.specs.declared.answers.Filing.TheVariants.{Refused as NotFiled}
-use Rattle.solver.specs.declared.answers.Checking.{Checking}
-use Rattle.solver.specs.Answers.{number_in, branch_in, ending_in, steps_in, filing_number, filing_steps, checking_number, checking_agrees, checking_steps}
+use Rattle.prices.specs.declared.inputs.OptionType.{OptionType}
+use Rattle.prices.specs.declared.inputs.UnknownKind.{UnknownKind}
+use Rattle.prices.specs.Inputs.{kind_of}
+use Rattle.solver.specs.declared.quote.Quote.{Quote}
+use Rattle.solver.specs.declared.quote.QuoteRange.{QuoteRange}
+use Rattle.solver.specs.declared.refusal.Refusal.{Refusal}
+use Rattle.solver.specs.declared.refusal.Refusal.TheVariants.{OutsideTheLayout}
+use Rattle.solver.specs.Answers.{at_once, Solution, RangeSolution, Filing, Checking, Target, number_in, branch_in, ending_in, steps_in, filing_number, filing_steps, checking_number, checking_agrees, checking_steps}
 use Rattle.elementary.specs.RuleSets.{rule_set_0}
 use Rattle.solver.specs.Solve.{SolveResult, solve_of, solve_with_trail, target_of, quote_of, steps_of}
 use Rattle.solver.specs.BidAsk.{RangeResult, range_of, solve_range, solve_range_with_trails}
-use Rattle.solver.specs.Book.{kind_of, by_kind, FileResult, file_of, Read}
-use Rattle.abi.specs.declared.product.solve.Asked.{Asked}
-use Rattle.abi.specs.declared.product.solve.Asked.TheVariants.{AQuote, NoKind}
-use Rattle.abi.specs.declared.product.bid_ask.AskedRange.{AskedRange}
-use Rattle.abi.specs.declared.product.bid_ask.AskedRange.TheVariants.{ARange, NoKind as NoKindOfRange}
+use Rattle.solver.specs.Book.{FileResult, file_of}
 
 -- number, branch, ending and steps in one word: bytes 0, 1 and 2, and from byte 4 on the steps
 abbrev pub outcome_from : ℕ → ℕ → ℕ → ℕ → ℕ
@@ -43,48 +38,54 @@ agrees_byte a = cond (checking_agrees a) 1 0
 
 -- ---- a quote from bits and a kind's byte; one that says no kind is refused before all else, with document 01's number for a kind outside the layout
 
+-- what a caller asks, or that the byte says no kind
+abbrev pub ask : {A : Type 0} → ℕ → (OptionType → A) → Result A UnknownKind
+ask byte of_kind = result_map_both of_kind (λ unknown. unknown) (kind_of byte)
+
 -- what these bits and this byte ask
-abbrev pub asked_by : ℕ → ℕ → ℕ → ℕ → ℕ → Asked
-asked_by price forward strike expiry kind = by_kind (kind_of kind) (λ k. AQuote (quote_of (of_bits binary64 price) (of_bits binary64 forward) (of_bits binary64 strike) (of_bits binary64 expiry) k)) NoKind
+abbrev pub asked_by : ℕ → ℕ → ℕ → ℕ → ℕ → Result Quote UnknownKind
+asked_by price forward strike expiry kind = ask kind (λ k. quote_of (of_bits binary64 price) (of_bits binary64 forward) (of_bits binary64 strike) (of_bits binary64 expiry) k)
 
 -- solve with a trail of so many bytes
-abbrev pub solve_with_trail_for : Asked → ℤ → ℕ → SolveResult
-solve_with_trail_for (AQuote q) limit bytes = solve_with_trail rule_set_0 q (steps_of limit) bytes
-solve_with_trail_for NoKind limit bytes = record { records = []; answer = Refused 24 0 }
+abbrev pub solve_with_trail_for : Result Quote UnknownKind → ℤ → ℕ → SolveResult
+solve_with_trail_for (Ok q) limit bytes = solve_with_trail rule_set_0 q (steps_of limit) bytes
+solve_with_trail_for (Err unknown) limit bytes = record { records = []; answer = Err (at_once OutsideTheLayout) }
 
 -- solve without a trail, for so many steps
-abbrev pub solve_for : Asked → ℕ → Solution
-solve_for (AQuote q) n = (solve_of rule_set_0 q n).answer
-solve_for NoKind n = Refused 24 0
+abbrev pub solve_for : Result Quote UnknownKind → ℕ → Solution
+solve_for (Ok q) n = (solve_of rule_set_0 q n).answer
+solve_for (Err unknown) n = Err (at_once OutsideTheLayout)
 
 -- the target of its loop
-abbrev pub target_for : Asked → Target
-target_for (AQuote q) = target_of rule_set_0 q
-target_for NoKind = NoTarget 24
+abbrev pub target_for : Result Quote UnknownKind → Target
+target_for (Ok q) = target_of rule_set_0 q
+target_for (Err unknown) = Err OutsideTheLayout
 
 -- file, into slot `used` of the book
-abbrev pub file_for : Asked → ℤ → List ℕ → ℕ → FileResult
-file_for (AQuote q) limit book used = file_of q limit book used rule_set_0
-file_for NoKind limit book used = record { answer = NotFiled 24 0; book = book }
+abbrev pub file_for : Result Quote UnknownKind → ℤ → List ℕ → ℕ → FileResult
+file_for (Ok q) limit book used = file_of q limit book used rule_set_0
+file_for (Err unknown) limit book used = record { answer = Err (at_once OutsideTheLayout); book = book }
 
 -- ---- a low and a high price, likewise
 
 -- what these bits and this byte ask
-abbrev pub asked_range_by : ℕ → ℕ → ℕ → ℕ → ℕ → ℕ → AskedRange
-asked_range_by low high forward strike expiry kind = by_kind (kind_of kind) (λ k. ARange (range_of (of_bits binary64 low) (of_bits binary64 high) (of_bits binary64 forward) (of_bits binary64 strike) (of_bits binary64 expiry) k)) NoKindOfRange
+abbrev pub asked_range_by : ℕ → ℕ → ℕ → ℕ → ℕ → ℕ → Result QuoteRange UnknownKind
+asked_range_by low high forward strike expiry kind =
+    ask kind (λ k. range_of (of_bits binary64 low) (of_bits binary64 high) (of_bits binary64 forward) (of_bits binary64 strike) (of_bits binary64 expiry) k)
 
 -- both ends with trails of these bytes
-abbrev pub solve_range_with_trails_for : AskedRange → ℤ → List ℕ → List ℕ → RangeResult
-solve_range_with_trails_for (ARange r) limit low high = solve_range_with_trails rule_set_0 r (steps_of limit) low high
-solve_range_with_trails_for NoKindOfRange limit low high = record { answer = NoEnds 24; low = low; high = high }
+abbrev pub solve_range_with_trails_for : Result QuoteRange UnknownKind → ℤ → List ℕ → List ℕ → RangeResult
+solve_range_with_trails_for (Ok r) limit low high = solve_range_with_trails rule_set_0 r (steps_of limit) low high
+solve_range_with_trails_for (Err unknown) limit low high = record { answer = Err OutsideTheLayout; low = low; high = high }
 
 -- without trails
-abbrev pub solve_range_for : AskedRange → ℤ → RangeSolution
-solve_range_for (ARange r) limit = solve_range rule_set_0 r (steps_of limit)
-solve_range_for NoKindOfRange limit = NoEnds 24
+abbrev pub solve_range_for : Result QuoteRange UnknownKind → ℤ → RangeSolution
+solve_range_for (Ok r) limit = solve_range rule_set_0 r (steps_of limit)
+solve_range_for (Err unknown) limit = Err OutsideTheLayout
 
 -- ---- read
 
 -- where record k's part begins; 0 where there is none
-abbrev pub place_of : Read → ℕ → ℕ
-place_of r k = cond (eqb r.number 0) (k * 64) 0
+abbrev pub place_of : Result (List ℕ) Refusal → ℕ → ℕ
+place_of (Ok part) k = k * 64
+place_of (Err refusal) k = 0

@@ -18,12 +18,16 @@ number InfinitePlace = 6
 number OutsideAsymptoticRegion = 7
 number TTooLarge = 8
 
+-- 0 where nothing is refused
+abbrev pub number_by : {T E : Type 0} → (E → ℕ) → Result T E → ℕ
+number_by number (Ok v) = 0
+number_by number (Err refusal) = number refusal
+
 -- 0 where there is a price
 abbrev pub number_of : Answer → ℕ
-number_of (Ok v) = 0
-number_of (Err refusal) = number refusal
+number_of = number_by number
 
 -- a refusal has none; NaN stands for it
-abbrev pub value_of : Answer → Float
+abbrev pub value_of : {E : Type 0} → Result Float E → Float
 value_of (Ok v) = v
 value_of (Err refusal) = nan

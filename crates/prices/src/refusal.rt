@@ -1,6 +1,14 @@
 // Document 01's numbers for what this layer refuses.
-ghost use Rattle.std.specs.Prelude.{◌≡◌};
-ghost use Rattle.prices.specs.Answers.{number};
+ghost use Rattle.std.specs.Prelude.{◌≡◌, ℕ};
+ghost use Rattle.prices.specs.Answers.{number as number_of_refusal};
+
+// What has a number in document 01.
+pub trait Numbered {
+    ghost number: { Self → ℕ };
+
+    fn number(self) -> u8
+        ensures { result ≡ number self };
+}
 
 #[derive(Clone, Copy, Debug, PartialEq, Eq)]
 pub enum Refusal {
@@ -20,10 +28,10 @@ pub enum Refusal {
     TTooLarge = 8,
 }
 
-impl Refusal {
-    pub fn number(self) -> u8
-        ensures { result ≡ number self }
-    {
+impl Numbered for Refusal {
+    ghost number = { number_of_refusal };
+
+    fn number(self) -> u8 {
         self as u8
     }
 }

@@ -1,7 +1,7 @@
 -- What an answer says: document 01's number and 02's, 0 where there is none, and its values. Definitions only.
 use Rattle.std.specs.Prelude.{Bool, false, ℕ, Float, Result, Ok, Err, Option, None, Some}
 use Rattle.std.specs.Float.{nan}
-use Rattle.prices.specs.Answers.{number as pricing_number}
+use Rattle.prices.specs.Answers.{number as pricing_number, number_by}
 use Rattle.solver.specs.declared.refusal.Refusal.{Refusal}
 use Rattle.solver.specs.declared.refusal.Refusal.TheVariants.{Price, Pricing, TrailTooShort, BookFull, NoSuchRecord, OutsideTheLayout, LowAboveHigh}
 use Rattle.solver.specs.declared.refusal.Failure.{Failure}
@@ -37,6 +37,10 @@ ending_number Unlooped = 0
 ending_number StepTest = 1
 ending_number Limit = 2
 
+-- a failure's number is its refusal's
+abbrev pub failure_number : Failure → ℕ
+failure_number failure = number failure.refusal
+
 -- refused before a loop
 abbrev pub at_once : Refusal → Failure
 at_once refusal = record { refusal = refusal; steps = 0 }
@@ -48,8 +52,7 @@ Solution = Result ImpliedVolatility Failure
 
 -- 0 where it answers
 abbrev pub number_in : Solution → ℕ
-number_in (Ok a) = 0
-number_in (Err failure) = number failure.refusal
+number_in = number_by failure_number
 
 -- a refusal has none; NaN stands for it
 abbrev pub volatility_in : Solution → Float
@@ -78,8 +81,7 @@ RangeSolution = Result Ends Refusal
 
 -- 0 where both ends have a solution
 abbrev pub range_number_in : RangeSolution → ℕ
-range_number_in (Ok ends) = 0
-range_number_in (Err refusal) = number refusal
+range_number_in = number_by number
 
 -- each end's solution; what refuses the call refuses both
 abbrev pub low_in : RangeSolution → Solution
@@ -98,8 +100,7 @@ Filing = Result ℕ Failure
 
 -- 0 where it files
 abbrev pub filing_number : Filing → ℕ
-filing_number (Ok used) = 0
-filing_number (Err failure) = number failure.refusal
+filing_number = number_by failure_number
 
 -- the used count after it; 0 where it is refused
 abbrev pub filing_used : Filing → ℕ
@@ -119,8 +120,7 @@ Checking = Result Bool Failure
 
 -- 0 where it says yes or no
 abbrev pub checking_number : Checking → ℕ
-checking_number (Ok agrees) = 0
-checking_number (Err failure) = number failure.refusal
+checking_number = number_by failure_number
 
 -- it says yes
 abbrev pub checking_agrees : Checking → Bool
@@ -140,8 +140,7 @@ Target = Result (Option Float) Refusal
 
 -- 0 where there is a target or no loop
 abbrev pub target_number : Target → ℕ
-target_number (Ok target) = 0
-target_number (Err refusal) = number refusal
+target_number = number_by number
 
 -- NaN where there is none
 abbrev pub target_value : Target → Float

@@ -3,6 +3,7 @@ ghost use Rattle.std.specs.Prelude.{◌≡◌};
 ghost use Rattle.solver.specs.Answers.{branch_number, ending_number};
 
 use crate::refusal::Failure;
+use prices::refusal::Numbered;
 
 // The loop that found a volatility, or none: 2 and 3 lie below and above the middle, 5 is what branch 4
 // leaves of the upper tail.
@@ -16,10 +17,10 @@ pub enum Branch {
     UpperRest = 5,
 }
 
-impl Branch {
-    pub fn number(self) -> u8
-        ensures { result ≡ branch_number self }
-    {
+impl Numbered for Branch {
+    ghost number = { branch_number };
+
+    fn number(self) -> u8 {
         self as u8
     }
 }
@@ -32,10 +33,10 @@ pub enum Ending {
     Limit = 2,
 }
 
-impl Ending {
-    pub fn number(self) -> u8
-        ensures { result ≡ ending_number self }
-    {
+impl Numbered for Ending {
+    ghost number = { ending_number };
+
+    fn number(self) -> u8 {
         self as u8
     }
 }

@@ -12,6 +12,7 @@ use crate::solve::{check_input, solve, steps_of};
 use elementary::methods::bits_of;
 use elementary::rule_set::RuleSet;
 use prices::inputs::OptionType;
+use prices::refusal::Numbered;
 
 // A record's bytes in the book.
 const RECORD_BYTES: usize = 64;

@@ -8,6 +8,7 @@ use crate::book::solve_record;
 use crate::refusal::{Failure, Refusal};
 use elementary::methods::bits_of;
 use elementary::rule_set::RuleSet;
+use prices::refusal::Numbered;
 
 // The bytes that any line fits in.
 const LINE_BYTES: usize = 128;

@@ -1,9 +1,10 @@
 // What this layer refuses, by document 01's numbers and document 02's, and with the completed steps.
 ghost use Rattle.std.specs.Prelude.{◌≡◌};
-ghost use Rattle.solver.specs.Answers.{number};
+ghost use Rattle.solver.specs.Answers.{number as number_of_refusal};
 ghost use Rattle.solver.specs.declared.refusal.Refusal.TheVariants.{Pricing, OutsideTheLayout};
 
 use prices::inputs::UnknownKind;
+use prices::refusal::Numbered;
 
 #[derive(Clone, Copy, Debug, PartialEq, Eq)]
 pub enum Refusal {
@@ -18,10 +19,10 @@ pub enum Refusal {
     LowAboveHigh,
 }
 
-impl Refusal {
-    pub fn number(self) -> u8
-        ensures { result ≡ number self }
-    {
+impl Numbered for Refusal {
+    ghost number = { number_of_refusal };
+
+    fn number(self) -> u8 {
         match self {
             Refusal::Price => 1,
             Refusal::Pricing(refusal) => refusal.number(),

@@ -4,16 +4,16 @@ ghost use Rattle.std.specs.Prelude.{◌≡◌};
 ghost use Rattle.std.specs.Float.{binary64};
 ghost use Rattle.std.specs.Float.Ieee.{to_bits, of_bits};
 ghost use Rattle.elementary.specs.RuleSets.{rule_set_0};
-ghost use Rattle.prices.specs.Answers.{number_of, value_of};
+ghost use Rattle.prices.specs.Answers.{number_by, number_of, value_of};
 ghost use Rattle.prices.specs.Black.{small_t_of, asymptotic_of, using_erfcx_of, codys_of, call_of, normalised_black_of};
+ghost use Rattle.solver.specs.Answers.{number as number_of_refusal};
 ghost use Rattle.abi.specs.Bytes.{of_kind};
 
 use crate::export::export_answer;
 use elementary::methods::{bits_of, float_of};
-use prices::answer::Answer;
-use solver::book::kind_of;
-use solver::numbers;
-use solver::quote::Kind;
+use elementary::rule_set::RULE_SET_0;
+use prices::inputs::OptionType;
+use solver::refusal::Refusal;
 
 #[unsafe(no_mangle)]
 pub extern "C" fn gintubalos_probe_normalised_black_call_with_optimal_use_of_codys_functions(
@@ -24,6 +24,7 @@ pub extern "C" fn gintubalos_probe_normalised_black_call_with_optimal_use_of_cod
 {
     bits_of(
         prices::black::normalised_black_call_with_optimal_use_of_codys_functions(
+            RULE_SET_0,
             float_of(x),
             float_of(s),
         ),
@@ -75,18 +76,17 @@ pub extern "C" fn gintubalos_probe_normalised_black_call(x: u64, s: u64, number:
     ensures number_after { number.new ≡ number_of (call_of rule_set_0 (of_bits binary64 x) (of_bits binary64 s)) }
 {
     export_answer(
-        prices::black::normalised_black_call(float_of(x), float_of(s)),
+        prices::black::normalised_black_call(RULE_SET_0, float_of(x), float_of(s)),
         number,
     )
 }
 
-fn normalised_black(x: f64, s: f64, kind: u8) -> Answer
+fn normalised_black(x: f64, s: f64, kind: u8) -> Result<f64, Refusal>
     ensures { result ≡ of_kind kind (normalised_black_of rule_set_0 x s) }
 {
-    match kind_of(kind) {
-        Kind::Known(option_type) => prices::black::normalised_black(x, s, option_type),
-        Kind::Unknown => Answer::Refused(numbers::OUTSIDE_THE_LAYOUT),
-    }
+    let option_type = OptionType::try_from(kind)?;
+    let price = prices::black::normalised_black(RULE_SET_0, x, s, option_type)?;
+    Ok(price)
 }
 
 #[unsafe(no_mangle)]
@@ -97,7 +97,7 @@ pub extern "C" fn gintubalos_probe_normalised_black(
     number: &mut u8,
 ) -> u64
     ensures value { result ≡ to_bits binary64 (value_of (of_kind kind (normalised_black_of rule_set_0 (of_bits binary64 x) (of_bits binary64 s)))) }
-    ensures number_after { number.new ≡ number_of (of_kind kind (normalised_black_of rule_set_0 (of_bits binary64 x) (of_bits binary64 s))) }
+    ensures number_after { number.new ≡ number_by number_of_refusal (of_kind kind (normalised_black_of rule_set_0 (of_bits binary64 x) (of_bits binary64 s))) }
 {
     export_answer(normalised_black(float_of(x), float_of(s), kind), number)
 }

@@ -14,10 +14,7 @@ use prices::rational_cubic::Side;
 fn side_of(side: u8) -> Side
     ensures { result ≡ side_of side }
 {
-    if side == 0 {
-        return Side::Left;
-    }
-    Side::Right
+    if side == 0 { Side::Left } else { Side::Right }
 }
 
 fn choice_of(choice: u8) -> bool

@@ -9,20 +9,15 @@ ghost use Rattle.abi.specs.Solutions.{outcome_of, asked_range_by, solve_range_wi
 use crate::product::solve::export_solution;
 use elementary::methods::float_of;
 use elementary::rule_set::RULE_SET_0;
-use solver::answers::RangeSolution;
+use prices::inputs::{OptionType, UnknownKind};
+use prices::refusal::Numbered;
+use solver::answers::Ends;
 use solver::bid_ask::{high_end, low_end, solve_range, solve_range_with_trails};
-use solver::book::kind_of;
-use solver::numbers;
-use solver::quote::{Kind, QuoteRange};
+use solver::quote::QuoteRange;
+use solver::refusal::Refusal;
 use solver::solve::steps_of;
 
 // What a caller asks: a range, or none where the byte says no kind.
-#[derive(Clone, Copy)]
-pub(crate) enum AskedRange {
-    ARange(QuoteRange),
-    NoKind,
-}
-
 fn asked_range_by(
     low: u64,
     high: u64,
@@ -30,36 +25,34 @@ fn asked_range_by(
     strike: u64,
     expiry: u64,
     kind: u8,
-) -> AskedRange
+) -> Result<QuoteRange, UnknownKind>
     ensures { result ≡ asked_range_by low high forward strike expiry kind }
 {
-    match kind_of(kind) {
-        Kind::Known(option_type) => AskedRange::ARange(QuoteRange {
-            low: float_of(low),
-            high: float_of(high),
-            forward: float_of(forward),
-            strike: float_of(strike),
-            expiry: float_of(expiry),
-            option_type,
-        }),
-        Kind::Unknown => AskedRange::NoKind,
-    }
+    let option_type = OptionType::try_from(kind)?;
+    Ok(QuoteRange {
+        low: float_of(low),
+        high: float_of(high),
+        forward: float_of(forward),
+        strike: float_of(strike),
+        expiry: float_of(expiry),
+        option_type,
+    })
 }
 
 // ---- what crosses
 
-fn number_of(answer: RangeSolution) -> u8
+fn number_of(answer: Result<Ends, Refusal>) -> u8
     ensures { result ≡ range_number_in answer }
 {
     match answer {
-        RangeSolution::Ends(_, _) => 0,
-        RangeSolution::Refused(n) => n,
+        Ok(_) => 0,
+        Err(refusal) => refusal.number(),
     }
 }
 
 // Both ends, as the words of two solves.
 fn export_range(
-    answer: RangeSolution,
+    answer: Result<Ends, Refusal>,
     low_volatility: &mut u64,
     low_outcome: &mut u64,
     high_volatility: &mut u64,
@@ -79,21 +72,16 @@ fn export_range(
 // ---- with trails
 
 fn solve_range_with_trails_for(
-    asked: AskedRange,
+    asked: Result<QuoteRange, UnknownKind>,
     limit: i32,
     low_trail: &mut [u8],
     high_trail: &mut [u8],
-) -> RangeSolution
+) -> Result<Ends, Refusal>
     ensures value { result ≡ (solve_range_with_trails_for asked limit low_trail.old high_trail.old).answer }
     ensures low_trail_after { low_trail.new ≡ (solve_range_with_trails_for asked limit low_trail.old high_trail.old).low }
     ensures high_trail_after { high_trail.new ≡ (solve_range_with_trails_for asked limit low_trail.old high_trail.old).high }
 {
-    match asked {
-        AskedRange::ARange(range) => {
-            solve_range_with_trails(RULE_SET_0, range, steps_of(limit), low_trail, high_trail)
-        }
-        AskedRange::NoKind => RangeSolution::Refused(numbers::OUTSIDE_THE_LAYOUT),
-    }
+    solve_range_with_trails(RULE_SET_0, asked?, steps_of(limit), low_trail, high_trail)
 }
 
 // 24 for a kind, 1, 31, 2, 3, 4 or 21; then both trails stay.
@@ -134,13 +122,10 @@ pub extern "C" fn gintubalos_bid_ask(
 
 // ---- without trails
 
-fn solve_range_for(asked: AskedRange, limit: i32) -> RangeSolution
+fn solve_range_for(asked: Result<QuoteRange, UnknownKind>, limit: i32) -> Result<Ends, Refusal>
     ensures { result ≡ solve_range_for asked limit }
 {
-    match asked {
-        AskedRange::ARange(range) => solve_range(RULE_SET_0, range, steps_of(limit)),
-        AskedRange::NoKind => RangeSolution::Refused(numbers::OUTSIDE_THE_LAYOUT),
-    }
+    solve_range(RULE_SET_0, asked?, steps_of(limit))
 }
 
 #[unsafe(no_mangle)]

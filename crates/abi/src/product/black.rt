@@ -4,26 +4,23 @@ ghost use Rattle.std.specs.Prelude.{◌≡◌};
 ghost use Rattle.std.specs.Float.{binary64};
 ghost use Rattle.std.specs.Float.Ieee.{to_bits, of_bits};
 ghost use Rattle.elementary.specs.RuleSets.{rule_set_0};
-ghost use Rattle.prices.specs.Answers.{number_of, value_of};
+ghost use Rattle.prices.specs.Answers.{number_by, value_of};
+ghost use Rattle.solver.specs.Answers.{number as number_of_refusal};
 ghost use Rattle.prices.specs.Black.{black_of};
 ghost use Rattle.abi.specs.Bytes.{of_kind};
 
 use crate::export::export_answer;
 use elementary::methods::float_of;
-use prices::answer::Answer;
-use solver::book::kind_of;
-use solver::numbers;
-use solver::quote::Kind;
+use elementary::rule_set::RULE_SET_0;
+use prices::inputs::OptionType;
+use solver::refusal::Refusal;
 
-fn black(forward: f64, strike: f64, sigma: f64, expiry: f64, kind: u8) -> Answer
+fn black(forward: f64, strike: f64, sigma: f64, expiry: f64, kind: u8) -> Result<f64, Refusal>
     ensures { result ≡ of_kind kind (black_of rule_set_0 forward strike sigma expiry) }
 {
-    match kind_of(kind) {
-        Kind::Known(option_type) => {
-            prices::black::black(forward, strike, sigma, expiry, option_type)
-        }
-        Kind::Unknown => Answer::Refused(numbers::OUTSIDE_THE_LAYOUT),
-    }
+    let option_type = OptionType::try_from(kind)?;
+    let price = prices::black::black(RULE_SET_0, forward, strike, sigma, expiry, option_type)?;
+    Ok(price)
 }
 
 // Refused with 2, 3, 5 or 4 for an input that has no price, with 7 at the asymptotic region's edge.
@@ -37,7 +34,7 @@ pub extern "C" fn gintubalos_black(
     number: &mut u8,
 ) -> u64
     ensures value { result ≡ to_bits binary64 (value_of (of_kind kind (black_of rule_set_0 (of_bits binary64 forward) (of_bits binary64 strike) (of_bits binary64 sigma) (of_bits binary64 expiry)))) }
-    ensures number_after { number.new ≡ number_of (of_kind kind (black_of rule_set_0 (of_bits binary64 forward) (of_bits binary64 strike) (of_bits binary64 sigma) (of_bits binary64 expiry))) }
+    ensures number_after { number.new ≡ number_by number_of_refusal (of_kind kind (black_of rule_set_0 (of_bits binary64 forward) (of_bits binary64 strike) (of_bits binary64 sigma) (of_bits binary64 expiry))) }
 {
     export_answer(
         black(

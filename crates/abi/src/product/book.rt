@@ -2,42 +2,48 @@
 // are u64; number and steps of a refusal go to `outcome`.
 ghost use Rattle.std.specs.Prelude.{◌≡◌};
 ghost use Rattle.elementary.specs.RuleSets.{rule_set_0};
-ghost use Rattle.solver.specs.Answers.{filing_used};
+ghost use Rattle.prices.specs.Answers.{number_by};
+ghost use Rattle.solver.specs.Answers.{number as number_of_refusal, filing_used};
 ghost use Rattle.solver.specs.Book.{recheck_of, read_of};
 ghost use Rattle.solver.specs.Listing.{line_in};
 ghost use Rattle.abi.specs.Solutions.{filing_outcome, checking_outcome, agrees_byte, asked_by, file_for, place_of};
 
-use crate::product::solve::{Asked, asked_by, outcome_from};
+use crate::product::solve::{asked_by, outcome_of_failure};
 use elementary::rule_set::RULE_SET_0;
-use solver::answers::{Checking, Filing};
-use solver::book::file_quote;
-use solver::numbers;
+use prices::inputs::UnknownKind;
+use prices::refusal::Numbered;
+use solver::book::{file, read, recheck};
+use solver::listing::line;
+use solver::quote::Quote;
+use solver::refusal::Failure;
 
 // The used count after it, 0 where it is refused.
-fn export_filing(answer: Filing, outcome: &mut u64) -> u64
+fn export_filing(answer: Result<u64, Failure>, outcome: &mut u64) -> u64
     ensures value { result ≡ filing_used answer }
     ensures outcome_after { outcome.new ≡ filing_outcome answer }
 {
     match answer {
-        Filing::Filed(used) => {
+        Ok(used) => {
             *outcome = 0;
             used
         }
-        Filing::Refused(n, steps) => {
-            *outcome = outcome_from(n, 0, 0, steps);
+        Err(failure) => {
+            *outcome = outcome_of_failure(failure);
             0
         }
     }
 }
 
-fn file_for(asked: Asked, limit: i32, book: &mut [u8], used: u64) -> Filing
+fn file_for(
+    asked: Result<Quote, UnknownKind>,
+    limit: i32,
+    book: &mut [u8],
+    used: u64,
+) -> Result<u64, Failure>
     ensures value { result ≡ (file_for asked limit book.old used).answer }
     ensures book_after { book.new ≡ (file_for asked limit book.old used).book }
 {
-    match asked {
-        Asked::AQuote(quote) => file_quote(RULE_SET_0, quote, limit, book, used),
-        Asked::NoKind => Filing::Refused(numbers::OUTSIDE_THE_LAYOUT, 0),
-    }
+    file(RULE_SET_0, asked?, limit, book, used)
 }
 
 #[unsafe(no_mangle)]
@@ -61,21 +67,17 @@ pub extern "C" fn gintubalos_file(
 }
 
 // 1 where it agrees; 0 where it differs or is refused.
-fn export_checking(answer: Checking, outcome: &mut u64) -> u8
+fn export_checking(answer: Result<bool, Failure>, outcome: &mut u64) -> u8
     ensures value { result ≡ agrees_byte answer }
     ensures outcome_after { outcome.new ≡ checking_outcome answer }
 {
     match answer {
-        Checking::Agrees => {
+        Ok(agrees) => {
             *outcome = 0;
-            1
+            agrees as u8
         }
-        Checking::Differs => {
-            *outcome = 0;
-            0
-        }
-        Checking::Refused(n, steps) => {
-            *outcome = outcome_from(n, 0, 0, steps);
+        Err(failure) => {
+            *outcome = outcome_of_failure(failure);
             0
         }
     }
@@ -86,17 +88,25 @@ pub extern "C" fn gintubalos_recheck(book: &[u8], used: u64, k: u64, outcome: &m
     ensures value { result ≡ agrees_byte (recheck_of rule_set_0 book.now used k) }
     ensures outcome_after { outcome.new ≡ checking_outcome (recheck_of rule_set_0 book.now used k) }
 {
-    export_checking(solver::book::recheck(book, used, k), outcome)
+    export_checking(recheck(RULE_SET_0, book, used, k), outcome)
 }
 
 // The byte at which record k's own part begins, and 0 in `number`; or 0, and 23 there.
 #[unsafe(no_mangle)]
 pub extern "C" fn gintubalos_read(book: &[u8], used: u64, k: u64, number: &mut u8) -> u64
     ensures value { result ≡ place_of (read_of book.now used k) k }
-    ensures number_after { number.new ≡ (read_of book.now used k).number }
+    ensures number_after { number.new ≡ number_by number_of_refusal (read_of book.now used k) }
 {
-    solver::book::read(book, used, k, number);
-    if *number == 0 { k * 64 } else { 0 }
+    match read(book, used, k) {
+        Ok(_) => {
+            *number = 0;
+            k * 64
+        }
+        Err(refusal) => {
+            *number = refusal.number();
+            0
+        }
+    }
 }
 
 // Writes the line of record `index` to the start of `out`; its length.
@@ -105,5 +115,5 @@ pub extern "C" fn gintubalos_line(index: u64, bytes: &[u8], out: &mut [u8]) -> u
     ensures value { result ≡ (line_in rule_set_0 index bytes.now out.old).count }
     ensures out_after { out.new ≡ (line_in rule_set_0 index bytes.now out.old).bytes }
 {
-    solver::listing::line(index, bytes, out)
+    line(RULE_SET_0, index, bytes, out)
 }

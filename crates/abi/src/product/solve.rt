@@ -3,73 +3,80 @@
 ghost use Rattle.std.specs.Prelude.{◌≡◌, length};
 ghost use Rattle.std.specs.Float.{binary64};
 ghost use Rattle.std.specs.Float.Ieee.{to_bits};
-ghost use Rattle.solver.specs.Answers.{volatility_in, target_number, target_value};
+ghost use Rattle.solver.specs.Answers.{failure_number, volatility_in, target_number, target_value};
 ghost use Rattle.solver.specs.Solve.{steps_of};
 ghost use Rattle.solver.specs.Trail.{trail_after};
 ghost use Rattle.abi.specs.Solutions.{outcome_from, outcome_of, asked_by, solve_with_trail_for, solve_for, target_for};
 
 use elementary::methods::{bits_of, float_of};
 use elementary::rule_set::RULE_SET_0;
-use solver::answers::{Solution, Target};
-use solver::book::kind_of;
-use solver::numbers;
-use solver::quote::{Kind, Quote};
-use solver::solve::{loop_target, solve_quote, solve_quote_with_trail, steps_of};
+use prices::inputs::{OptionType, UnknownKind};
+use prices::refusal::Numbered;
+use solver::answers::ImpliedVolatility;
+use solver::quote::Quote;
+use solver::refusal::{Failure, Refusal};
+use solver::solve::{loop_target, solve, solve_with_trail, steps_of};
 
 // Number, branch, ending and steps in one word.
-pub(crate) fn outcome_from(number: u8, branch: u8, ending: u8, steps: u32) -> u64
+fn outcome_from(number: u8, branch: u8, ending: u8, steps: u32) -> u64
     ensures { result ≡ outcome_from number branch ending steps }
 {
     number as u64 + branch as u64 * 256 + ending as u64 * 65536 + steps as u64 * 4294967296
 }
 
+// The same of a refusal, which has no branch and no ending.
+pub(crate) fn outcome_of_failure(failure: Failure) -> u64
+    ensures { result ≡ outcome_from (failure_number failure) 0 0 failure.steps }
+{
+    outcome_from(failure.refusal.number(), 0, 0, failure.steps)
+}
+
 // The volatility's bits, a NaN's where it is refused.
-pub(crate) fn export_solution(answer: Solution, outcome: &mut u64) -> u64
+pub(crate) fn export_solution(answer: Result<ImpliedVolatility, Failure>, outcome: &mut u64) -> u64
     ensures value { result ≡ to_bits binary64 (volatility_in answer) }
     ensures outcome_after { outcome.new ≡ outcome_of answer }
 {
     match answer {
-        Solution::Solved(a) => {
-            *outcome = outcome_from(0, a.branch, a.ending, a.steps);
+        Ok(a) => {
+            *outcome = outcome_from(0, a.branch.number(), a.ending.number(), a.steps);
             bits_of(a.volatility)
         }
-        Solution::Refused(n, steps) => {
-            *outcome = outcome_from(n, 0, 0, steps);
-            bits_of(0.0 / 0.0)
+        Err(failure) => {
+            *outcome = outcome_of_failure(failure);
+            bits_of(f64::NAN)
         }
     }
 }
 
 // What a caller asks: a quote, or none where the byte says no kind.
-#[derive(Clone, Copy)]
-pub(crate) enum Asked {
-    AQuote(Quote),
-    NoKind,
-}
-
-pub(crate) fn asked_by(price: u64, forward: u64, strike: u64, expiry: u64, kind: u8) -> Asked
+pub(crate) fn asked_by(
+    price: u64,
+    forward: u64,
+    strike: u64,
+    expiry: u64,
+    kind: u8,
+) -> Result<Quote, UnknownKind>
     ensures { result ≡ asked_by price forward strike expiry kind }
 {
-    match kind_of(kind) {
-        Kind::Known(option_type) => Asked::AQuote(Quote {
-            price: float_of(price),
-            forward: float_of(forward),
-            strike: float_of(strike),
-            expiry: float_of(expiry),
-            option_type,
-        }),
-        Kind::Unknown => Asked::NoKind,
-    }
+    let option_type = OptionType::try_from(kind)?;
+    Ok(Quote {
+        price: float_of(price),
+        forward: float_of(forward),
+        strike: float_of(strike),
+        expiry: float_of(expiry),
+        option_type,
+    })
 }
 
-fn solve_with_trail_for(asked: Asked, limit: i32, trail: &mut [u8]) -> Solution
+fn solve_with_trail_for(
+    asked: Result<Quote, UnknownKind>,
+    limit: i32,
+    trail: &mut [u8],
+) -> Result<ImpliedVolatility, Failure>
     ensures value { result ≡ (solve_with_trail_for asked limit (length trail.old)).answer }
     ensures trail_after { trail.new ≡ trail_after (solve_with_trail_for asked limit (length trail.old)).records trail.old }
 {
-    match asked {
-        Asked::AQuote(quote) => solve_quote_with_trail(RULE_SET_0, quote, steps_of(limit), trail),
-        Asked::NoKind => Solution::Refused(numbers::OUTSIDE_THE_LAYOUT, 0),
-    }
+    solve_with_trail(RULE_SET_0, asked?, steps_of(limit), trail)
 }
 
 #[unsafe(no_mangle)]
@@ -91,13 +98,10 @@ pub extern "C" fn gintubalos_implied_volatility_from_a_transformed_rational_gues
     export_solution(solve_with_trail_for(asked, limit, trail), outcome)
 }
 
-fn solve_for(asked: Asked, steps: u32) -> Solution
+fn solve_for(asked: Result<Quote, UnknownKind>, steps: u32) -> Result<ImpliedVolatility, Failure>
     ensures { result ≡ solve_for asked steps }
 {
-    match asked {
-        Asked::AQuote(quote) => solve_quote(RULE_SET_0, quote, steps),
-        Asked::NoKind => Solution::Refused(numbers::OUTSIDE_THE_LAYOUT, 0),
-    }
+    solve(RULE_SET_0, asked?, steps)
 }
 
 #[unsafe(no_mangle)]
@@ -134,33 +138,26 @@ pub extern "C" fn gintubalos_implied_volatility_from_a_transformed_rational_gues
 }
 
 // The target's bits, a NaN's where there is none; document 01's number, 0 for none, goes to `number`.
-fn export_target(answer: Target, number: &mut u8) -> u64
+fn export_target(answer: Result<Option<f64>, Refusal>, number: &mut u8) -> u64
     ensures value { result ≡ to_bits binary64 (target_value answer) }
     ensures number_after { number.new ≡ target_number answer }
 {
     match answer {
-        Target::Sought(beta) => {
+        Ok(target) => {
             *number = 0;
-            bits_of(beta)
+            bits_of(target.unwrap_or(f64::NAN))
         }
-        Target::NoLoop => {
-            *number = 0;
-            bits_of(0.0 / 0.0)
-        }
-        Target::Refused(n) => {
-            *number = n;
-            bits_of(0.0 / 0.0)
+        Err(refusal) => {
+            *number = refusal.number();
+            bits_of(f64::NAN)
         }
     }
 }
 
-fn target_for(asked: Asked) -> Target
+fn target_for(asked: Result<Quote, UnknownKind>) -> Result<Option<f64>, Refusal>
     ensures { result ≡ target_for asked }
 {
-    match asked {
-        Asked::AQuote(quote) => loop_target(RULE_SET_0, quote),
-        Asked::NoKind => Target::Refused(numbers::OUTSIDE_THE_LAYOUT),
-    }
+    loop_target(RULE_SET_0, asked?)
 }
 
 // What the loop seeks: NaN and 0 where the answer comes without one.
