@@ -9,6 +9,7 @@ ghost use Rattle.solver.specs.Listing.{line_of};
 ghost use Rattle.relist.specs.Lines.{lines_of, step_of};
 ghost use Rattle.relist.specs.Inside.Steps.{After, End};
 
+use elementary::rule_set::RULE_SET_0;
 use solver::listing::line;
 use std::io;
 use std::io::{Read, Stderr, Stdin, Stdout, Write};
@@ -187,5 +188,5 @@ fn line_at(index: u64, bytes: &[u8], lines: &mut [u8], at: usize) -> usize
     ensures value { result ≡ length (line_of rule_set_0 index bytes.now) }
     ensures lines_after { lines.new ≡ overwritten at (line_of rule_set_0 index bytes.now) lines.old }
 {
-    line(index, bytes, &mut lines[at..])
+    line(RULE_SET_0, index, bytes, &mut lines[at..])
 }

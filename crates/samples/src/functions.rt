@@ -1,14 +1,14 @@
 // The functions that the list names, by number. The numbers are those of `differential --samples`.
 use crate::list::Line;
 use crate::records;
-use crate::records::{Word, kind_in};
+use crate::records::{Word, option_type_in};
 use elementary::methods::{bits_of, float_of};
+use elementary::rule_set::RULE_SET_0;
 use elementary::{cody, normal_distribution};
-use prices::answer::Answer;
 use prices::rational_cubic::Side;
+use prices::refusal::Numbered;
 use prices::{black, intrinsic, rational_cubic, vega};
-use solver::numbers::OUTSIDE_THE_LAYOUT;
-use solver::quote::Kind;
+use solver::refusal::Refusal;
 use std::io;
 use std::io::Stdout;
 
@@ -104,62 +104,51 @@ fn apart(a: u64, b: u64) -> u64 {
 // ---- prices
 
 // Whether an answer has these bits, or is refused with this number.
-fn says(answer: Answer, bits: u64, number: u64) -> bool {
+fn says(answer: Result<f64, Refusal>, bits: u64, number: u64) -> bool {
     match answer {
-        Answer::Value(v) => {
-            if number == 0 {
-                bits_of(v) == bits
-            } else {
-                false
-            }
-        }
-        Answer::Refused(n) => n as u64 == number,
+        Ok(v) => number == 0 && bits_of(v) == bits,
+        Err(refusal) => refusal.number() as u64 == number,
     }
 }
 
-fn price(line: Line) -> Answer {
+fn price(line: Line) -> Result<f64, Refusal> {
     let function = line.function;
     let x = float_of(line.a);
     let s = float_of(line.b);
-    match function {
-        24 => price_of_kind(line, line.b),
-        25 => Answer::Value(vega::normalised_vega(x, s)),
-        26 => Answer::Value(black::normalised_black_call_with_optimal_use_of_codys_functions(x, s)),
-        27 => Answer::Value(black::normalised_black_call_using_erfcx(x, s)),
+    let answer = match function {
+        24 => return price_of_kind(line, line.b),
+        25 => Ok(vega::normalised_vega(x, s)),
+        26 => Ok(
+            black::normalised_black_call_with_optimal_use_of_codys_functions(RULE_SET_0, x, s),
+        ),
+        27 => Ok(black::normalised_black_call_using_erfcx(x, s)),
         28 => black::small_t_expansion_of_normalised_black_call(x, s),
         29 => black::asymptotic_expansion_of_normalised_black_call(x, s),
-        30 => black::normalised_black_call(x, s),
-        31 => price_of_kind(line, line.c),
-        32 => price_of_kind(line, line.e),
-        _ => cubic(function, line),
-    }
+        30 => black::normalised_black_call(RULE_SET_0, x, s),
+        31 => return price_of_kind(line, line.c),
+        32 => return price_of_kind(line, line.e),
+        33 => interpolation(line),
+        34 => Ok(minimum_parameter(line)),
+        35 => Ok(control_parameter(line)),
+        _ => Ok(convex_parameter(line)),
+    };
+    Ok(answer?)
 }
 
 // A kind is document 01's byte; its number for any other is 24.
-fn price_of_kind(line: Line, word: u64) -> Answer {
-    let Kind::Known(kind) = kind_in(word) else {
-        return Answer::Refused(OUTSIDE_THE_LAYOUT);
-    };
-    let function = line.function;
+fn price_of_kind(line: Line, word: u64) -> Result<f64, Refusal> {
+    let kind = option_type_in(word)?;
     let a = float_of(line.a);
     let b = float_of(line.b);
-    match function {
-        24 => Answer::Value(intrinsic::normalised_intrinsic(a, kind)),
-        31 => black::normalised_black(a, b, kind),
-        _ => black::black(a, b, float_of(line.c), float_of(line.d), kind),
-    }
+    let answer = match line.function {
+        24 => Ok(intrinsic::normalised_intrinsic(a, kind)),
+        31 => black::normalised_black(RULE_SET_0, a, b, kind),
+        _ => black::black(RULE_SET_0, a, b, float_of(line.c), float_of(line.d), kind),
+    };
+    Ok(answer?)
 }
 
-fn cubic(function: u64, line: Line) -> Answer {
-    match function {
-        33 => interpolation(line),
-        34 => Answer::Value(minimum_parameter(line)),
-        35 => Answer::Value(control_parameter(line)),
-        _ => Answer::Value(convex_parameter(line)),
-    }
-}
-
-fn interpolation(line: Line) -> Answer {
+fn interpolation(line: Line) -> Result<f64, prices::refusal::Refusal> {
     rational_cubic::rational_cubic_interpolation(
         float_of(line.a),
         float_of(line.b),

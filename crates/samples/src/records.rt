@@ -2,13 +2,15 @@
 // list.
 use crate::list::Line;
 use elementary::methods::{bits_of, float_of};
-use solver::answers::{Checking, Filing, RangeSolution, Solution};
-use solver::bid_ask::{high_end, low_end};
-use solver::book::kind_of;
+use elementary::rule_set::RULE_SET_0;
+use prices::inputs::{OptionType, UnknownKind};
+use prices::refusal::Numbered;
+use solver::answers::{Ends, ImpliedVolatility};
+use solver::bid_ask::{high_end, low_end, solve_range_with_trails};
 use solver::little_endian::{number_at, put_number_at};
-use solver::numbers::OUTSIDE_THE_LAYOUT;
-use solver::quote::Kind;
-use solver::solve::implied_volatility_from_a_transformed_rational_guess_with_limited_iterations;
+use solver::quote::{Quote, QuoteRange};
+use solver::refusal::{Failure, Refusal};
+use solver::solve::{solve_with_trail, steps_of};
 
 // A word, and document 01's number, 0 for none.
 #[derive(Clone, Copy)]
@@ -35,11 +37,11 @@ fn limit_of(word: u64) -> i32 {
 }
 
 // The kind that a word says; none where it is no byte.
-pub fn kind_in(word: u64) -> Kind {
+pub fn option_type_in(word: u64) -> Result<OptionType, UnknownKind> {
     if word < 256 {
-        kind_of(word as u8)
+        OptionType::try_from(word as u8)
     } else {
-        Kind::Unknown
+        Err(UnknownKind)
     }
 }
 
@@ -51,41 +53,46 @@ fn outcome(branch: u8, ending: u8, steps: u32) -> u64 {
 }
 
 // The word that the line asks for: 0 the volatility, 1 the outcome, else one of the trail.
-fn word_of(answer: Solution, which: u64, trail: &[u8]) -> Word {
+fn word_of(answer: Result<ImpliedVolatility, Failure>, which: u64, trail: &[u8]) -> Word {
     match answer {
-        Solution::Solved(a) => {
+        Ok(a) => {
             let bits = match which {
                 0 => bits_of(a.volatility),
-                1 => outcome(a.branch, a.ending, a.steps),
+                1 => outcome(a.branch.number(), a.ending.number(), a.steps),
                 _ => nth_word(trail, which - 2),
             };
             Word { bits, number: 0 }
         }
-        Solution::Refused(n, steps) => {
+        Err(failure) => {
             let bits = match which {
                 0 => 0,
-                1 => outcome(0, 0, steps),
+                1 => outcome(0, 0, failure.steps),
                 _ => nth_word(trail, which - 2),
             };
             Word {
                 bits,
-                number: n as u64,
+                number: failure.refusal.number() as u64,
             }
         }
     }
 }
 
-fn solve_line(line: Line, trail: &mut [u8]) -> Solution {
-    let Kind::Known(option_type) = kind_in(line.e) else {
-        return Solution::Refused(OUTSIDE_THE_LAYOUT, 0);
-    };
-    implied_volatility_from_a_transformed_rational_guess_with_limited_iterations(
-        float_of(line.a),
-        float_of(line.b),
-        float_of(line.c),
-        float_of(line.d),
+fn quote_in(line: Line) -> Result<Quote, UnknownKind> {
+    let option_type = option_type_in(line.e)?;
+    Ok(Quote {
+        price: float_of(line.a),
+        forward: float_of(line.b),
+        strike: float_of(line.c),
+        expiry: float_of(line.d),
         option_type,
-        limit_of(line.f),
+    })
+}
+
+fn solve_line(line: Line, trail: &mut [u8]) -> Result<ImpliedVolatility, Failure> {
+    solve_with_trail(
+        RULE_SET_0,
+        quote_in(line)?,
+        steps_of(limit_of(line.f)),
         trail,
     )
 }
@@ -111,20 +118,8 @@ pub fn solve(line: Line) -> Word {
 
 // ---- the book
 
-fn file_line(line: Line, book: &mut [u8]) -> Filing {
-    let Kind::Known(option_type) = kind_in(line.e) else {
-        return Filing::Refused(OUTSIDE_THE_LAYOUT, 0);
-    };
-    solver::book::file(
-        float_of(line.a),
-        float_of(line.b),
-        float_of(line.c),
-        float_of(line.d),
-        option_type,
-        limit_of(line.f),
-        book,
-        line.g,
-    )
+fn file_line(line: Line, book: &mut [u8]) -> Result<u64, Failure> {
+    solver::book::file(RULE_SET_0, quote_in(line)?, limit_of(line.f), book, line.g)
 }
 
 // Price, forward, strike, expiry, kind, limit, the used count, and which word: 0 the count after it, else
@@ -138,15 +133,15 @@ pub fn file(line: Line) -> Word {
         bits = nth_word(&book, which - 1);
     }
     match answer {
-        Filing::Filed(used) => {
+        Ok(used) => {
             if which == 0 {
                 bits = used;
             }
             Word { bits, number: 0 }
         }
-        Filing::Refused(n, _) => Word {
+        Err(failure) => Word {
             bits,
-            number: n as u64,
+            number: failure.refusal.number() as u64,
         },
     }
 }
@@ -162,12 +157,14 @@ pub fn recheck(line: Line) -> Word {
     put_number_at(&mut book, 40, 8, line.f);
     put_number_at(&mut book, 48, 8, line.g);
     put_number_at(&mut book, 56, 8, line.h);
-    match solver::book::recheck(&book, 1, line.i) {
-        Checking::Agrees => Word { bits: 1, number: 0 },
-        Checking::Differs => Word { bits: 0, number: 0 },
-        Checking::Refused(n, _) => Word {
+    match solver::book::recheck(RULE_SET_0, &book, 1, line.i) {
+        Ok(agrees) => Word {
+            bits: agrees as u64,
+            number: 0,
+        },
+        Err(failure) => Word {
             bits: 0,
-            number: n as u64,
+            number: failure.refusal.number() as u64,
         },
     }
 }
@@ -180,56 +177,56 @@ pub fn read(line: Line) -> Word {
     put_number_at(&mut book, 64, 8, 2);
     put_number_at(&mut book, 128, 8, 3);
     put_number_at(&mut book, 192, 8, 4);
-    let mut number: u8 = 0;
-    let part = solver::book::read(&book, line.a, line.b, &mut number);
-    let bits = nth_word(part, line.c);
-    Word {
-        bits,
-        number: number as u64,
+    match solver::book::read(&book, line.a, line.b) {
+        Ok(part) => Word {
+            bits: nth_word(part, line.c),
+            number: 0,
+        },
+        Err(refusal) => Word {
+            bits: 0,
+            number: refusal.number() as u64,
+        },
     }
 }
 
 // ---- bid and ask
 
-fn bid_ask_line(line: Line, low_trail: &mut [u8], high_trail: &mut [u8]) -> RangeSolution {
-    let Kind::Known(option_type) = kind_in(line.f) else {
-        return RangeSolution::Refused(OUTSIDE_THE_LAYOUT);
-    };
-    solver::bid_ask::bid_ask(
-        float_of(line.a),
-        float_of(line.b),
-        float_of(line.c),
-        float_of(line.d),
-        float_of(line.e),
+fn range_in(line: Line) -> Result<QuoteRange, UnknownKind> {
+    let option_type = option_type_in(line.f)?;
+    Ok(QuoteRange {
+        low: float_of(line.a),
+        high: float_of(line.b),
+        forward: float_of(line.c),
+        strike: float_of(line.d),
+        expiry: float_of(line.e),
         option_type,
-        limit_of(line.g),
+    })
+}
+
+fn bid_ask_line(line: Line, low_trail: &mut [u8], high_trail: &mut [u8]) -> Result<Ends, Refusal> {
+    solve_range_with_trails(
+        RULE_SET_0,
+        range_in(line)?,
+        steps_of(limit_of(line.g)),
         low_trail,
         high_trail,
     )
 }
 
-// With the part of the high trail that the line says; no line asks for more than it has.
-fn bid_ask_in_high(line: Line, low_trail: &mut [u8], high_trail: &mut [u8]) -> RangeSolution {
-    let size = line.h / 65536;
-    if size <= 960 {
-        let n = size as usize;
-        if n <= high_trail.len() {
-            return bid_ask_line(line, low_trail, &mut high_trail[..n]);
-        }
+// With the parts of the trails that the line says; nothing where it asks for more than there is.
+fn bid_ask_in(
+    line: Line,
+    low_trail: &mut [u8],
+    high_trail: &mut [u8],
+) -> Option<Result<Ends, Refusal>> {
+    let low = (line.h % 65536) as usize;
+    let high = line.h / 65536;
+    if low <= low_trail.len() && high <= high_trail.len() as u64 {
+        let high = high as usize;
+        let answer = bid_ask_line(line, &mut low_trail[..low], &mut high_trail[..high]);
+        return Some(answer);
     }
-    RangeSolution::Refused(0)
-}
-
-// With the part of the low trail that the line says, too.
-fn bid_ask_in(line: Line, low_trail: &mut [u8], high_trail: &mut [u8]) -> RangeSolution {
-    let size = line.h % 65536;
-    if size <= 960 {
-        let n = size as usize;
-        if n <= low_trail.len() {
-            return bid_ask_in_high(line, &mut low_trail[..n], high_trail);
-        }
-    }
-    RangeSolution::Refused(0)
+    None
 }
 
 // Which words there are: 0 and 1 the low volatility and outcome, 2 and 3 the high ones; from 4 on the
@@ -252,7 +249,9 @@ fn word_of_end(which: u64) -> u64 {
 pub fn bid_ask(line: Line) -> Word {
     let mut low_trail = [165u8; 960];
     let mut high_trail = [90u8; 960];
-    let answer = bid_ask_in(line, &mut low_trail, &mut high_trail);
+    let Some(answer) = bid_ask_in(line, &mut low_trail, &mut high_trail) else {
+        return Word { bits: 0, number: 0 };
+    };
     let which = line.i;
     if is_of_high(which) {
         word_of(high_end(answer), word_of_end(which), &high_trail)
