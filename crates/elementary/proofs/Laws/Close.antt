@@ -20,9 +20,7 @@ use Rattle.elementary.specs.Floor.{floor_of}
 use Rattle.elementary.specs.Methods.{abs_of}
 use Rattle.elementary.specs.Cody.{THRESHOLD, XBIG, tilde_of}
 use Rattle.elementary.specs.NormalDistribution.{FRAC_1_SQRT_2}
-use Rattle.elementary.specs.declared.eight.Eight.{Eight}
-use Rattle.elementary.specs.Inside.Each.{Each, All}
-use Rattle.elementary.specs.Inside.Cdf.{sixteenths_of, argument_of, is_between, all_between, Close, Between}
+use Rattle.elementary.specs.Inside.Cdf.{sixteenths_of, argument_of, is_between, Close, Between}
 use Rattle.elementary.proofs.Laws.Bits.{abs_fits}
 use Rattle.elementary.proofs.Laws.Held.{holds}
 use Rattle.elementary.proofs.Laws.Order.{valued, finite_by, le→fractions}
@@ -35,19 +33,8 @@ use Rattle.elementary.proofs.Laws.Greatest.{floor_value, floor_fits}
 size_fits : (x : Float) {w y : Float} → w ≡ argument_of x → y ≡ abs_of w → T (fits binary64 y)
 size_fits x p q = rw (q, p) (abs_fits (argument_of x) (mul-fits binary64 (neg x) FRAC_1_SQRT_2))
 
-pub all_close : (k : ℕ) {x w y : Eight} {a b : Float} → Each argument_of x w → Each abs_of w y → a ≡ sixteenths_of k → b ≡ sixteenths_of (k + 1) → all_between a b y ≡ true → All (Close k) y
-all_close k {x} {w} {y} {a} {b} p s ea eb q =
-    let t : T (all_between a b y) = rw q tt in
-    record {
-      at0 = record { test = rw (← ea, ← eb) (is_true (is_between a b y.x0) (search (and_l, and_r) depth 9)); of_format = size_fits x.x0 p.at0 s.at0 };
-      at1 = record { test = rw (← ea, ← eb) (is_true (is_between a b y.x1) (search (and_l, and_r) depth 9)); of_format = size_fits x.x1 p.at1 s.at1 };
-      at2 = record { test = rw (← ea, ← eb) (is_true (is_between a b y.x2) (search (and_l, and_r) depth 9)); of_format = size_fits x.x2 p.at2 s.at2 };
-      at3 = record { test = rw (← ea, ← eb) (is_true (is_between a b y.x3) (search (and_l, and_r) depth 9)); of_format = size_fits x.x3 p.at3 s.at3 };
-      at4 = record { test = rw (← ea, ← eb) (is_true (is_between a b y.x4) (search (and_l, and_r) depth 9)); of_format = size_fits x.x4 p.at4 s.at4 };
-      at5 = record { test = rw (← ea, ← eb) (is_true (is_between a b y.x5) (search (and_l, and_r) depth 9)); of_format = size_fits x.x5 p.at5 s.at5 };
-      at6 = record { test = rw (← ea, ← eb) (is_true (is_between a b y.x6) (search (and_l, and_r) depth 9)); of_format = size_fits x.x6 p.at6 s.at6 };
-      at7 = record { test = rw (← ea, ← eb) (is_true (is_between a b y.x7) (search (and_l, and_r) depth 9)); of_format = size_fits x.x7 p.at7 s.at7 };
-    }
+pub close_of : (k : ℕ) (x : Float) {w y a b : Float} → w ≡ argument_of x → y ≡ abs_of w → a ≡ sixteenths_of k → b ≡ sixteenths_of (k + 1) → is_between a b y ≡ true → Close k y
+close_of k x p s ea eb t = record { test = rw (← ea, ← eb) t; of_format = size_fits x p s }
 
 -- ---- k / 16 is exact
 over_sixteen : (x : Float) (k : ℕ) → HasValue x false k 1 → x ⊘ sixteen ≡ round binary64 false k 16
