@@ -112,11 +112,8 @@ pub(crate) fn exp_of_negative_square(t: f64) -> f64
     ensures { result ≡ exp_of (negative_square t) }
 {
     let k = sixteenths(t);
-    let v = exp_of_negative_square_of_sixteenths(k);
-    if 0 < v {
-        if same(t, sixteenth(k)) {
-            return f64::from_bits(v);
-        }
+    if k < 96 && same(t, sixteenth(k)) {
+        return exp_of_negative_square_of_sixteenths(k);
     }
     exp(-t * t)
 }

@@ -248,25 +248,14 @@ fn point(i: u64) -> f64
     (i as f64) * 2.4375 - 39.0
 }
 
-fn cdf_at_point(set: RuleSet, i: u64) -> f64
-    requires { i < 33 }
-    ensures { result ≡ cdf_of set (point_of i) }
-{
-    let v = cdf_of_thirty_seconds(i);
-    if 0 < v {
-        f64::from_bits(v)
-    } else {
-        standard_normal_cdf_under(set, point(i))
-    }
-}
-
 // A step between the points i and i + 2 × half: where lo is then.
 fn first_step(set: RuleSet, p: f64, i: u64, half: u64) -> u64
-    requires { i + half < 33 }
+    requires from_one { 1 ≤ half }
+    requires to_31 { i + half < 32 }
     ensures value { result ≡ cond (lt (cdf_of set (point_of (i + half))) p) (i + half) i }
     ensures at_most { result ≤ i + half }
 {
-    if cdf_at_point(set, i + half) < p {
+    if cdf_of_thirty_seconds(i + half) < p {
         i + half
     } else {
         i
