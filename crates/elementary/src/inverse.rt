@@ -12,7 +12,7 @@ use crate::cody::{exp_of_negative_square, sixteenth, sixteenths};
 use crate::eight::Eight;
 use crate::ln::ln;
 use crate::methods::{abs, same};
-use crate::normal_distribution::{FRAC_1_SQRT_2, cdfs, standard_normal_cdf_under};
+use crate::normal_distribution::{FRAC_1_SQRT_2, cdfs, standard_normal_cdf};
 use crate::rule_set::RuleSet;
 use crate::sqrt::sqrt;
 use crate::tables::cdf_of_thirty_seconds;
@@ -166,7 +166,7 @@ fn cdf_at(set: RuleSet, mid: f64, x: f64, f: f64) -> f64
     if same(mid, x) {
         f
     } else {
-        standard_normal_cdf_under(set, mid)
+        standard_normal_cdf(set, mid)
     }
 }
 

@@ -3,33 +3,25 @@ ghost use Rattle.std.specs.Prelude.{◌≡◌, true, false, ◌<◌};
 ghost use Rattle.elementary.specs.Inside.Each.{Each};
 ghost use Rattle.elementary.specs.Inside.Cdf.{sixteenths_of, exp_of_negative_square, CloseCase, Between, half_erfc};
 ghost use Rattle.elementary.specs.Methods.{abs_of};
-ghost use Rattle.elementary.specs.RuleSets.{rule_set_0};
 ghost use Rattle.elementary.specs.Cody.{tilde_of, negative_rest, smoothened_exponential_of_negative_square};
 ghost use Rattle.elementary.specs.NormalDistribution.{cdf_of, inverse_of, inverse_f_upper_map_of};
 
 use crate::cody::{
-    FRAC_1_SQRT_PI, cd, erfc_under, erfc_with_factor, exp_of_negative_square, on_side, pq,
-    sixteenth, tilde,
+    FRAC_1_SQRT_PI, cd, erfc, erfc_with_factor, exp_of_negative_square, on_side, pq, sixteenth,
+    tilde,
 };
 use crate::eight::Eight;
 use crate::exp::exps;
 use crate::inverse::bisect;
 use crate::methods::abs;
-use crate::rule_set::{RULE_SET_0, RuleSet};
+use crate::rule_set::RuleSet;
 
 pub(crate) const FRAC_1_SQRT_2: f64 = 0.7071067811865476;
 
-// The cdf under any rule set.
-pub fn standard_normal_cdf_under(set: RuleSet, y: f64) -> f64
+pub fn standard_normal_cdf(set: RuleSet, y: f64) -> f64
     ensures { result ≡ cdf_of set y }
 {
-    0.5 * erfc_under(set, -y * FRAC_1_SQRT_2)
-}
-
-pub fn standard_normal_cdf(y: f64) -> f64
-    ensures { result ≡ cdf_of rule_set_0 y }
-{
-    standard_normal_cdf_under(RULE_SET_0, y)
+    0.5 * erfc(set, -y * FRAC_1_SQRT_2)
 }
 
 // ---- the cdf of eight side by side
@@ -56,7 +48,7 @@ fn cdf_with_factor(set: RuleSet, w: f64, y: f64, factor: f64) -> f64
     requires factor_is { factor ≡ smoothened_exponential_of_negative_square y }
     ensures { result ≡ half_erfc set w }
 {
-    0.5 * erfc_with_factor(set, w, y, factor)
+    0.5 * erfc_with_factor(set, w, y, |_| factor)
 }
 
 // The same where y is known to be above the threshold and at most 4.
@@ -113,7 +105,7 @@ pub(crate) fn cdfs(set: RuleSet, x: Eight, k: u64, e: f64) -> Eight
 {
     // Near 0 the cdf has no exponential factor.
     if k < 8 {
-        return x.map(|x| standard_normal_cdf_under(set, x));
+        return x.map(|x| standard_normal_cdf(set, x));
     }
     let w = x.map(|x| -x * FRAC_1_SQRT_2);
     let y = w.map(abs);
@@ -126,8 +118,7 @@ pub(crate) fn cdfs(set: RuleSet, x: Eight, k: u64, e: f64) -> Eight
     }
 }
 
-// The inverse cdf under any rule set.
-pub fn inverse_normal_cdf_under(set: RuleSet, p: f64) -> f64
+pub fn inverse_normal_cdf(set: RuleSet, p: f64) -> f64
     ensures { result ≡ inverse_of set p }
 {
     if p != p {
@@ -142,21 +133,8 @@ pub fn inverse_normal_cdf_under(set: RuleSet, p: f64) -> f64
     bisect(set, p)
 }
 
-pub fn inverse_normal_cdf(p: f64) -> f64
-    ensures { result ≡ inverse_of rule_set_0 p }
-{
-    inverse_normal_cdf_under(RULE_SET_0, p)
-}
-
-// inverse_f_upper_map under any rule set.
-pub fn inverse_f_upper_map_under(set: RuleSet, f: f64) -> f64
+pub fn inverse_f_upper_map(set: RuleSet, f: f64) -> f64
     ensures { result ≡ inverse_f_upper_map_of set f }
 {
-    -2.0 * inverse_normal_cdf_under(set, f)
-}
-
-pub fn inverse_f_upper_map(f: f64) -> f64
-    ensures { result ≡ inverse_f_upper_map_of rule_set_0 f }
-{
-    inverse_f_upper_map_under(RULE_SET_0, f)
+    -2.0 * inverse_normal_cdf(set, f)
 }

@@ -1,9 +1,9 @@
--- `normal_distribution::inverse_normal_cdf_under` meets its contract: each way out is the arm that the tests before it leave. Assumes nothing.
+-- `normal_distribution::inverse_normal_cdf` meets its contract: each way out is the arm that the tests before it leave. Assumes nothing.
 use lib.Ieee.{div, neg, of_bits}
 use lib.Ieee.Compare.{differs_from_itself}
 use Rattle.elementary.specs.NormalDistribution.{inverse_of}
 use Rattle.elementary.proofs.Laws.Inverse.{lowest_under, highest_over}
-use Rattle.elementary.proofs.normal_distribution.inverse_normal_cdf_under.Goals as goal
+use Rattle.elementary.proofs.normal_distribution.inverse_normal_cdf.Goals as goal
 
 pub returns-then-p : goal.returns-then-p
 unfolding inverse_of
