@@ -1,5 +1,6 @@
 // The normal distribution: normal_distribution.rs over document 01's rules.
 ghost use Rattle.std.specs.Prelude.{◌≡◌, true, false, ◌<◌};
+ghost use Rattle.elementary.specs.declared.rule_set.RuleSet.{RuleSet};
 ghost use Rattle.elementary.specs.Inside.Each.{Each};
 ghost use Rattle.elementary.specs.Inside.Cdf.{sixteenths_of, exp_of_negative_square, CloseCase, Between, half_erfc};
 ghost use Rattle.elementary.specs.Methods.{abs_of};
@@ -42,33 +43,50 @@ fn factors(y: Eight, t: Eight, s: Eight) -> Eight
     s.zip(exps(y.zip(t, negative_rest)), |s, c| s * c)
 }
 
-// The cdf from erfc's argument w, its size y and its exponential factor.
-fn cdf_with_factor(set: RuleSet, w: f64, y: f64, factor: f64) -> f64
-    requires y_is { y ≡ abs_of w }
-    requires factor_is { factor ≡ smoothened_exponential_of_negative_square y }
-    ensures { result ≡ half_erfc set w }
-{
-    0.5 * erfc_with_factor(set, w, y, |_| factor)
+// erfc's argument, its size and the exponential factor.
+#[derive(Clone, Copy)]
+struct Argument {
+    w: f64,
+    y: f64,
+    factor: f64,
+    ghost y_is: { y ≡ abs_of w },
+    ghost factor_is: { factor ≡ smoothened_exponential_of_negative_square y },
 }
 
-// The same where y is known to be above the threshold and at most 4.
-fn cdf_up_to_four(set: RuleSet, w: f64, y: f64, factor: f64) -> f64
-    requires y_is { y ≡ abs_of w }
-    requires between { Between true y }
-    requires factor_is { factor ≡ smoothened_exponential_of_negative_square y }
-    ensures { result ≡ half_erfc set w }
-{
-    0.5 * on_side(w, cd(y) * factor)
-}
+impl Argument {
+    fn new(w: f64, y: f64, factor: f64) -> Argument
+        requires y_is { y ≡ abs_of w }
+        requires factor_is { factor ≡ smoothened_exponential_of_negative_square y }
+        ensures { (result.w ≡ w) × (result.y ≡ y) }
+    {
+        Argument { w, y, factor }
+    }
 
-// And where it is known to be above 4, and not in the far arm.
-fn cdf_above_four(set: RuleSet, w: f64, y: f64, factor: f64) -> f64
-    requires y_is { y ≡ abs_of w }
-    requires between { Between false y }
-    requires factor_is { factor ≡ smoothened_exponential_of_negative_square y }
-    ensures { result ≡ half_erfc set w }
-{
-    0.5 * on_side(w, (FRAC_1_SQRT_PI - pq(1.0 / (y * y))) / y * factor)
+    fn cdf(self, set: RuleSet) -> f64
+        ensures { result ≡ half_erfc set self.w }
+    {
+        0.5 * erfc_with_factor(set, self.w, self.y, |_| self.factor)
+    }
+
+    // The same where the size is known to be above the threshold and at most 4.
+    fn cdf_up_to_four(self) -> f64
+        requires { Between true self.y }
+        ensures { (set : RuleSet) → result ≡ half_erfc set self.w }
+    {
+        0.5 * on_side(self.w, cd(self.y) * self.factor)
+    }
+
+    // And where it is known to be above 4, and not in the far arm.
+    fn cdf_above_four(self) -> f64
+        requires { Between false self.y }
+        ensures { (set : RuleSet) → result ≡ half_erfc set self.w }
+    {
+        let y = self.y;
+        0.5 * on_side(
+            self.w,
+            (FRAC_1_SQRT_PI - pq(1.0 / (y * y))) / y * self.factor,
+        )
+    }
 }
 
 // Where all sizes lie in the sixteenth from k / 16 on, that is the tilde of each, and e, its
@@ -80,12 +98,20 @@ fn close_cdfs(set: RuleSet, w: Eight, y: Eight, k: u64, e: f64) -> Eight
 {
     let f = factors(y, Eight::of(sixteenth(k)), Eight::of(e));
     if k < 64 {
-        return w.zip3(y, f, |w, y, f| cdf_up_to_four(set, w, y, f));
+        return w.zip3(
+            y,
+            f,
+            |w, y, factor| Argument::new(w, y, factor).cdf_up_to_four(),
+        );
     }
     if 64 < k && k < 416 {
-        return w.zip3(y, f, |w, y, f| cdf_above_four(set, w, y, f));
+        return w.zip3(
+            y,
+            f,
+            |w, y, factor| Argument::new(w, y, factor).cdf_above_four(),
+        );
     }
-    w.zip3(y, f, |w, y, f| cdf_with_factor(set, w, y, f))
+    w.zip3(y, f, |w, y, factor| Argument::new(w, y, factor).cdf(set))
 }
 
 fn outer_cdfs(set: RuleSet, w: Eight, y: Eight) -> Eight
@@ -94,7 +120,7 @@ fn outer_cdfs(set: RuleSet, w: Eight, y: Eight) -> Eight
 {
     let t = y.map(tilde);
     let f = factors(y, t, t.map(exp_of_negative_square));
-    w.zip3(y, f, |w, y, f| cdf_with_factor(set, w, y, f))
+    w.zip3(y, f, |w, y, factor| Argument::new(w, y, factor).cdf(set))
 }
 
 // The sizes of erfc's arguments are guessed to lie in the sixteenth from k / 16 on.
