@@ -9,7 +9,7 @@ ghost use Rattle.elementary.specs.NormalDistribution.{cdf_of, inverse_of, invers
 
 use crate::cody::{
     FRAC_1_SQRT_PI, cd, erfc, erfc_with_factor, exp_of_negative_square, on_side, pq, sixteenth,
-    tilde,
+    sixteenths, tilde,
 };
 use crate::eight::Eight;
 use crate::exp::exps;
@@ -89,22 +89,41 @@ impl Argument {
     }
 }
 
-// Where all sizes lie in the sixteenth from k / 16 on, that is the tilde of each, and e, its
-// exponential, serves all. Where that sixteenth holds no border of erfc's regions, no size is tested.
-fn close_cdfs(set: RuleSet, w: Eight, y: Eight, k: u64, e: f64) -> Eight
-    requires close_case { CloseCase k w y }
-    requires e_is { e ≡ exp_of_negative_square (sixteenths_of k) }
+// k / 16, and the exponential of its negative square.
+#[derive(Clone, Copy)]
+pub(crate) struct Sixteenth {
+    k: u64,
+    e: f64,
+    ghost k_high: { k < 1024 },
+    ghost e_is: { e ≡ exp_of_negative_square (sixteenths_of k) },
+}
+
+impl Sixteenth {
+    // The one nearest to t, for a t from 0 up to 64.
+    pub fn near(t: f64) -> Sixteenth {
+        let k = sixteenths(t);
+        Sixteenth {
+            k,
+            e: exp_of_negative_square(sixteenth(k)),
+        }
+    }
+}
+
+// Where all sizes lie in the sixteenth from k / 16 on, that is the tilde of each, and its exponential
+// serves all. Where that sixteenth holds no border of erfc's regions, no size is tested.
+fn close_cdfs(set: RuleSet, w: Eight, y: Eight, near: Sixteenth) -> Eight
+    requires { CloseCase near.k w y }
     ensures { Each (half_erfc set) w result }
 {
-    let f = factors(y, Eight::of(sixteenth(k)), Eight::of(e));
-    if k < 64 {
+    let f = factors(y, Eight::of(sixteenth(near.k)), Eight::of(near.e));
+    if near.k < 64 {
         return w.zip3(
             y,
             f,
             |w, y, factor| Argument::new(w, y, factor).cdf_up_to_four(),
         );
     }
-    if 64 < k && k < 416 {
+    if 64 < near.k && near.k < 416 {
         return w.zip3(
             y,
             f,
@@ -124,21 +143,19 @@ fn outer_cdfs(set: RuleSet, w: Eight, y: Eight) -> Eight
 }
 
 // The sizes of erfc's arguments are guessed to lie in the sixteenth from k / 16 on.
-pub(crate) fn cdfs(set: RuleSet, x: Eight, k: u64, e: f64) -> Eight
-    requires k_high { k < 1024 }
-    requires e_is { e ≡ exp_of_negative_square (sixteenths_of k) }
+pub(crate) fn cdfs(set: RuleSet, x: Eight, near: Sixteenth) -> Eight
     ensures { Each (cdf_of set) x result }
 {
     // Near 0 the cdf has no exponential factor.
-    if k < 8 {
+    if near.k < 8 {
         return x.map(|x| standard_normal_cdf(set, x));
     }
     let w = x.map(|x| -x * FRAC_1_SQRT_2);
     let y = w.map(abs);
-    let a = sixteenth(k);
-    let b = sixteenth(k + 1);
+    let a = sixteenth(near.k);
+    let b = sixteenth(near.k + 1);
     if y.all(|y| (a <= y) & (y < b)) {
-        close_cdfs(set, w, y, k, e)
+        close_cdfs(set, w, y, near)
     } else {
         outer_cdfs(set, w, y)
     }
