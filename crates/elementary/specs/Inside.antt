@@ -7,5 +7,4 @@ pub mod Errors
 pub mod Exp
 pub mod Each
 pub mod Bisection
-pub mod Tables
 pub mod Cdf

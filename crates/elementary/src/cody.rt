@@ -1,8 +1,7 @@
 // Cody's rational approximations of the error function: cody/optimized.rs, line by line.
-ghost use Rattle.std.specs.Prelude.{◌≡◌, cond, ◌<◌, ◌≤◌};
+ghost use Rattle.std.specs.Prelude.{◌≡◌, cond, ◌<◌, ◌≤◌, Float};
 ghost use Rattle.std.specs.Float.Ieee.{lt};
 ghost use Rattle.elementary.specs.Ops.{◌⊖◌, +0, two};
-ghost use Rattle.elementary.specs.RuleSets.{rule_set_0};
 ghost use Rattle.elementary.specs.Inside.Cdf.{sixteenths_of};
 ghost use Rattle.elementary.specs.Methods.{abs_of};
 ghost use Rattle.elementary.specs.Exp.{exp_of};
@@ -12,7 +11,7 @@ use crate::exp::exp;
 use crate::floor::floor;
 use crate::limits::MAX;
 use crate::methods::{abs, same};
-use crate::rule_set::{RULE_SET_0, RuleSet};
+use crate::rule_set::RuleSet;
 use crate::tables::exp_of_negative_square_of_sixteenths;
 
 pub(crate) const FRAC_1_SQRT_PI: f64 = 0.5641895835477563;
@@ -96,7 +95,7 @@ pub(crate) fn sixteenths(t: f64) -> u64
     ensures { result < 1024 }
 {
     let s = t + 281474976710656.0;
-    if s == s { f64::to_bits(s) % 1024 } else { 0 }
+    if s.is_nan() { 0 } else { s.to_bits() % 1024 }
 }
 
 // k / 16.
@@ -112,13 +111,10 @@ pub(crate) fn exp_of_negative_square(t: f64) -> f64
     ensures { result ≡ exp_of (negative_square t) }
 {
     let k = sixteenths(t);
-    let v = exp_of_negative_square_of_sixteenths(k);
-    if 0 < v {
-        if same(t, sixteenth(k)) {
-            return f64::from_bits(v);
-        }
+    match exp_of_negative_square_of_sixteenths(k) {
+        Some(value) if same(t, sixteenth(k)) => value,
+        _ => exp(-t * t),
     }
-    exp(-t * t)
 }
 
 pub fn smoothened_exponential_of_negative_square(y: f64) -> f64
@@ -195,36 +191,28 @@ pub(crate) fn on_side(x: f64, right: f64) -> f64
     if x < 0.0 { 2.0 - right } else { right }
 }
 
-// erfc of x, whose size is y, from its exponential factor.
-pub(crate) fn erfc_with_factor(set: RuleSet, x: f64, y: f64, factor: f64) -> f64
+// erfc of x, whose size is y. The exponential factor is asked for above the threshold alone.
+pub(crate) fn erfc_with_factor<F: FnOnce(f64) -> f64>(
+    set: RuleSet,
+    x: f64,
+    y: f64,
+    factor: F,
+) -> f64
     requires y_is { y ≡ abs_of x }
-    requires factor_is { factor ≡ smoothened_exponential_of_negative_square y }
+    requires may_ask { F.pre factor y }
+    requires factor_is { (f : Float) → F.post factor y f → f ≡ smoothened_exponential_of_negative_square y }
     ensures { result ≡ erfc_of set x }
 {
     if y <= THRESHOLD {
         return 1.0 - x * ab(y * y);
     }
-    on_side(x, erfc_abs(set, y, factor))
+    on_side(x, erfc_abs(set, y, factor(y)))
 }
 
-// erfc under any rule set.
-pub fn erfc_under(set: RuleSet, x: f64) -> f64
+pub fn erfc(set: RuleSet, x: f64) -> f64
     ensures { result ≡ erfc_of set x }
 {
-    let y = abs(x);
-    if y <= THRESHOLD {
-        return 1.0 - x * ab(y * y);
-    }
-    on_side(
-        x,
-        erfc_abs(set, y, smoothened_exponential_of_negative_square(y)),
-    )
-}
-
-pub fn erfc(x: f64) -> f64
-    ensures { result ≡ erfc_of rule_set_0 x }
-{
-    erfc_under(RULE_SET_0, x)
+    erfc_with_factor(set, x, abs(x), smoothened_exponential_of_negative_square)
 }
 
 pub fn erfcx(x: f64) -> f64

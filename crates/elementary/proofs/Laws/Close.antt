@@ -7,7 +7,7 @@ use native.Mathlib.Omega.{arith}
 use borrow.Author.Tests.{lt-ltb}
 use lib.IntN.{pos}
 use lib.Dec.{T, lit<, lit≤, not_T}
-use lib.Ieee.{Float, nan, inf, fin, binary64, up, down, round, neg, div, lt, le, fits, of_bits}
+use lib.Ieee.{Float, nan, inf, fin, binary64, up, down, round, div, lt, le, fits, of_bits}
 use lib.Ieee.Bits.{is_true, is_false}
 use lib.Ieee.Fits.{and_l, and_r, down_pos, mul-fits, of_int-fits}
 use lib.Ieee.Exact.{HasValue}
@@ -17,37 +17,14 @@ use lib.Ieee.Order.{le_of_values}
 use lib.Ieee.Positive.{num, den, positive, first_pos, den_pos, own_value, positive_of_value, values_of_le, between, mul_at}
 use Rattle.elementary.specs.Ops.{◌⊗◌, ◌⊘◌, float, +0, four, sixteen}
 use Rattle.elementary.specs.Floor.{floor_of}
-use Rattle.elementary.specs.Methods.{abs_of}
 use Rattle.elementary.specs.Cody.{THRESHOLD, XBIG, tilde_of}
-use Rattle.elementary.specs.NormalDistribution.{FRAC_1_SQRT_2}
-use Rattle.elementary.specs.declared.eight.Eight.{Eight}
-use Rattle.elementary.specs.Inside.Each.{Each, All}
-use Rattle.elementary.specs.Inside.Cdf.{sixteenths_of, argument_of, is_between, all_between, Close, Between}
-use Rattle.elementary.proofs.Laws.Bits.{abs_fits}
+use Rattle.elementary.specs.Inside.Cdf.{sixteenths_of, Close, Between}
 use Rattle.elementary.proofs.Laws.Held.{holds}
 use Rattle.elementary.proofs.Laws.Order.{valued, finite_by, le→fractions}
 use Rattle.elementary.proofs.Laws.Places.{in_units_lem, exact_under}
 use Rattle.elementary.proofs.Laws.Values.{whole_value}
 use Rattle.elementary.proofs.Laws.Compare as compare
 use Rattle.elementary.proofs.Laws.Greatest.{floor_value, floor_fits}
-
--- ---- the test
-size_fits : (x : Float) {w y : Float} → w ≡ argument_of x → y ≡ abs_of w → T (fits binary64 y)
-size_fits x p q = rw (q, p) (abs_fits (argument_of x) (mul-fits binary64 (neg x) FRAC_1_SQRT_2))
-
-pub all_close : (k : ℕ) {x w y : Eight} {a b : Float} → Each argument_of x w → Each abs_of w y → a ≡ sixteenths_of k → b ≡ sixteenths_of (k + 1) → all_between a b y ≡ true → All (Close k) y
-all_close k {x} {w} {y} {a} {b} p s ea eb q =
-    let t : T (all_between a b y) = rw q tt in
-    record {
-      at0 = record { test = rw (← ea, ← eb) (is_true (is_between a b y.x0) (search (and_l, and_r) depth 9)); of_format = size_fits x.x0 p.at0 s.at0 };
-      at1 = record { test = rw (← ea, ← eb) (is_true (is_between a b y.x1) (search (and_l, and_r) depth 9)); of_format = size_fits x.x1 p.at1 s.at1 };
-      at2 = record { test = rw (← ea, ← eb) (is_true (is_between a b y.x2) (search (and_l, and_r) depth 9)); of_format = size_fits x.x2 p.at2 s.at2 };
-      at3 = record { test = rw (← ea, ← eb) (is_true (is_between a b y.x3) (search (and_l, and_r) depth 9)); of_format = size_fits x.x3 p.at3 s.at3 };
-      at4 = record { test = rw (← ea, ← eb) (is_true (is_between a b y.x4) (search (and_l, and_r) depth 9)); of_format = size_fits x.x4 p.at4 s.at4 };
-      at5 = record { test = rw (← ea, ← eb) (is_true (is_between a b y.x5) (search (and_l, and_r) depth 9)); of_format = size_fits x.x5 p.at5 s.at5 };
-      at6 = record { test = rw (← ea, ← eb) (is_true (is_between a b y.x6) (search (and_l, and_r) depth 9)); of_format = size_fits x.x6 p.at6 s.at6 };
-      at7 = record { test = rw (← ea, ← eb) (is_true (is_between a b y.x7) (search (and_l, and_r) depth 9)); of_format = size_fits x.x7 p.at7 s.at7 };
-    }
 
 -- ---- k / 16 is exact
 over_sixteen : (x : Float) (k : ℕ) → HasValue x false k 1 → x ⊘ sixteen ≡ round binary64 false k 16

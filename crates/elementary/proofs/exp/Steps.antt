@@ -1,11 +1,11 @@
 -- The steps of exp's sum: after those down to n, what is left of the 13 steps is the n steps from p on. Assumes nothing.
-use mathlib.Core.Path.{◌≡◌, sym, ◌∙◌, ap}
+use mathlib.Core.Path.{◌≡◌, sym}
 use Prim.Native.Nat.{ℕ, zero, suc, ◌-◌, ◌≤◌}
 use native.Mathlib.Omega.{arith}
 use lib.Ieee.{Float}
 use Rattle.elementary.specs.Ops.{◌⊕◌, ◌⊗◌, ◌⊘◌, float, one}
-use Rattle.elementary.specs.Exp.{exp_sum, exp_r}
-use Rattle.elementary.specs.Inside.Exp.{StepsLeft, sum_of}
+use Rattle.elementary.specs.Exp.{exp_sum}
+use Rattle.elementary.specs.Inside.Exp.{StepsLeft}
 
 pub sum_step : (r p : Float) (n : ℕ) → 1 ≤ n → StepsLeft n r p → StepsLeft (n - 1) r (one ⊕ r ⊗ p ⊘ float n)
 unfolding exp_sum
@@ -16,6 +16,3 @@ pub no_steps_left : (r p : Float) (n : ℕ) → n ≤ 0 → StepsLeft n r p → 
 unfolding exp_sum
 no_steps_left r p zero l h = sym h
 no_steps_left r p (suc n) l h = absurd (omega arith)
-
-pub sum_of_lem : (y : Float) {r p : Float} {n : ℕ} → n ≤ 0 → r ≡ exp_r y → StepsLeft n r p → p ≡ sum_of y
-sum_of_lem y {r} {p} {n} l e h = no_steps_left r p n l h ∙ ap (λ x. exp_sum 13 x one) e

@@ -1,5 +1,5 @@
 -- Where the cdf of eight numbers side by side shares one exponential, and the points of the bisection's first steps. Definitions only.
-use Rattle.std.specs.Prelude.{◌≡◌, Bool, true, false, ◌&&◌, ℕ, ◌+◌, ◌≤◌, ◌<◌, T, Float}
+use Rattle.std.specs.Prelude.{◌≡◌, Bool, true, false, ◌&&◌, ℕ, ◌+◌, ◌≤◌, T, Float}
 use Rattle.std.specs.Float.{binary64}
 use Rattle.std.specs.Float.Ieee.{neg, lt, le, fits}
 use Rattle.elementary.specs.Ops.{◌⊖◌, ◌⊗◌, ◌⊘◌, bits, float, half, four, sixteen}
@@ -23,10 +23,6 @@ exp_of_negative_square t = exp_of (negative_square t)
 abbrev pub is_between : Float → Float → Float → Bool
 is_between a b y = le a y && lt y b
 
--- whether all are
-abbrev pub all_between : Float → Float → Eight → Bool
-all_between a b y = is_between a b y.x0 && is_between a b y.x1 && is_between a b y.x2 && is_between a b y.x3 && is_between a b y.x4 && is_between a b y.x5 && is_between a b y.x6 && is_between a b y.x7
-
 -- y lies in the sixteenth from k / 16 on, and is a float
 pub record Close (k : ℕ) (y : Float) : Type 0 where
   pub test : is_between (sixteenths_of k) (sixteenths_of (k + 1)) y ≡ true
@@ -35,7 +31,6 @@ pub record Close (k : ℕ) (y : Float) : Type 0 where
 -- eight sizes y of arguments w that do
 pub record CloseCase (k : ℕ) (w y : Eight) : Type 0 where
   pub low : 8 ≤ k
-  pub high : k < 1024
   pub sizes : Each abs_of w y
   pub close : All (Close k) y
 

@@ -3,7 +3,7 @@ use Rattle.std.specs.Prelude.{◌≡◌, Bool, ℕ, ◌≤◌, Float}
 use Rattle.std.specs.Float.Ieee.{minus, to_signed}
 use Rattle.std.specs.Float.Ieee.Exact.{HasValue}
 use Rattle.elementary.specs.Ops.{one}
-use Rattle.elementary.specs.Exp.{exp_sum, exp_r}
+use Rattle.elementary.specs.Exp.{exp_sum}
 
 -- k is a whole number of at most 1078 in size
 pub record Whole (k : Float) : Type 0 where
@@ -17,10 +17,6 @@ pub record BiasedExponent (k : Float) (e : ℕ) : Type 0 where
   pub exponent : to_signed 63 k ≡ minus e 2048
   pub low : 960 ≤ e
   pub high : e ≤ 3136
-
--- the Taylor sum of what is left of y
-abbrev pub sum_of : Float → Float
-sum_of y = exp_sum 13 (exp_r y) one
 
 -- p is where the sum of r stands with n of its 13 steps left
 abbrev pub StepsLeft : ℕ → Float → Float → Type 0

@@ -4,8 +4,8 @@ use Rattle.elementary.proofs.cody.erfc_with_factor.Goals as goal
 
 pub returns-then-y : goal.returns-then-y
 unfolding erfc_of
-returns-then-y c = rw (c.ab.ensures, ← c.requires.y_is, c.if-y.true)
+returns-then-y g c = rw (c.ab.ensures, ← c.requires.y_is, c.if-y.true)
 
 pub returns : goal.returns
 unfolding erfc_of
-returns c = rw (c.on_side.ensures, c.erfc_abs.ensures, ← c.requires.y_is, c.if-y.false)
+returns g c = rw (c.on_side.ensures, c.erfc_abs.ensures, ← c.requires.y_is, c.if-y.false)

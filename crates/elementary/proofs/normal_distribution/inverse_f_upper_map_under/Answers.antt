@@ -1,7 +1,0 @@
--- `normal_distribution::inverse_f_upper_map_under` meets its contract. Assumes nothing.
-use Rattle.elementary.specs.NormalDistribution.{inverse_f_upper_map_of}
-use Rattle.elementary.proofs.normal_distribution.inverse_f_upper_map_under.Goals as goal
-
-pub returns : goal.returns
-unfolding inverse_f_upper_map_of
-returns c = rw c.inverse_normal_cdf_under.ensures
