@@ -106,13 +106,11 @@ fn fma_finite(a: f64, b: f64, c: f64) -> f64
 pub fn mul_add(a: f64, b: f64, c: f64) -> f64
     ensures { result ≡ fma binary64 a b c }
 {
-    if a.is_finite() && b.is_finite() {
-        if c.is_finite() {
-            fma_finite(a, b, c)
-        } else {
-            c
-        }
-    } else {
-        a * b + c
+    if !a.is_finite() || !b.is_finite() {
+        return a * b + c;
     }
+    if !c.is_finite() {
+        return c;
+    }
+    fma_finite(a, b, c)
 }
