@@ -26,6 +26,9 @@ is_nan_lem nan h = refl
 is_nan_lem (inf s) h = absurd h
 is_nan_lem (fin s m e) h = absurd h
 
+pub nan_by : (x : Float) → true ≡ is_nan x → x ≡ nan
+nan_by x h = is_nan_lem x (rw (← h) tt)
+
 pub differs : (x : Float) → ne x x ≡ true → x ≡ nan
 differs x h = differs_from_itself x (rw h tt)
 
