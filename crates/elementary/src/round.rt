@@ -40,7 +40,8 @@ pub(crate) struct Number {
 
 // The float nearest to v * 2^e / 2^2404. Of the leading digits two more are looked at than are kept, 53 or
 // fewer of a subnormal value. The pattern k * 2^52 + q serves subnormals too, and a carry of q runs into the
-// exponent's field by itself.
+// exponent's field by itself. Out of line, since inlined it costs mul_add's other ways out 1 ns of 24.
+#[inline(never)]
 fn round_positive(v: u128, e: u64) -> f64
     requires digits_low { 0 < v }
     requires e_low { 128 ≤ e }
