@@ -3,35 +3,41 @@ ghost use Rattle.std.specs.Prelude.{◌≡◌, ◌*◌, ◌^◌, ◌<◌, ◌≤
 ghost use Rattle.std.specs.Float.{binary64};
 ghost use Rattle.std.specs.Float.Ieee.{unlike};
 ghost use Rattle.std.specs.Float.Ieee.Scale as Scale;
-ghost use Rattle.elementary.specs.Inside.Round.{Digits};
 ghost use Rattle.elementary.specs.MulAdd.{fma};
 ghost use Rattle.elementary.specs.Inside.MulAdd.{Scaled, Adds};
 
 use crate::round::{Number, Parts, parts_of, rounded, shift_right};
 
-// The product. Below it are twelve digits 0, so that it and an addend in a word of its own have the same
-// number of digits, or one apart.
-fn product(a: Parts, b: Parts) -> Number
-    requires a_digits { Digits a.m a.e }
-    requires b_digits { Digits b.m b.e }
-    ensures scaled { Scaled result.digits result.e }
+// ±digits * 2^e / 2^2404, to be added: 117 or 118 digits, the last two of them 0.
+#[derive(Clone, Copy)]
+struct Term {
+    neg: bool,
+    digits: u128,
+    e: u64,
+    ghost scaled: { Scaled digits e },
+}
+
+// Below the product are twelve digits 0, so that it and an addend in a word of its own have the same number
+// of digits, or one apart.
+fn product(a: Parts, b: Parts) -> Term
+    requires a_nonzero { 0 < a.m }
+    requires b_nonzero { 0 < b.m }
     ensures neg { result.neg ≡ unlike a.neg b.neg }
     ensures value { result.digits * 2 ^ result.e ≡ a.m * 2 ^ a.e * (b.m * 2 ^ b.e) * 2 ^ 128 }
 {
-    Number {
+    Term {
         neg: a.neg != b.neg,
         digits: (a.m as u128 * b.m as u128) << 12,
         e: a.e + b.e + 116,
     }
 }
 
-fn addend(c: Parts) -> Number
-    requires { Digits c.m c.e }
-    ensures scaled { Scaled result.digits result.e }
+fn addend(c: Parts) -> Term
+    requires { 0 < c.m }
     ensures neg { result.neg ≡ c.neg }
     ensures value { result.digits * 2 ^ result.e ≡ c.m * 2 ^ c.e * 2 ^ 1266 }
 {
-    Number {
+    Term {
         neg: c.neg,
         digits: (c.m as u128) << 64,
         e: c.e + 1202,
@@ -40,40 +46,35 @@ fn addend(c: Parts) -> Number
 
 // l + s, for an exponent of s that isn't above l's. s is shifted there, and loses digits only where it is far
 // below l.
-fn sum_ordered(l: Number, s: Number) -> Number
-    requires l_scaled { Scaled l.digits l.e }
-    requires s_scaled { Scaled s.digits s.e }
-    requires order { s.e ≤ l.e }
-    ensures place { result.e ≡ l.e }
-    ensures adds { Adds l.neg (l.digits * 2 ^ l.e) s.neg (s.digits * 2 ^ s.e) result.neg result.digits result.e }
+fn sum_ordered(l: Term, s: Term) -> Number
+    requires { s.e ≤ l.e }
+    ensures { Adds l.neg (l.digits * 2 ^ l.e) s.neg (s.digits * 2 ^ s.e) result.neg result.digits result.e }
 {
     let y = shift_right(s.digits, l.e - s.e);
     if l.neg == s.neg {
-        Number {
+        return Number {
+            neg: l.neg,
             digits: l.digits + y,
-            ..l
-        }
-    } else if y < l.digits {
-        Number {
-            digits: l.digits - y,
-            ..l
-        }
-    } else {
-        Number {
-            neg: s.neg && l.digits < y,
-            digits: y - l.digits,
             e: l.e,
-        }
+        };
+    }
+    if y < l.digits {
+        return Number {
+            neg: l.neg,
+            digits: l.digits - y,
+            e: l.e,
+        };
+    }
+    Number {
+        neg: s.neg && l.digits < y,
+        digits: y - l.digits,
+        e: l.e,
     }
 }
 
 // a + b.
-fn sum(a: Number, b: Number) -> Number
-    requires a_scaled { Scaled a.digits a.e }
-    requires b_scaled { Scaled b.digits b.e }
-    ensures least { 128 ≤ result.e }
-    ensures room { result.e < 2 ^ 30 }
-    ensures adds { Adds a.neg (a.digits * 2 ^ a.e) b.neg (b.digits * 2 ^ b.e) result.neg result.digits result.e }
+fn sum(a: Term, b: Term) -> Number
+    ensures { Adds a.neg (a.digits * 2 ^ a.e) b.neg (b.digits * 2 ^ b.e) result.neg result.digits result.e }
 {
     if b.e <= a.e {
         sum_ordered(a, b)

@@ -7,7 +7,7 @@ ghost use Rattle.std.specs.Float.Ieee.{nearest};
 ghost use Rattle.std.specs.Float.MulAdd.{IsExactOrSticky};
 ghost use Rattle.std.specs.Float.Ieee.Exact.{HasValue};
 ghost use Rattle.std.specs.Float.Ieee.Scale as Scale;
-ghost use Rattle.elementary.specs.Inside.Round.{Rounds, PartsOf, SubnormalParts};
+ghost use Rattle.elementary.specs.Inside.Round.{Rounds, Digits, PartsOf};
 
 // v / 2^d. Where a digit is lost that isn't 0, the last one kept is 1: then the result is odd and less than 1
 // off, and rounds as the number itself does.
@@ -30,12 +30,14 @@ fn quarter_to_even(v: u64) -> u64
     (v + 1 + v / 4 % 2) / 4
 }
 
-// ±digits * 2^e / 2^2404.
+// ±digits * 2^e / 2^2404, to be rounded.
 #[derive(Clone, Copy)]
 pub(crate) struct Number {
     pub(crate) neg: bool,
     pub(crate) digits: u128,
     pub(crate) e: u64,
+    ghost least: { 128 ≤ e },
+    ghost room: { e < 2 ^ 31 },
 }
 
 // The float nearest to v * 2^e / 2^2404. Of the leading digits two more are looked at than are kept, 53 or
@@ -61,8 +63,6 @@ fn round_positive(v: u128, e: u64) -> f64
 
 // The float nearest to x.
 pub(crate) fn rounded(x: Number) -> f64
-    requires e_low { 128 ≤ x.e }
-    requires e_high { x.e < 2 ^ 31 }
     ensures { Rounds result x.neg x.digits x.e }
 {
     let r = if x.digits == 0 {
@@ -73,29 +73,30 @@ pub(crate) fn rounded(x: Number) -> f64
     if x.neg { -r } else { r }
 }
 
-// A finite float taken apart: ±m * 2^e / 2^1138.
+// A finite float taken apart: ±m * 2^e / 2^1138, with an m of 53 digits or 0.
 #[derive(Clone, Copy)]
 pub(crate) struct Parts {
     pub(crate) neg: bool,
     pub(crate) m: u64,
     pub(crate) e: u64,
+    ghost has_digits: { 0 < m → Digits m e },
+    ghost room: { e < 2 ^ 12 },
 }
 
 // The parts of a subnormal value: its digits are shifted up to their place in a normal one.
 fn subnormal_parts(neg: bool, t: u64) -> Parts
     requires { t < 2 ^ 52 }
     ensures neg { result.neg ≡ neg }
-    ensures subnormal_parts { SubnormalParts t result.m result.e }
+    ensures value { result.m * 2 ^ result.e ≡ t * 2 ^ 64 }
 {
     if t == 0 {
-        Parts { neg, m: 0, e: 64 }
-    } else {
-        let z = t.leading_zeros() as u64 - 11;
-        Parts {
-            neg,
-            m: t << z,
-            e: 64 - z,
-        }
+        return Parts { neg, m: 0, e: 64 };
+    }
+    let z = t.leading_zeros() as u64 - 11;
+    Parts {
+        neg,
+        m: t << z,
+        e: 64 - z,
     }
 }
 
@@ -109,13 +110,12 @@ pub(crate) fn parts_of(x: f64) -> Parts
     let f = b % 0x8000_0000_0000_0000 / 0x10_0000_0000_0000;
     let t = b % 0x10_0000_0000_0000;
     if f == 0 {
-        subnormal_parts(neg, t)
-    } else {
-        Parts {
-            neg,
-            m: 0x10_0000_0000_0000 + t,
-            e: f + 63,
-        }
+        return subnormal_parts(neg, t);
+    }
+    Parts {
+        neg,
+        m: 0x10_0000_0000_0000 + t,
+        e: f + 63,
     }
 }
 

@@ -3,9 +3,9 @@ use mathlib.Core.Path.{◌≡◌, refl, sym, ap, ◌∙◌}
 use mathlib.Core.Logic.{inl, inr}
 use mathlib.Core.Bool.{Bool, not}
 use Prim.Native.Nat.{ℕ, suc, ◌+◌, ◌-◌, ◌*◌, ◌/◌, ◌%◌, ◌^◌, ◌≤◌, ◌<◌}
-use native.Mathlib.Nat.{le_trans, le_of_eq, lt_of_lt_of_le, not-le_of_lt, lt_of_not-le, eq-or-lt_of_le, mul_assoc, mul-le-mul_right, mul-lt-mul_of_pos_right, mul-mod_left, lt_irrefl}
+use native.Mathlib.Nat.{le_trans, le_of_eq, lt_of_lt_of_le, not-le_of_lt, lt_of_not-le, eq-or-lt_of_le, mul_assoc, mul-le-mul_right, mul-lt-mul_of_pos_right, mul-mod_left}
 use native.Mathlib.Omega.{arith}
-use lib.Dec.{T, leb, lit<}
+use lib.Dec.{T, leb}
 use lib.Count.{count_leading_zeros, leading_top}
 use lib.Pow.{pow-add, pow_pos, pow_mono}
 use lib.Ieee.{Float, nan, inf, fin, binary64, to_bits, fits, is_nan}
@@ -13,7 +13,7 @@ use Rattle.std.specs.Float.{float_is_finite}
 use lib.Ieee.Exact.{HasValue}
 use lib.Ieee.Bits.{of_bits-to_bits}
 use lib.Ieee.Scale.{finite}
-use Rattle.elementary.specs.Inside.Round.{PartsOf, SubnormalParts}
+use Rattle.elementary.specs.Inside.Round.{Digits, PartsOf}
 use Rattle.elementary.proofs.Laws.Bits.{nan_pattern}
 use Rattle.elementary.proofs.Laws.Values.{revalue, value_low, value_mid, value_inf}
 
@@ -52,15 +52,13 @@ module _ (x : Float) (F : T (fits binary64 x)) where
   abbrev t : ℕ
   t = b % 2 ^ 52
 
-  pub low_value : f ≡ 0 → (m e : ℕ) → SubnormalParts t m e → PartsOf x s m e
+  pub low_value : f ≡ 0 → (m e : ℕ) → m * 2 ^ e ≡ t * 2 ^ 64 → PartsOf x s m e
   low_value z m e L =
       let v : HasValue x s (b % 2 ^ 63) (2 ^ 1074) = rw (of_bits-to_bits binary64 x F) at (value_low b (omega arith)) in
       record {
         value = revalue x s (b % 2 ^ 63) (2 ^ 1074) (m * 2 ^ e) (2 ^ 1138) (pow_pos 1074)
-            (ap (λ (w : ℕ). w * 2 ^ 1138) (omega arith) ∙ split_power t 1138 64 1074 refl ∙ ap (λ (w : ℕ). w * 2 ^ 1074) (sym L.same)) v;
-        whole = ap (λ (w : ℕ). w % 2 ^ 64) L.same ∙ mul-mod_left t (2 ^ 64);
-        room = L.room;
-        digits = L.digits;
+            (ap (λ (w : ℕ). w * 2 ^ 1138) (omega arith) ∙ split_power t 1138 64 1074 refl ∙ ap (λ (w : ℕ). w * 2 ^ 1074) (sym L)) v;
+        whole = ap (λ (w : ℕ). w % 2 ^ 64) L ∙ mul-mod_left t (2 ^ 64);
       }
 
   pub normal_value : 0 < f → f < 2047 → PartsOf x s (2 ^ 52 + t) (f + 63)
@@ -69,8 +67,6 @@ module _ (x : Float) (F : T (fits binary64 x)) where
       record {
         value = revalue x s ((2 ^ 52 + t) * 2 ^ (f - 1)) (2 ^ 1074) ((2 ^ 52 + t) * 2 ^ (f + 63)) (2 ^ 1138) (pow_pos 1074) (same_power (2 ^ 52 + t) (f - 1) 1138 (f + 63) 1074 (omega arith)) v;
         whole = ap (λ (w : ℕ). w % 2 ^ 64) (split_power (2 ^ 52 + t) (f + 63) (f - 1) 64 (omega arith)) ∙ mul-mod_left ((2 ^ 52 + t) * 2 ^ (f - 1)) (2 ^ 64);
-        room = omega arith;
-        digits = λ _. record { lead = omega arith; top = omega arith; least = omega arith; room = omega arith };
       }
 
   -- the field of an infinity or a NaN is not a finite value's
@@ -100,16 +96,8 @@ module _ (t : ℕ) (h : t < 2 ^ 52) (p : (t ≡ 0 → ⊥)) where
   pub up_top : t * 2 ^ (z - 11) < 2 ^ 53
   up_top = lt_of_lt_of_le (mul-lt-mul_of_pos_right leads.3 (pow_pos (z - 11))) (le_of_eq (up (suc leads.0) ∙ ap (λ (i : ℕ). 2 ^ i) {x = suc leads.0 + (z - 11)} {y = 53} (omega (arith, leads.1, far_up))))
 
-  pub subnormal_shift : SubnormalParts t (t * 2 ^ (z - 11)) (64 - (z - 11))
-  subnormal_shift = record {
-    same = sym (split_power t 64 (z - 11) (64 - (z - 11)) (omega (arith, leads.1)));
-    room = omega arith;
-    digits = λ _. record { lead = up_low; top = up_top; least = omega (arith, leads.1); room = omega arith };
-  }
+  pub up_digits : Digits (t * 2 ^ (z - 11)) (64 - (z - 11))
+  up_digits = record { lead = up_low; top = up_top; least = omega (arith, leads.1); room = omega arith }
 
-pub subnormal_zero : (t : ℕ) → t ≡ 0 → SubnormalParts t 0 64
-subnormal_zero t e = record {
-  same = sym (ap (λ (w : ℕ). w * 2 ^ 64) e);
-  room = lit< tt;
-  digits = λ p. absurd (lt_irrefl 0 p);
-}
+  pub up_same : t * 2 ^ (z - 11) * 2 ^ (64 - (z - 11)) ≡ t * 2 ^ 64
+  up_same = sym (split_power t 64 (z - 11) (64 - (z - 11)) (omega (arith, leads.1)))

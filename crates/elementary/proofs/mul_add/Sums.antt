@@ -1,9 +1,9 @@
 -- Signed sums of two fractions: `sum` by its cases, and the leading digits of the sum and the difference where the smaller number is cut. Assumes nothing.
-use mathlib.Core.Path.{◌≡◌, refl, sym, ap, ◌∙◌, subst}
+use mathlib.Core.Path.{◌≡◌, sym, ap, ◌∙◌, subst}
 use mathlib.Core.Logic.{◌⊎◌, inl, inr}
 use mathlib.Core.Bool.{Bool, true, false, ◌&&◌, beq, cond, and-true, and-false}
 use Prim.Native.Nat.{ℕ, ◌+◌, ◌-◌, ◌*◌, ◌/◌, ◌^◌, ◌≤◌, ◌<◌, compare, Ordering}
-use native.Mathlib.Nat.{le_trans, le_of_eq, le_of_lt, lt_of_lt_of_le, eq-or-lt_of_le, mul_assoc, mul-one, mul-pos, mul-le-mul_left, mul-le-mul_right, mul-lt-mul_of_pos_right, add-mul, add_comm, lt_of_mul-lt-mul_right}
+use native.Mathlib.Nat.{le_of_lt, eq-or-lt_of_le, mul_assoc, mul-pos, mul-le-mul_left, mul-le-mul_right, mul-lt-mul_of_pos_right, add-mul, add_comm, lt_of_mul-lt-mul_right}
 use native.Mathlib.Decide.{dec_le}
 use native.Mathlib.Omega.{arith}
 use borrow.Author.Tests.{lt-ltb, le-ltb}
@@ -17,7 +17,7 @@ use Rattle.elementary.proofs.Laws.Powers.{pow_split}
 use Rattle.elementary.proofs.Laws.Ordering.{Cmp, cmp}
 use Rattle.elementary.proofs.Laws.Adding.{sub_mul}
 use Rattle.elementary.proofs.Laws.Leaf.{same_test}
-use Rattle.elementary.proofs.Laws.Sticky.{times, below, exact}
+use Rattle.elementary.proofs.Laws.Sticky.{times, exact}
 
 -- ---- `sum` by its cases
 pub sum_same : (f : Format) (s t : Bool) (a b c : ℕ) → beq s t ≡ true → sum f s a t b c ≡ round f s (a + b) c
@@ -72,12 +72,6 @@ module _ {l le s se y : ℕ} (A : Aligned l le s se y) where
   -- y by itself
   stands : IsExactOrSticky y u b
   stands = subst (λ (z : ℕ). IsExactOrSticky y z b) (sym (pow_split se le A.order)) (times y (2 ^ (le - se)) s (2 ^ se) (pow_pos se) A.near)
-
-  pub y_top : y < 2 ^ 118
-  y_top = below y (2 ^ (le - se)) s (2 ^ 118) A.near refl (lt_of_lt_of_le A.small.top (le_mul (2 ^ 118) (pow_pos (le - se))))
-    where
-      le_mul : (v : ℕ) {q : ℕ} → 0 < q → v ≤ v * q
-      le_mul v {q} h = le_trans (le_of_eq (sym (mul-one v))) (mul-le-mul_left v h)
 
   whole : y * 2 ^ (le - se) ≡ s → y * u ≡ b
   whole e = ap (λ (z : ℕ). y * z) (pow_split se le A.order) ∙ sym (mul_assoc y (2 ^ (le - se)) (2 ^ se)) ∙ ap (λ (z : ℕ). z * 2 ^ se) e

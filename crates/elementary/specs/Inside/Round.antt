@@ -16,15 +16,7 @@ pub record Digits (m e : ℕ) : Type 0 where
   pub least : 12 ≤ e
   pub room : e < 2 ^ 12
 
--- a finite float as a sign and m * 2 ^ e / 2 ^ 1138, with an m of 53 digits or 0: a whole number of the smallest value, 2 ^ 64 / 2 ^ 1138
+-- a finite float as a sign and m * 2 ^ e / 2 ^ 1138: a whole number of the smallest value, 2 ^ 64 / 2 ^ 1138
 pub record PartsOf (x : Float) (s : Bool) (m e : ℕ) : Type 0 where
   pub value : HasValue x s (m * 2 ^ e) (2 ^ 1138)
   pub whole : m * 2 ^ e % 2 ^ 64 ≡ 0
-  pub room : e < 2 ^ 12
-  pub digits : 0 < m → Digits m e
-
--- the same for the digits t of a subnormal value
-pub record SubnormalParts (t m e : ℕ) : Type 0 where
-  pub same : m * 2 ^ e ≡ t * 2 ^ 64
-  pub room : e < 2 ^ 12
-  pub digits : 0 < m → Digits m e

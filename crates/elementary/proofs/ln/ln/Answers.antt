@@ -1,5 +1,5 @@
 -- `ln::ln` meets its contract: its tests are the definition's, in the same order. Assumes nothing.
-use mathlib.Core.Path.{◌≡◌, sym, ◌∙◌}
+use mathlib.Core.Path.{sym, ◌∙◌}
 use lib.Ieee.{of_bits}
 use Rattle.elementary.specs.Ln.{ln_of}
 use Rattle.elementary.proofs.Laws.Bits.{ne_self}

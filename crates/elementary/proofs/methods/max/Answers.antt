@@ -1,6 +1,6 @@
 -- `max` meets its contract: each way out is what `max_of` picks where the tests are as that way found them. Assumes nothing.
-use mathlib.Core.Path.{◌≡◌, refl, sym, ◌∙◌}
-use mathlib.Core.Bool.{true, false, cond}
+use mathlib.Core.Path.{◌≡◌, refl}
+use mathlib.Core.Bool.{false, cond}
 use lib.Ieee.{Float, nan, inf, fin, lt, is_nan}
 use Rattle.std.specs.Float.{is_sign_negative}
 use Rattle.elementary.specs.Methods.{max_of, sign_of}

@@ -12,4 +12,4 @@ fits m h = omega arith
 pub returns-clause-value : goal.returns-clause-value
 returns-clause-value c =
     let a = c.args.c in
-    rw (fits a.m c.requires.top, pow-add 2 a.e 1202) (mul-mul-mul_comm a.m (2 ^ 64) (2 ^ a.e) (2 ^ 1202))
+    rw (fits a.m (a.has_digits c.requires).top, pow-add 2 a.e 1202) (mul-mul-mul_comm a.m (2 ^ 64) (2 ^ a.e) (2 ^ 1202))

@@ -14,4 +14,4 @@ pub returns : goal.returns
 returns c =
     let p = c.product.ensures in
     let a = c.addend.ensures in
-    (rw (p.neg, p.value, a.neg, a.value) at (c.sum.ensures.adds c.rounded.result c.rounded.ensures)) ∙ scaled_sum c.parts_of-p.ensures c.parts_of-q.ensures c.parts_of-r.ensures
+    (rw (p.neg, p.value, a.neg, a.value) at (c.sum.ensures c.rounded.result c.rounded.ensures)) ∙ scaled_sum c.parts_of-p.ensures c.parts_of-q.ensures c.parts_of-r.ensures

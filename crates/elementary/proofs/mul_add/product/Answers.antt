@@ -17,5 +17,5 @@ pub returns-clause-value : goal.returns-clause-value
 returns-clause-value c =
     let a = c.args.a in
     let b = c.args.b in
-    rw (fits (a.m * b.m) (mul-lt a.m b.m (2 ^ 53) (2 ^ 53) c.requires.a_digits.top c.requires.b_digits.top), pow-add 2 (a.e + b.e) 116, pow-add 2 a.e b.e)
+    rw (fits (a.m * b.m) (mul-lt a.m b.m (2 ^ 53) (2 ^ 53) (a.has_digits c.requires.a_nonzero).top (b.has_digits c.requires.b_nonzero).top), pow-add 2 (a.e + b.e) 116, pow-add 2 a.e b.e)
     (regroup a.m b.m (2 ^ a.e) (2 ^ b.e))

@@ -4,5 +4,5 @@ use lib.Ieee.{binary64}
 use Rattle.elementary.proofs.mul_add.Sums.{sum_comm}
 use Rattle.elementary.proofs.mul_add.sum.Goals as goal
 
-pub returns-else-b-a-clause-adds : goal.returns-else-b-a-clause-adds
-returns-else-b-a-clause-adds c r R = c.sum_ordered-else-b-a.ensures.adds r R ∙ sum_comm binary64 c.args.b.neg c.args.a.neg _ _ _
+pub returns-else-b-a : goal.returns-else-b-a
+returns-else-b-a c r R = c.sum_ordered-else-b-a.ensures r R ∙ sum_comm binary64 c.args.b.neg c.args.a.neg _ _ _
