@@ -43,7 +43,7 @@ pub(crate) fn scale_by_power(p: f64, e: u64) -> f64
     if e > 3071 {
         return scale_by_any_power(p, e);
     }
-    p * float_of_fields(false, e - 1025, 0)
+    p * float_of_fields(e - 1025, 0)
 }
 
 // One step of the sum: p becomes 1 + (r × p) / n.

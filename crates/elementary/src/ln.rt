@@ -38,7 +38,7 @@ fn ln_inner(y: f64) -> f64
     ensures { result ≡ ln_inner y }
 {
     let t = parts_of(y);
-    let mut m = float_of_fields(false, 1023, t.m - 0x10_0000_0000_0000);
+    let mut m = float_of_fields(1023, t.m - 0x10_0000_0000_0000);
     let mut place = t.e - 12;
     if m > SQRT_2 {
         m = 0.5 * m;

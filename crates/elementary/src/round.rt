@@ -1,7 +1,7 @@
 // The rounding leaf: the one place that packs a float from whole numbers, and the one that takes a
 // float apart into them. An exponent e counts from 2^−2404, which is below the product of any two
 // floats, so that none is negative.
-ghost use Rattle.std.specs.Prelude.{◌≡◌, ◌+◌, ◌-◌, ◌*◌, ◌/◌, ◌%◌, ◌^◌, ◌<◌, ◌≤◌, false, cond, T};
+ghost use Rattle.std.specs.Prelude.{◌≡◌, ◌+◌, ◌-◌, ◌*◌, ◌/◌, ◌%◌, ◌^◌, ◌<◌, ◌≤◌, false, T};
 ghost use Prim.Native.Nat.{compare};
 ghost use Rattle.std.specs.Float.Ieee.{nearest};
 ghost use Rattle.std.specs.Float.MulAdd.{IsExactOrSticky};
@@ -119,19 +119,12 @@ pub(crate) fn parts_of(x: f64) -> Parts
     }
 }
 
-// 2^63 for a minus.
-fn sign_bit(neg: bool) -> u64
-    ensures { result ≡ cond neg (2 ^ 63) 0 }
-{
-    if neg { 0x8000_0000_0000_0000 } else { 0 }
-}
-
-// ±(2^52 + t) * 2^f / 2^1075.
-pub(crate) fn float_of_fields(neg: bool, f: u64, t: u64) -> f64
+// (2^52 + t) * 2^f / 2^1075.
+pub(crate) fn float_of_fields(f: u64, t: u64) -> f64
     requires f_low { 0 < f }
     requires f_high { f < 2047 }
     requires t_high { t < 2 ^ 52 }
-    ensures { HasValue result neg ((2 ^ 52 + t) * 2 ^ (f + 1329)) (2 ^ 2404) }
+    ensures { HasValue result false ((2 ^ 52 + t) * 2 ^ (f + 1329)) (2 ^ 2404) }
 {
-    f64::from_bits(sign_bit(neg) + (f << 52) + t)
+    f64::from_bits((f << 52) + t)
 }
