@@ -71,15 +71,6 @@ quarter c u n U near =
     spread : (q j : ℕ) → (q * 4 + j) * u ≡ q * (u * 4) + j * u
     spread q j = omega arith
 
--- as the program has it
-pub quarter_is : (v : ℕ) → (v + 1 + v / 4 % 2) / 4 ≡ nearest (v / 4) (compare (v % 4) 2)
-quarter_is v = go (compare (v % 4) 2) (cmp (v % 4) 2)
-  where
-    go : (o : Ordering) → Cmp o (v % 4) 2 → (v + 1 + v / 4 % 2) / 4 ≡ nearest (v / 4) o
-    go Ordering.lt h = omega arith
-    go Ordering.eq h = omega arith
-    go Ordering.gt h = omega arith
-
 -- ---- how many digits the exact number n has, t of them
 pub record Sized (n t : ℕ) : Type 0 where
   lead : 2 ^ t ≤ 2 * n

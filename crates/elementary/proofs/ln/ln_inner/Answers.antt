@@ -4,12 +4,11 @@ use mathlib.Core.Bool.{Bool, false}
 use lib.Ieee.{Float, binary64, fits}
 use Prim.Native.Nat.{ℕ, ◌+◌, ◌-◌, ◌*◌, ◌^◌, ◌<◌, ◌≤◌}
 use native.Mathlib.Omega.{arith}
-use lib.Dec.{T, lit<, lit≤}
+use lib.Dec.{T, lit≤}
 use lib.Ieee.Exact.{HasValue}
-use lib.Ieee.Positive.{positive, positive-finite}
+use lib.Ieee.Positive.{positive}
 use Rattle.elementary.specs.Inside.Round.{Digits, PartsOf}
 use Rattle.elementary.specs.Ln.{ln_at, place_of, significand_of}
-use Rattle.elementary.proofs.Laws.Values.{in_float_lem}
 use Rattle.elementary.proofs.ln.Steps.{difference, unit}
 use Rattle.elementary.proofs.ln.Ends.{some_digits}
 use Rattle.elementary.proofs.ln.Place.{place_is, significand_is, in_upper_part, in_lower_part}
@@ -33,18 +32,8 @@ module _ {y : Float} {s : Bool} {m e : ℕ} (p : T (positive y)) (parts : PartsO
 pub overflow_sub-t : goal.overflow_sub-t
 overflow_sub-t c = (digits c.requires c.parts_of-t.ensures c.parts_of-t.result.has_digits).lead
 
-pub parts_of-t-requires : goal.parts_of-t-requires
-parts_of-t-requires c = positive-finite c.args.y c.requires
-
-pub float_of_fields-m-requires : goal.float_of_fields-m-requires
-float_of_fields-m-requires c = let g = digits c.requires c.parts_of-t.ensures c.parts_of-t.result.has_digits in record { f_low = lit< tt; f_high = lit< tt; t_high = omega arith }
-
 pub overflow_sub-place : goal.overflow_sub-place
 overflow_sub-place c = (digits c.requires c.parts_of-t.ensures c.parts_of-t.result.has_digits).least
-
-pub int_to_float-place : goal.int_to_float-place
-int_to_float-place c =
-    let g = digits c.requires c.parts_of-t.ensures c.parts_of-t.result.has_digits in in_float_lem _ (elim c.if-m.branch [ then-m w ↦ omega arith | else-m w ↦ omega arith ])
 
 pub returns : goal.returns
 returns c =

@@ -1,6 +1,6 @@
 -- `round::shift_right` meets its contract: what is lost is the remainder by 2^d (Sticky). Assumes nothing.
 use mathlib.Core.Path.{◌≡◌, refl, sym, ◌∙◌}
-use mathlib.Core.Logic.{inl, inr}
+use mathlib.Core.Logic.{inr}
 use Prim.Native.Nat.{ℕ, ◌*◌, ◌/◌, ◌%◌, ◌^◌, ◌<◌}
 use native.Mathlib.Nat.{lt_of_le_of_lt, div-add-mod', div-mul-le_self, mod-lt, mod-eq_of_lt, pos_of_ne-zero}
 use native.Mathlib.Omega.{arith}
@@ -14,9 +14,6 @@ returns-then-d-ge128 c = let h = pow_mono {i = 128} {j = c.args.d} c.if-d-ge128.
 -- shifted back
 back : (v d : ℕ) → v < 2 ^ 128 → v / 2 ^ d * 2 ^ d % 2 ^ 128 ≡ v / 2 ^ d * 2 ^ d
 back v d h = mod-eq_of_lt (lt_of_le_of_lt (div-mul-le_self v (2 ^ d)) h)
-
-pub returns-then-kept-d : goal.returns-then-kept-d
-returns-then-kept-d c = inl (sym (back c.args.v c.args.d c.ranges.v.fits) ∙ c.if-kept-d.true)
 
 pub returns-else-kept-d : goal.returns-else-kept-d
 returns-else-kept-d c =

@@ -76,8 +76,5 @@ pub returns : goal.returns
 unfolding of_bits
 returns c = sym (root_none c.args.x c.if-x.false c.if-x-2.false)
 
-pub float_to_bits-b : goal.float_to_bits-b
-float_to_bits-b c = no_nan c.args.x (lt_ordered (of_bits binary64 0) c.args.x c.if-x.true).1
-
 pub sqrt_of_positive-requires : goal.sqrt_of_positive-requires
 sqrt_of_positive-requires c = (bits_pos c.args.x (x_fits c.args.x c.well_formed.0.1) c.if-x.true, c.if-b-lt9218868437227405312.true)
