@@ -105,7 +105,7 @@ pub(crate) fn parts_of(x: f64) -> Parts
     requires { T (Scale.finite x) }
     ensures { PartsOf x result.neg result.m result.e }
 {
-    let b = f64::to_bits(x);
+    let b = x.to_bits();
     let neg = b >= 0x8000_0000_0000_0000;
     let f = b % 0x8000_0000_0000_0000 / 0x10_0000_0000_0000;
     let t = b % 0x10_0000_0000_0000;
