@@ -25,7 +25,8 @@ pub(crate) fn same(a: f64, b: f64) -> bool
     a == b && a.to_bits() == b.to_bits()
 }
 
-// abs clears the sign.
+// abs clears the sign. std's f64::abs does so by two tests; ours stays, since must-fail's wrong programs change its
+// mask.
 pub fn abs(x: f64) -> f64
     ensures { result ≡ abs_of x }
 {
@@ -35,8 +36,8 @@ pub fn abs(x: f64) -> f64
     f64::from_bits(x.to_bits() % 0x8000_0000_0000_0000)
 }
 
-// The greater; the other one if one is NaN; of two zeros of unequal sign +0. Where one is greater,
-// at most two comparisons decide.
+// The greater; the other one if one is NaN; of two zeros of unequal sign +0, where std's f64::max takes either.
+// Where one is greater, at most two comparisons decide.
 pub fn max(a: f64, b: f64) -> f64
     ensures { result ≡ max_of a b }
 {

@@ -1,32 +1,25 @@
 -- The float nearest to a number, from one that stands for it and has two digits more than are kept. Assumes nothing.
 use mathlib.Core.Path.{◌≡◌, refl, sym, ap, ◌∙◌, subst}
 use mathlib.Core.Logic.{◌⊎◌, inl, inr}
-use mathlib.Core.Bool.{Bool, true, false}
+use mathlib.Core.Bool.{false}
 use Prim.Native.Nat.{ℕ, zero, suc, ◌+◌, ◌-◌, ◌*◌, ◌/◌, ◌%◌, ◌^◌, ◌≤◌, ◌<◌, compare, Ordering}
-use native.Mathlib.Nat.{le_antisymm, eq-zero-or-pos, mul-le-mul_right, mul-lt-mul_of_pos_right, mul_assoc, mul-pos, lt_of_lt_of_le, lt_of_not-le, not-le_of_lt, le-div_iff_mul-le, div-lt_iff_lt-mul}
+use native.Mathlib.Nat.{le_antisymm, eq-zero-or-pos, mul-le-mul_right, mul-lt-mul_of_pos_right, mul_assoc, mul-pos, lt_of_lt_of_le, not-le_of_lt, le-div_iff_mul-le, div-lt_iff_lt-mul}
 use native.Mathlib.Omega.{arith}
 use lib.Arith.{digits_div, digits_mod}
-use lib.Dec.{T}
 use lib.Count.{count_leading_zeros, leading_top}
 use lib.Pow.{pow-add, pow_pos, pow_mono, shl_exact}
 use lib.Ieee.{binary64, size, nearest, units, round}
-use lib.Ieee.Digits.{size-lt, size-le}
+use lib.Ieee.Digits.{size-le}
 use lib.Ieee.Fits.{nearest-le, round_is}
 use lib.Ieee.Nearest.{closest, closest_same, div_same, nearest-ge}
 use Rattle.std.specs.Float.MulAdd.{IsExactOrSticky, IsRoundable}
 use Rattle.elementary.proofs.Laws.Ordering.{Cmp, cmp}
+use Rattle.elementary.proofs.Laws.Places.{size_gt}
 use Rattle.elementary.proofs.Laws.Sticky.{then, over, below, above}
-
--- ---- two tests that agree
-pub same_test : (a b : Bool) → (T a → T b) → (T b → T a) → a ≡ b
-same_test true true p q = refl
-same_test true false p q = absurd (p tt)
-same_test false true p q = absurd (q tt)
-same_test false false p q = refl
 
 -- ---- a number's digits
 pub size_of : (w a : ℕ) → 2 ^ a ≤ w → w < 2 ^ suc a → size w ≡ suc a
-size_of w a lo hi = le_antisymm (size-le w (suc a) hi) (lt_of_not-le (λ (g : size w ≤ a). not-le_of_lt (lt_of_lt_of_le (size-lt w) (pow_mono g)) lo))
+size_of w a lo hi = le_antisymm (size-le w (suc a) hi) (size_gt w a lo)
 
 -- ---- two digits decide the rounding
 is_order : (a b : ℕ) (o : Ordering) → Cmp o a b → compare a b ≡ o
@@ -87,9 +80,6 @@ sized v e n (suc (suc w)) p q (inr r) =
       lead = omega (arith, pow-add 2 (suc (suc w)) e, mul-le-mul_right (2 ^ e) a, r.0.1);
       top = omega (arith, pow-add 2 (suc (suc w)) e, mul-le-mul_right (2 ^ e) q, r.0.2);
     }
-
-size_gt : (n j : ℕ) → 2 ^ j ≤ n → j < size n
-size_gt n j h = lt_of_not-le (λ (g : size n ≤ j). not-le_of_lt (lt_of_lt_of_le (size-lt n) (pow_mono g)) h)
 
 power_at : (a b : ℕ) → a ≡ b → 2 ^ a ≡ 2 ^ b
 power_at a b e = ap (λ (k : ℕ). 2 ^ k) e

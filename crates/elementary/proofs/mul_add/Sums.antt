@@ -7,7 +7,7 @@ use native.Mathlib.Nat.{le_of_lt, eq-or-lt_of_le, mul_assoc, mul-pos, mul-le-mul
 use native.Mathlib.Decide.{dec_le}
 use native.Mathlib.Omega.{arith}
 use borrow.Author.Tests.{lt-ltb, le-ltb}
-use lib.Dec.{T, ltb, ltb→lt, lt→ltb}
+use lib.Dec.{ltb}
 use lib.Ieee.Positive.{first_pos}
 use lib.Pow.{pow-add, pow_pos, pow_mono}
 use lib.Ieee.{Format, binary64, round, sum}
@@ -16,7 +16,7 @@ use Rattle.elementary.specs.Inside.MulAdd.{Scaled, Adds}
 use Rattle.elementary.proofs.Laws.Powers.{pow_split}
 use Rattle.elementary.proofs.Laws.Ordering.{Cmp, cmp}
 use Rattle.elementary.proofs.Laws.Adding.{sub_mul}
-use Rattle.elementary.proofs.Laws.Leaf.{same_test}
+use Rattle.std.proofs.lemmas.Bool.{ltb-true, ltb_from_iff}
 use Rattle.elementary.proofs.Laws.Sticky.{times, exact}
 
 -- ---- `sum` by its cases
@@ -77,10 +77,13 @@ module _ {l le s se y : ℕ} (A : Aligned l le s se y) where
   whole e = ap (λ (z : ℕ). y * z) (pow_split se le A.order) ∙ sym (mul_assoc y (2 ^ (le - se)) (2 ^ se)) ∙ ap (λ (z : ℕ). z * 2 ^ se) e
 
   -- digits are lost only of an s far below l
-  exact_or_far : (y * u ≡ b) ⊎ (IsStickyApprox y u b × (y ≤ 2 ^ 115))
+  abbrev ExactOrFar : Type 0
+  ExactOrFar = (y * u ≡ b) ⊎ (IsStickyApprox y u b × (y ≤ 2 ^ 115))
+
+  exact_or_far : ExactOrFar
   exact_or_far = go A.near stands (dec_le (le - se) 2)
     where
-      go : IsExactOrSticky y (2 ^ (le - se)) s → IsExactOrSticky y u b → Dec (le - se ≤ 2) → (y * u ≡ b) ⊎ (IsStickyApprox y u b × (y ≤ 2 ^ 115))
+      go : IsExactOrSticky y (2 ^ (le - se)) s → IsExactOrSticky y u b → Dec (le - se ≤ 2) → ExactOrFar
       go (inl e) t d = inl (whole e)
       go near (inl e) d = inl e
       go near (inr t) (yes h) =
@@ -98,7 +101,7 @@ module _ {l le s se y : ℕ} (A : Aligned l le s se y) where
     pub plus : beq m n ≡ true → Adds m a n b m (l + y) le
     plus h r R = R (a + b) (go exact_or_far) ∙ sym (sum_same binary64 m n a b (2 ^ 2404) h)
       where
-        go : (y * u ≡ b) ⊎ (IsStickyApprox y u b × (y ≤ 2 ^ 115)) → IsRoundable (l + y) u (a + b)
+        go : ExactOrFar → IsRoundable (l + y) u (a + b)
         go (inl e) = inl (omega arith)
         go (inr t) = inr ((omega (arith, t.0.0, A.large.even), omega (arith, t.0.1), omega (arith, t.0.2)), omega (arith, A.large.lead))
 
@@ -113,7 +116,7 @@ module _ {l le s se y : ℕ} (A : Aligned l le s se y) where
         split : a ≡ (l - y) * u + y * u
         split = ap (λ (z : ℕ). z * u) d ∙ add-mul (l - y) y u
 
-        go : (y * u ≡ b) ⊎ (IsStickyApprox y u b × (y ≤ 2 ^ 115)) → (b < a) × IsRoundable (l - y) u (a - b)
+        go : ExactOrFar → (b < a) × IsRoundable (l - y) u (a - b)
         go (inl e) = (omega (arith, mul-lt-mul_of_pos_right k (pow_pos le)), inl (omega (arith, split)))
         go (inr t) =
             let p : b < a = omega (arith, t.0.2, mul-le-mul_right u k) in
@@ -126,11 +129,11 @@ module _ {l le s se y : ℕ} (A : Aligned l le s se y) where
         let f : (y - l) * u ≡ b - a = sub_mul y l u ∙ ap (λ (z : ℕ). z - a) e in
         let g : a ≤ b = omega (arith, mul-le-mul_right u k) in
         R (b - a) (inl f)
-        ∙ ap (λ (t : Bool). round binary64 (n && t) (b - a) (2 ^ 2404)) (same_test (ltb l y) (ltb 0 (b - a)) (λ t. lt→ltb 0 (b - a) (rw (← f) (mul-pos (positive t) (pow_pos le)))) (λ t. lt→ltb l y (from (ltb→lt 0 (b - a) t) f)))
+        ∙ ap (λ (t : Bool). round binary64 (n && t) (b - a) (2 ^ 2404)) (ltb_from_iff (λ t. rw (← f) (mul-pos (positive (ltb-true l y t)) (pow_pos le)), λ p. lt-ltb l y (from p f)))
         ∙ sym (sum_less binary64 m n a b (2 ^ 2404) h g)
       where
-        positive : T (ltb l y) → 0 < y - l
-        positive t = omega (arith, ltb→lt l y t)
+        positive : l < y → 0 < y - l
+        positive t = omega arith
 
         from : 0 < b - a → (y - l) * u ≡ b - a → l < y
         from p f = omega (arith, first_pos (y - l) u (omega arith))
