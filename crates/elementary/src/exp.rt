@@ -11,8 +11,8 @@ use crate::eight::Eight;
 use crate::floor::floor;
 use crate::round::{Number, float_of_fields, parts_of, rounded};
 
-// `scale_by_power` for any power of two: the digits of p are rounded at their new place. Out of line, so that the
-// usual exp, which never gets here, keeps no registers for it.
+// `scale_by_power` for any power of two: the digits of p are rounded at their new place. Out of line, so
+// that the usual exp, which never gets here, saves no register for it.
 #[inline(never)]
 fn scale_by_any_power(p: f64, e: u64) -> f64
     requires e_low { 960 ≤ e }

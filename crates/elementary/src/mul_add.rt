@@ -1,5 +1,5 @@
-// IEEE 754's fusedMultiplyAdd, a × b + c rounded once, in whole numbers. std's f64::mul_add is proved too; ours
-// stays, since must-fail's wrong programs change its steps.
+// IEEE 754's fusedMultiplyAdd, a × b + c rounded once, in whole numbers. std's f64::mul_add is proved
+// too; ours stays, since must-fail's wrong programs change its steps.
 ghost use Rattle.std.specs.Prelude.{◌≡◌, ◌*◌, ◌^◌, ◌<◌, ◌≤◌, T};
 ghost use Rattle.std.specs.Float.{binary64};
 ghost use Rattle.std.specs.Float.Ieee.{unlike};
@@ -18,8 +18,8 @@ struct Term {
     ghost scaled: { Scaled digits e },
 }
 
-// Below the product are twelve digits 0, so that it and an addend in a word of its own have the same number
-// of digits, or one apart.
+// Below the product are twelve digits 0, so that it and an addend in a word of its own have the same
+// number of digits, or one apart.
 fn product(a: Parts, b: Parts) -> Term
     requires a_nonzero { 0 < a.m }
     requires b_nonzero { 0 < b.m }
@@ -45,8 +45,8 @@ fn addend(c: Parts) -> Term
     }
 }
 
-// l + s, for an exponent of s that isn't above l's. s is shifted there, and loses digits only where it is far
-// below l.
+// l + s, for an exponent of s that isn't above l's. s is shifted there, and loses digits only where it is
+// far below l.
 fn sum_ordered(l: Term, s: Term) -> Number
     requires { s.e ≤ l.e }
     ensures { Adds l.neg (l.digits * 2 ^ l.e) s.neg (s.digits * 2 ^ s.e) result.neg result.digits result.e }

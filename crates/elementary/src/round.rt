@@ -9,8 +9,8 @@ ghost use Rattle.std.specs.Float.Ieee.Exact.{HasValue};
 ghost use Rattle.std.specs.Float.Ieee.Scale as Scale;
 ghost use Rattle.elementary.specs.Inside.Round.{Rounds, Digits, PartsOf};
 
-// v / 2^d. Where a digit is lost that isn't 0, the last one kept is 1: then the result is odd and less than 1
-// off, and rounds as the number itself does.
+// v / 2^d. Where a digit is lost that isn't 0, the last one kept is 1: then the result is odd and less
+// than 1 off, and rounds as the number itself does.
 pub(crate) fn shift_right(v: u128, d: u64) -> u128
     requires { 0 < v }
     ensures { IsExactOrSticky result (2 ^ d) v }
@@ -40,9 +40,10 @@ pub(crate) struct Number {
     ghost room: { e < 2 ^ 31 },
 }
 
-// The float nearest to v * 2^e / 2^2404. Of the leading digits two more are looked at than are kept, 53 or
-// fewer of a subnormal value. The pattern k * 2^52 + q serves subnormals too, and a carry of q runs into the
-// exponent's field by itself. Out of line, since inlined it costs mul_add's other ways out 1 ns of 24.
+// The float nearest to v * 2^e / 2^2404. Its last digit stands for 2^(k + 1330), where the smallest
+// float is 2^1330: it has 53, or fewer if it is subnormal. Two digits more decide how to round. The
+// pattern k * 2^52 + q serves subnormals too, and a carry of q runs into the exponent's field by itself.
+// Out of line: inlined it makes mul_add slower, by 1 ns of 24.
 #[inline(never)]
 fn round_positive(v: u128, e: u64) -> f64
     requires digits_low { 0 < v }
@@ -50,7 +51,7 @@ fn round_positive(v: u128, e: u64) -> f64
     requires e_high { e < 2 ^ 31 }
     ensures { Rounds result false v e }
 {
-    let z = u128::leading_zeros(v) as u64;
+    let z = v.leading_zeros() as u64;
     let place = e - z;
     let k = place.saturating_sub(1255);
     let q = quarter_to_even(shift_right(v << z, k + 1328 - place) as u64);
