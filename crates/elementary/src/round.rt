@@ -19,7 +19,11 @@ pub(crate) fn shift_right(v: u128, d: u64) -> u128
         return 1;
     }
     let kept = v >> d;
-    if kept << d == v { kept } else { kept | 1 }
+    if v.trailing_zeros() as u64 >= d {
+        kept
+    } else {
+        kept | 1
+    }
 }
 
 // v / 4 to the nearest, at a tie to the even one.
