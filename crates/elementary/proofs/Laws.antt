@@ -2,8 +2,6 @@
 -- Whole numbers.
 pub mod Powers
 pub mod Ordering
-pub mod Words
-pub mod Halves
 -- Floats: their bits, their values, how they compare, how large results can be.
 pub mod Held
 pub mod Places
@@ -14,6 +12,7 @@ pub mod Compare
 pub mod Bounds
 pub mod Bits
 pub mod Values
+pub mod Sticky
 pub mod Leaf
 pub mod Pattern
 pub mod Sign

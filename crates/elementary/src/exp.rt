@@ -9,17 +9,23 @@ ghost use Rattle.elementary.specs.Inside.Exp.{Whole, BiasedExponent, StepsLeft};
 
 use crate::eight::Eight;
 use crate::floor::floor;
-use crate::round::{float_of_fields, is_finite, parts_of, round_exact};
+use crate::round::{Number, float_of_fields, parts_of, rounded};
 
-// `scale_by_power` for any power of two: the digits of p are rounded at their new place.
+// `scale_by_power` for any power of two: the digits of p are rounded at their new place. Out of line, so
+// that the usual exp, which never gets here, saves no register for it.
+#[inline(never)]
 fn scale_by_any_power(p: f64, e: u64) -> f64
     requires e_low { 960 ≤ e }
     requires e_high { e ≤ 3136 }
     ensures { result ≡ Exp.scaled binary64 p (minus e 2048) }
 {
-    if is_finite(p) {
+    if p.is_finite() {
         let t = parts_of(p);
-        round_exact(t.neg, 0, t.m, t.e + e - 782)
+        rounded(Number {
+            neg: t.neg,
+            digits: t.m as u128,
+            e: t.e + e - 782,
+        })
     } else {
         p
     }
@@ -34,7 +40,7 @@ pub(crate) fn scale_by_power(p: f64, e: u64) -> f64
     if e < 1026 || 3071 < e {
         return scale_by_any_power(p, e);
     }
-    p * float_of_fields(false, e - 1025, 0)
+    p * float_of_fields(e - 1025, 0)
 }
 
 // One step of the sum: p becomes 1 + (r × p) / n.

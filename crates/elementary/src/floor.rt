@@ -1,4 +1,5 @@
-// floor: IEEE 754's roundToIntegralTowardNegative, on the bits.
+// floor: IEEE 754's roundToIntegralTowardNegative, on the bits. std's f64::floor is proved too; ours stays, since
+// must-fail's wrong programs change its steps.
 ghost use Rattle.std.specs.Prelude.{◌≡◌, ◌+◌, ◌/◌, ◌%◌, ◌^◌, ◌<◌, ◌≤◌};
 ghost use Rattle.std.specs.Float.{binary64};
 ghost use Rattle.std.specs.Float.Ieee.{of_bits};
@@ -26,10 +27,11 @@ fn floor_from_one(b: u64, d: u64) -> f64
     ensures { result ≡ floor_of binary64 (of_bits binary64 b) }
 {
     let unit: u64 = 1 << d;
-    let mut c = b;
-    if b >= 0x8000_0000_0000_0000 {
-        c = b + (unit - 1);
-    }
+    let c = if b >= 0x8000_0000_0000_0000 {
+        b + (unit - 1)
+    } else {
+        b
+    };
     f64::from_bits(c - c % unit)
 }
 
@@ -37,10 +39,10 @@ fn floor_from_one(b: u64, d: u64) -> f64
 pub fn floor(x: f64) -> f64
     ensures { result ≡ floor_of binary64 x }
 {
-    if x != x {
+    if x.is_nan() {
         return x;
     }
-    let b = f64::to_bits(x);
+    let b = x.to_bits();
     let e = b / 0x10_0000_0000_0000 % 0x800;
     if e >= 1075 {
         return x;

@@ -15,9 +15,7 @@ fn series(z: f64) -> f64
     ensures { result ≡ ln_sum 11 z (one ⊘ float 23) }
 {
     let mut q = 1.0 / 23.0;
-    let mut i: u64 = 11;
-    while 0 < i {
-        i -= 1;
+    for i in (0..11u64).rev() {
         q = 1.0 / ((2 * i + 1) as f64) + z * q;
     }
     q
@@ -40,7 +38,7 @@ fn ln_inner(y: f64) -> f64
     ensures { result ≡ ln_inner y }
 {
     let t = parts_of(y);
-    let mut m = float_of_fields(false, 1023, t.m - 0x10_0000_0000_0000);
+    let mut m = float_of_fields(1023, t.m - 0x10_0000_0000_0000);
     let mut place = t.e - 12;
     if m > SQRT_2 {
         m = 0.5 * m;
@@ -53,17 +51,14 @@ fn ln_inner(y: f64) -> f64
 pub fn ln(y: f64) -> f64
     ensures { result ≡ ln_of y }
 {
-    if y != y {
-        return 0.0 / 0.0;
-    }
-    if y < 0.0 {
-        return 0.0 / 0.0;
+    if y.is_nan() || y < 0.0 {
+        return f64::NAN;
     }
     if y == 0.0 {
-        return -1.0 / 0.0;
+        return f64::NEG_INFINITY;
     }
-    if y == 1.0 / 0.0 {
-        return 1.0 / 0.0;
+    if y == f64::INFINITY {
+        return f64::INFINITY;
     }
     ln_inner(y)
 }

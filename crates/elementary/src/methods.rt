@@ -22,25 +22,22 @@ pub fn powi_2(y: f64) -> f64
 pub(crate) fn same(a: f64, b: f64) -> bool
     ensures { result ≡ true → a ≡ b }
 {
-    if a == b {
-        f64::to_bits(a) == f64::to_bits(b)
-    } else {
-        false
-    }
+    a == b && a.to_bits() == b.to_bits()
 }
 
-// abs clears the sign.
+// abs clears the sign. std's f64::abs does so by two tests; ours stays, since must-fail's wrong programs
+// change its mask.
 pub fn abs(x: f64) -> f64
     ensures { result ≡ abs_of x }
 {
-    if x != x {
+    if x.is_nan() {
         return x;
     }
-    f64::from_bits(f64::to_bits(x) % 0x8000_0000_0000_0000)
+    f64::from_bits(x.to_bits() % 0x8000_0000_0000_0000)
 }
 
-// The greater; the other one if one is NaN; of two zeros of unequal sign +0. Where one is greater,
-// at most two comparisons decide.
+// The greater; the other one if one is NaN; of two zeros of unequal sign +0, where std's f64::max takes either.
+// Where one is greater, at most two comparisons decide.
 pub fn max(a: f64, b: f64) -> f64
     ensures { result ≡ max_of a b }
 {
@@ -50,27 +47,23 @@ pub fn max(a: f64, b: f64) -> f64
     if b < a {
         return a;
     }
-    if a != a {
+    if a.is_nan() {
         return b;
     }
-    if b != b {
+    if b.is_nan() {
         return a;
     }
-    if f64::to_bits(a) < 0x8000_0000_0000_0000 {
-        a
-    } else {
-        b
-    }
+    if a.is_sign_negative() { b } else { a }
 }
 
 // The bits of x, 7FF8000000000000 at a NaN. What leaves the engine as bits leaves through here.
 pub fn bits_of(x: f64) -> u64
     ensures { result ≡ Ieee.to_bits binary64 x }
 {
-    if x != x {
+    if x.is_nan() {
         return 0x7ff8_0000_0000_0000;
     }
-    f64::to_bits(x)
+    x.to_bits()
 }
 
 // The float with the bits b; every pattern of a NaN is the one NaN. What comes in as bits comes in
@@ -79,7 +72,7 @@ pub fn float_of(b: u64) -> f64
     ensures { result ≡ Ieee.of_bits binary64 b }
 {
     if b % 0x8000_0000_0000_0000 > 0x7ff0_0000_0000_0000 {
-        return 0.0 / 0.0;
+        return f64::NAN;
     }
     f64::from_bits(b)
 }

@@ -1,189 +1,107 @@
 // The rounding leaf: the one place that packs a float from whole numbers, and the one that takes a
 // float apart into them. An exponent e counts from 2^−2404, which is below the product of any two
 // floats, so that none is negative.
-ghost use Rattle.std.specs.Prelude.{◌≡◌, false, cond, ◌+◌, ◌-◌, ◌*◌, ◌/◌, ◌%◌, ◌^◌, ◌<◌, ◌≤◌, T, ltb};
-ghost use Rattle.std.specs.Float.Ieee as Ieee;
-ghost use Rattle.std.specs.Float.{binary64};
-ghost use Rattle.std.specs.Float.Ieee.{round};
+ghost use Rattle.std.specs.Prelude.{◌≡◌, ◌+◌, ◌-◌, ◌*◌, ◌/◌, ◌%◌, ◌^◌, ◌<◌, ◌≤◌, false, T};
+ghost use Prim.Native.Nat.{compare};
+ghost use Rattle.std.specs.Float.Ieee.{nearest};
+ghost use Rattle.std.specs.Float.MulAdd.{IsExactOrSticky};
 ghost use Rattle.std.specs.Float.Ieee.Exact.{HasValue};
 ghost use Rattle.std.specs.Float.Ieee.Scale as Scale;
-ghost use Rattle.elementary.specs.Inside.Round.{HalfToEven, Any, Rounds, LeadingZeros, wide, PartsOf, SubnormalParts};
+ghost use Rattle.elementary.specs.Inside.Round.{Rounds, Digits, PartsOf};
 
-// Neither an infinity nor a NaN.
-pub(crate) fn is_finite(x: f64) -> bool
-    ensures { result ≡ Scale.finite x }
+// v / 2^d. Where a digit is lost that isn't 0, the last one kept is 1: then the result is odd and less
+// than 1 off, and rounds as the number itself does.
+pub(crate) fn shift_right(v: u128, d: u64) -> u128
+    requires { 0 < v }
+    ensures { IsExactOrSticky result (2 ^ d) v }
 {
-    let i = f64::from_bits(0x7ff0_0000_0000_0000);
-    if x < i { -i < x } else { false }
-}
-
-// m / 2^d.
-pub(crate) fn shift_right(m: u64, d: u64) -> u64
-    ensures { result ≡ m / 2 ^ d }
-{
-    if d < 64 { m >> d } else { 0 }
-}
-
-// The digits that `shift_right` drops.
-pub(crate) fn low_bits(m: u64, d: u64) -> u64
-    ensures { result ≡ m % 2 ^ d }
-{
-    if d < 64 { m % (1 << d) } else { m }
-}
-
-// 0 just where both are.
-pub(crate) fn any(a: u64, b: u64) -> u64
-    ensures { Any a b result }
-{
-    a | b
-}
-
-// Half of h to the nearest, at a tie to the even one. h is cut, and x is 0 where nothing was cut.
-fn halve_to_even(h: u64, x: u64) -> u64
-    requires { h < 2 ^ 63 }
-    ensures { HalfToEven h x result }
-{
-    if x == 0 {
-        (h + (h >> 1) % 2) >> 1
+    if d >= 128 {
+        return 1;
+    }
+    let kept = v >> d;
+    if v.trailing_zeros() as u64 >= d {
+        kept
     } else {
-        (h + 1) >> 1
+        kept | 1
     }
 }
 
-// How many digits below the 53 kept ones are dropped: none of a subnormal value.
-fn drop_count(e: u64) -> u64
-    requires { e < 2 ^ 32 }
-    ensures { result ≡ e + 11 - 1330 }
+// v / 4 to the nearest, at a tie to the even one.
+fn quarter_to_even(v: u64) -> u64
+    requires { v < 2 ^ 63 }
+    ensures { result ≡ nearest (v / 4) (compare (v % 4) 2) }
 {
-    if e + 11 > 1330 { e + 11 - 1330 } else { 0 }
+    (v + 1 + v / 4 % 2) / 4
 }
 
-// The float nearest to a fraction that has the 64 leading digits m at the exponent e, where x is 0
-// just if nothing lies below them. The pattern k * 2^52 + q serves subnormals too, and a carry of q
-// runs into the exponent's field by itself, up to the infinity.
-fn round_to_nearest(m: u64, x: u64, e: u64) -> f64
-    requires m_low { 2 ^ 63 ≤ m }
-    requires e_high { e < 2 ^ 32 }
-    ensures { Rounds result false m x e }
-{
-    let k = drop_count(e);
-    if k > 2045 {
-        return f64::from_bits(0x7ff0_0000_0000_0000);
-    }
-    let d = 1329 + k - e;
-    let h = shift_right(m, d);
-    let q = halve_to_even(h, any(low_bits(m, d), x));
-    f64::from_bits((k << 52) + q)
-}
-
-// How far x can be shifted left in its word.
-fn leading_zeros(x: u64) -> u64
-    requires { 0 < x }
-    ensures { LeadingZeros x result }
-{
-    u64::leading_zeros(x) as u64
-}
-
-// x * 2^z.
-pub(crate) fn shift_left(x: u64, z: u64) -> u64
-    requires { (z < 64) × (x * 2 ^ z < 2 ^ 64) }
-    ensures { result ≡ x * 2 ^ z }
-{
-    x << z
-}
-
-// hi * 2^64 + lo.
+// ±digits * 2^e / 2^2404, to be rounded.
 #[derive(Clone, Copy)]
-pub(crate) struct Wide {
-    pub(crate) hi: u64,
-    pub(crate) lo: u64,
+pub(crate) struct Number {
+    pub(crate) neg: bool,
+    pub(crate) digits: u128,
+    pub(crate) e: u64,
+    ghost least: { 128 ≤ e },
+    ghost room: { e < 2 ^ 31 },
 }
 
-// As `round_to_nearest`, for two words. Where something was cut off, they have more than 64 digits.
-fn round_wide(hi: u64, lo: u64, x: u64, e: u64) -> f64
-    requires digits_low { 0 < wide hi lo }
-    requires nothing_cut { (wide hi lo < 2 ^ 64 → x ≡ 0) }
-    requires e_low { 64 ≤ e }
+// The float nearest to v * 2^e / 2^2404. Its last digit stands for 2^(k + 1330), where the smallest
+// float is 2^1330: it has 53, or fewer if it is subnormal. Two digits more decide how to round. The
+// pattern k * 2^52 + q serves subnormals too, and a carry of q runs into the exponent's field by itself.
+// Out of line: inlined it makes mul_add slower, by 1 ns of 24.
+#[inline(never)]
+fn round_positive(v: u128, e: u64) -> f64
+    requires digits_low { 0 < v }
+    requires e_low { 128 ≤ e }
     requires e_high { e < 2 ^ 31 }
-    ensures { Rounds result false (wide hi lo) x e }
+    ensures { Rounds result false v e }
 {
-    if hi == 0 {
-        let z = leading_zeros(lo);
-        round_to_nearest(shift_left(lo, z), 0, e - z)
+    let z = v.leading_zeros() as u64;
+    let place = e - z;
+    let k = place.saturating_sub(1255);
+    let q = quarter_to_even(shift_right(v << z, k + 1328 - place) as u64);
+    if k > 2045 {
+        f64::INFINITY
     } else {
-        let z = leading_zeros(hi);
-        let d = 64 - z;
-        let m = shift_left(hi, z) + shift_right(lo, d);
-        round_to_nearest(m, any(low_bits(lo, d), x), e + d)
+        f64::from_bits((k << 52) + q)
     }
 }
 
-// r with the sign.
-fn apply_sign(neg: bool, r: f64) -> f64
-    ensures { result ≡ cond neg (Ieee.neg r) r }
+// The float nearest to x.
+pub(crate) fn rounded(x: Number) -> f64
+    ensures { Rounds result x.neg x.digits x.e }
 {
-    if neg { -r } else { r }
-}
-
-// As `round_wide`, with a sign.
-pub(crate) fn round_signed(neg: bool, hi: u64, lo: u64, x: u64, e: u64) -> f64
-    requires digits_low { 0 < wide hi lo }
-    requires nothing_cut { (wide hi lo < 2 ^ 64 → x ≡ 0) }
-    requires e_low { 64 ≤ e }
-    requires e_high { e < 2 ^ 31 }
-    ensures { Rounds result neg (wide hi lo) x e }
-{
-    apply_sign(neg, round_wide(hi, lo, x, e))
-}
-
-// Whether the two words are not 0.
-pub(crate) fn is_nonzero(hi: u64, lo: u64) -> bool
-    ensures { result ≡ ltb 0 (wide hi lo) }
-{
-    if hi == 0 { 0 < lo } else { true }
-}
-
-// The float nearest to (hi * 2^64 + lo) * 2^e / 2^2404, with the sign.
-pub(crate) fn round_exact(neg: bool, hi: u64, lo: u64, e: u64) -> f64
-    requires e_low { 64 ≤ e }
-    requires e_high { e < 2 ^ 31 }
-    ensures { result ≡ round binary64 neg (wide hi lo * 2 ^ e) (2 ^ 2404) }
-{
-    if is_nonzero(hi, lo) {
-        round_signed(neg, hi, lo, 0, e)
+    let r = if x.digits == 0 {
+        0.0
     } else {
-        apply_sign(neg, 0.0)
-    }
+        round_positive(x.digits, x.e)
+    };
+    if x.neg { -r } else { r }
 }
 
-// A finite float taken apart: ±m * 2^e / 2^1138.
+// A finite float taken apart: ±m * 2^e / 2^1138, with an m of 53 digits or 0.
 #[derive(Clone, Copy)]
 pub(crate) struct Parts {
     pub(crate) neg: bool,
     pub(crate) m: u64,
     pub(crate) e: u64,
+    ghost has_digits: { 0 < m → Digits m e },
+    ghost room: { e < 2 ^ 12 },
 }
 
 // The parts of a subnormal value: its digits are shifted up to their place in a normal one.
 fn subnormal_parts(neg: bool, t: u64) -> Parts
     requires { t < 2 ^ 52 }
     ensures neg { result.neg ≡ neg }
-    ensures subnormal_parts { SubnormalParts t result.m result.e }
+    ensures value { result.m * 2 ^ result.e ≡ t * 2 ^ 64 }
 {
     if t == 0 {
-        Parts {
-            neg: neg,
-            m: 0,
-            e: 64,
-        }
-    } else {
-        let z = leading_zeros(t) - 11;
-        let m = shift_left(t, z);
-        Parts {
-            neg: neg,
-            m: m,
-            e: 64 - z,
-        }
+        return Parts { neg, m: 0, e: 64 };
+    }
+    let z = t.leading_zeros() as u64 - 11;
+    Parts {
+        neg,
+        m: t << z,
+        e: 64 - z,
     }
 }
 
@@ -192,34 +110,26 @@ pub(crate) fn parts_of(x: f64) -> Parts
     requires { T (Scale.finite x) }
     ensures { PartsOf x result.neg result.m result.e }
 {
-    let b = f64::to_bits(x);
+    let b = x.to_bits();
     let neg = b >= 0x8000_0000_0000_0000;
     let f = b % 0x8000_0000_0000_0000 / 0x10_0000_0000_0000;
     let t = b % 0x10_0000_0000_0000;
     if f == 0 {
-        subnormal_parts(neg, t)
-    } else {
-        Parts {
-            neg: neg,
-            m: 0x10_0000_0000_0000 + t,
-            e: f + 63,
-        }
+        return subnormal_parts(neg, t);
+    }
+    Parts {
+        neg,
+        m: 0x10_0000_0000_0000 + t,
+        e: f + 63,
     }
 }
 
-// 2^63 for a minus.
-fn sign_bit(neg: bool) -> u64
-    ensures { result ≡ cond neg (2 ^ 63) 0 }
-{
-    if neg { 0x8000_0000_0000_0000 } else { 0 }
-}
-
-// ±(2^52 + t) * 2^f / 2^1075.
-pub(crate) fn float_of_fields(neg: bool, f: u64, t: u64) -> f64
+// (2^52 + t) * 2^f / 2^1075.
+pub(crate) fn float_of_fields(f: u64, t: u64) -> f64
     requires f_low { 0 < f }
     requires f_high { f < 2047 }
     requires t_high { t < 2 ^ 52 }
-    ensures { HasValue result neg ((2 ^ 52 + t) * 2 ^ (f + 1329)) (2 ^ 2404) }
+    ensures { HasValue result false ((2 ^ 52 + t) * 2 ^ (f + 1329)) (2 ^ 2404) }
 {
-    f64::from_bits(sign_bit(neg) + (f << 52) + t)
+    f64::from_bits((f << 52) + t)
 }

@@ -1,4 +1,5 @@
-// The square root, correctly rounded, in whole numbers.
+// The square root, correctly rounded, in whole numbers. std's f64::sqrt is proved too; ours stays, since
+// must-fail's wrong programs change its steps.
 ghost use Rattle.std.specs.Prelude.{◌≡◌, ◌+◌, ◌*◌, ◌/◌, ◌^◌, ◌<◌, ◌≤◌};
 ghost use Rattle.std.specs.Float.{binary64};
 ghost use Rattle.std.specs.Float.Ieee.{of_bits};
@@ -34,10 +35,7 @@ fn root_digits(a: u64) -> u64
     requires { 2 ^ 62 ≤ a }
     ensures { Root (a * 2 ^ 44) result }
 {
-    let mut first: u64 = 2;
-    if a >= 0x9000_0000_0000_0000 {
-        first = 3;
-    }
+    let first = if a >= 0x9000_0000_0000_0000 { 3 } else { 2 };
     let g4 = double_digits(a / 0x100_0000_0000_0000, first, 4);
     let g8 = double_digits(a / 0x1_0000_0000_0000, g4, 16);
     let g16 = double_digits(a / 0x1_0000_0000, g8, 256);
@@ -52,7 +50,7 @@ fn root_of_significand(m: u64, e: u64) -> f64
     requires { (0 < m) × (m < 2 ^ 53) × (1 ≤ e) × (e < 2047) }
     ensures { result ≡ round_root binary64 (m * 2 ^ (e + 1073)) }
 {
-    let z = u64::leading_zeros(m) as u64;
+    let z = m.leading_zeros() as u64;
     let s = z - (e + 1 + z) % 2;
     let w = root_digits(m << s);
     f64::from_bits((e + 1031 - s) / 2 * 0x10_0000_0000_0000 + (w + 1) / 2)
@@ -75,7 +73,7 @@ pub fn sqrt(x: f64) -> f64
     ensures { result ≡ sqrt_of binary64 x }
 {
     if x > 0.0 {
-        let b = f64::to_bits(x);
+        let b = x.to_bits();
         if b < 0x7ff0_0000_0000_0000 {
             return sqrt_of_positive(b);
         }
@@ -84,5 +82,5 @@ pub fn sqrt(x: f64) -> f64
     if x == 0.0 {
         return x;
     }
-    0.0 / 0.0
+    f64::NAN
 }

@@ -3,12 +3,13 @@ use mathlib.Core.Path.{◌≡◌, sym, ap, ◌∙◌, subst}
 use mathlib.Core.Bool.{Bool, not, ◌&&◌, beq, cond}
 use Prim.Native.Nat.{ℕ, ◌+◌, ◌-◌, ◌*◌, ◌<◌}
 use native.Mathlib.Nat.{mul_assoc, mul_comm, mul_left_comm, mul_right_comm, mul-pos, mul-sub, mul-lt-mul_of_pos_right, lt_of_mul-lt-mul_right, add-mul}
-use lib.Dec.{ltb, lt→ltb, ltb→lt}
+use lib.Dec.{ltb}
 use lib.Ieee.{Float, nan, inf, fin, Format, binary64, unlike, up, down, round, neg, sum, add, sub, mul}
 use lib.Ieee.Fits.{down_pos}
 use lib.Ieee.Exact.{HasValue}
 use lib.Ieee.Scale.{round_same}
-use Rattle.elementary.proofs.Laws.Leaf.{same_test}
+use Rattle.std.proofs.lemmas.Bool.{ltb-true, ltb_from_iff}
+use borrow.Author.Tests.{lt-ltb}
 
 pub sub_mul : (a b q : ℕ) → (a - b) * q ≡ a * q - b * q
 sub_mul a b q = mul_comm (a - b) q ∙ mul-sub q a b ∙ ap (λ (z : ℕ). z - q * b) (mul_comm q a) ∙ ap (λ (z : ℕ). a * q - z) (mul_comm q b)
@@ -22,7 +23,7 @@ module _ (f : Format) (a b c a' b' c' : ℕ) (C : 0 < c) (C' : 0 < c') (p : a * 
   lt_forth x y x' y' g h l = lt_of_mul-lt-mul_right c' (subst (λ (z : ℕ). z < y * c') (sym g) (subst (λ (z : ℕ). x' * c < z) (sym h) (mul-lt-mul_of_pos_right l C)))
 
   same_ltb : (x y x' y' : ℕ) → x * c' ≡ x' * c → y * c' ≡ y' * c → ltb x y ≡ ltb x' y'
-  same_ltb x y x' y' g h = same_test (ltb x y) (ltb x' y') (λ t. lt→ltb x' y' (lt_back x y x' y' g h (ltb→lt x y t))) (λ t. lt→ltb x y (lt_forth x y x' y' g h (ltb→lt x' y' t)))
+  same_ltb x y x' y' g h = ltb_from_iff (λ t. lt_back x y x' y' g h (ltb-true x y t), λ l. lt-ltb x y (lt_forth x y x' y' g h l))
 
   same_diff : (u : Bool) (x y x' y' : ℕ) → x * c' ≡ x' * c → y * c' ≡ y' * c → round f u (x - y) c ≡ round f u (x' - y') c'
   same_diff u x y x' y' g h =

@@ -5,10 +5,9 @@ use Prim.Native.Nat.{ℕ, ◌+◌, ◌*◌, ◌%◌, ◌^◌, ◌<◌, ◌≤◌
 use native.Mathlib.Omega.{arith}
 use lib.Dec.{T, leb, eqb, eqb_refl, lt→ltb, le→leb, nleb→lt}
 use lib.Arith.{le→nltb, lt→nleb}
-use lib.Ieee.{Float, nan, inf, fin, binary64, up, down, eq, ne, lt, div, neg, is_nan, fits, of_bits, to_bits, nan_bits}
+use lib.Ieee.{Float, nan, inf, fin, binary64, up, down, eq, ne, lt, neg, is_nan, fits, of_bits, to_bits, nan_bits}
 use lib.Ieee.Fits.{neg-fits}
 use lib.Ieee.Bits.{is_true, is_false, to_bits-lt, of_bits-to_bits, nan_bits_is, nan_bits_above}
-use lib.Ieee.Compare.{differs_from_itself}
 use Rattle.elementary.specs.Methods.{abs_of, sign_of}
 
 -- ---- NaN
@@ -26,15 +25,11 @@ is_nan_lem nan h = refl
 is_nan_lem (inf s) h = absurd h
 is_nan_lem (fin s m e) h = absurd h
 
-pub differs : (x : Float) → ne x x ≡ true → x ≡ nan
-differs x h = differs_from_itself x (rw h tt)
+pub nan_by : (x : Float) → true ≡ is_nan x → x ≡ nan
+nan_by x h = is_nan_lem x (rw (← h) tt)
 
 pub no_nan : (x : Float) → ne x x ≡ false → T (not (is_nan x))
 no_nan x h = rw (← ne_self x, h) tt
-
-pub nan_quotient : div binary64 (of_bits binary64 0) (of_bits binary64 0) ≡ nan
-unfolding div of_bits
-nan_quotient = refl
 
 pub nan_pattern : (b : ℕ) → 2047 * 2 ^ 52 < b % 2 ^ 63 → of_bits binary64 b ≡ nan
 nan_pattern b h = is_nan_lem _ (rw (← nan_bits_is binary64 b, nan_bits_above binary64 b) (lt→ltb (2047 * 2 ^ 52) (b % 2 ^ 63) h))
@@ -105,12 +100,6 @@ module _ (x : Float) (f : T (fits binary64 x)) (n : T (not (is_nan x))) where
   -- the sign is the first bit
   pub sign_bit : sign_of x ≡ leb (2 ^ 63) (to_bits binary64 x)
   sign_bit = (cut (sign_of x) _ _ (split x f n).0 (split x f n).1).1
-
-  pub sign_clear : to_bits binary64 x < 2 ^ 63 → sign_of x ≡ false
-  sign_clear h = sign_bit ∙ is_false _ (lt→nleb (2 ^ 63) _ h)
-
-  pub sign_set : 2 ^ 63 ≤ to_bits binary64 x → sign_of x ≡ true
-  sign_set h = sign_bit ∙ is_true _ (le→leb (2 ^ 63) _ h)
 
   pub no_sign : sign_of x ≡ false → to_bits binary64 x < 2 ^ 63
   no_sign h = nleb→lt (2 ^ 63) (to_bits binary64 x) (rw (← sign_bit, h) tt)

@@ -1,17 +1,19 @@
 -- A finite float's bit pattern gives its sign, its significand and its exponent. Assumes nothing.
-use mathlib.Core.Path.{◌≡◌, refl, sym, ap, ◌∙◌, subst}
+use mathlib.Core.Path.{◌≡◌, refl, sym, ap, ◌∙◌}
 use mathlib.Core.Logic.{inl, inr}
-use mathlib.Core.Bool.{Bool, true, false, not, true≢false, false≢true}
+use mathlib.Core.Bool.{Bool, not}
 use Prim.Native.Nat.{ℕ, suc, ◌+◌, ◌-◌, ◌*◌, ◌/◌, ◌%◌, ◌^◌, ◌≤◌, ◌<◌}
-use native.Mathlib.Nat.{lt_of_lt_of_le, not-le_of_lt, le_of_suc-le-suc, lt_of_not-le, eq-or-lt_of_le, mul_assoc, lt_of_mul-lt-mul_right, le_of_mul-le-mul_right, mul-mod_left, lt_irrefl}
+use native.Mathlib.Nat.{le_trans, le_of_eq, lt_of_lt_of_le, not-le_of_lt, lt_of_not-le, eq-or-lt_of_le, mul_assoc, mul-le-mul_right, mul-lt-mul_of_pos_right, mul-mod_left}
 use native.Mathlib.Omega.{arith}
-use lib.Dec.{T, leb, lit<}
-use lib.Pow.{pow-add, pow_pos, pow_mono, shl_lt}
-use lib.Ieee.{Float, nan, inf, fin, binary64, of_bits, to_bits, fits, is_nan, lt, neg}
+use lib.Dec.{T, leb}
+use lib.Count.{count_leading_zeros, leading_top}
+use lib.Pow.{pow-add, pow_pos, pow_mono}
+use lib.Ieee.{Float, nan, inf, fin, binary64, to_bits, fits, is_nan}
+use Rattle.std.specs.Float.{float_is_finite}
 use lib.Ieee.Exact.{HasValue}
 use lib.Ieee.Bits.{of_bits-to_bits}
 use lib.Ieee.Scale.{finite}
-use Rattle.elementary.specs.Inside.Round.{LeadingZeros, PartsOf, SubnormalParts}
+use Rattle.elementary.specs.Inside.Round.{Digits, PartsOf}
 use Rattle.elementary.proofs.Laws.Bits.{nan_pattern}
 use Rattle.elementary.proofs.Laws.Values.{revalue, value_low, value_mid, value_inf}
 
@@ -22,19 +24,12 @@ finite_no_nan nan h = absurd h
 finite_no_nan (inf s) h = absurd h
 finite_no_nan (fin s m e) h = tt
 
--- as the program tests it
-pub finite_yes : (x : Float) → lt x (of_bits binary64 0x7ff0_0000_0000_0000) ≡ true → lt (neg (of_bits binary64 0x7ff0_0000_0000_0000)) x ≡ finite x
-unfolding lt neg of_bits
-finite_yes nan h = absurd (false≢true h)
-finite_yes (inf true) h = refl
-finite_yes (inf false) h = absurd (false≢true h)
-finite_yes (fin s m e) h = refl
-
-pub finite_no : (x : Float) → lt x (of_bits binary64 0x7ff0_0000_0000_0000) ≡ false → false ≡ finite x
-unfolding lt neg of_bits
-finite_no nan h = refl
-finite_no (inf s) h = refl
-finite_no (fin s m e) h = absurd (true≢false h)
+-- std's word for it
+pub std_finite : (x : Float) → float_is_finite x ≡ finite x
+unfolding float_is_finite
+std_finite nan = refl
+std_finite (inf s) = refl
+std_finite (fin s m e) = refl
 
 -- ---- powers of 2 in a value's fraction
 pub split_power : (q i k l : ℕ) → i ≡ k + l → q * 2 ^ i ≡ q * 2 ^ k * 2 ^ l
@@ -57,15 +52,13 @@ module _ (x : Float) (F : T (fits binary64 x)) where
   abbrev t : ℕ
   t = b % 2 ^ 52
 
-  pub low_value : f ≡ 0 → (m e : ℕ) → SubnormalParts t m e → PartsOf x s m e
+  pub low_value : f ≡ 0 → (m e : ℕ) → m * 2 ^ e ≡ t * 2 ^ 64 → PartsOf x s m e
   low_value z m e L =
       let v : HasValue x s (b % 2 ^ 63) (2 ^ 1074) = rw (of_bits-to_bits binary64 x F) at (value_low b (omega arith)) in
       record {
         value = revalue x s (b % 2 ^ 63) (2 ^ 1074) (m * 2 ^ e) (2 ^ 1138) (pow_pos 1074)
-            (ap (λ (w : ℕ). w * 2 ^ 1138) (omega arith) ∙ split_power t 1138 64 1074 refl ∙ ap (λ (w : ℕ). w * 2 ^ 1074) (sym L.same)) v;
-        whole = ap (λ (w : ℕ). w % 2 ^ 64) L.same ∙ mul-mod_left t (2 ^ 64);
-        room = L.room;
-        digits = L.digits;
+            (ap (λ (w : ℕ). w * 2 ^ 1138) (omega arith) ∙ split_power t 1138 64 1074 refl ∙ ap (λ (w : ℕ). w * 2 ^ 1074) (sym L)) v;
+        whole = ap (λ (w : ℕ). w % 2 ^ 64) L ∙ mul-mod_left t (2 ^ 64);
       }
 
   pub normal_value : 0 < f → f < 2047 → PartsOf x s (2 ^ 52 + t) (f + 63)
@@ -74,8 +67,6 @@ module _ (x : Float) (F : T (fits binary64 x)) where
       record {
         value = revalue x s ((2 ^ 52 + t) * 2 ^ (f - 1)) (2 ^ 1074) ((2 ^ 52 + t) * 2 ^ (f + 63)) (2 ^ 1138) (pow_pos 1074) (same_power (2 ^ 52 + t) (f - 1) 1138 (f + 63) 1074 (omega arith)) v;
         whole = ap (λ (w : ℕ). w % 2 ^ 64) (split_power (2 ^ 52 + t) (f + 63) (f - 1) 64 (omega arith)) ∙ mul-mod_left ((2 ^ 52 + t) * 2 ^ (f - 1)) (2 ^ 64);
-        room = omega arith;
-        digits = λ _. record { lead = omega arith; top = omega arith; least = omega arith; room = omega arith };
       }
 
   -- the field of an infinity or a NaN is not a finite value's
@@ -86,26 +77,27 @@ module _ (x : Float) (F : T (fits binary64 x)) where
   ])
 
 -- ---- the digits of a subnormal value
-pub far_up : (t z : ℕ) → t < 2 ^ 52 → LeadingZeros t z → 12 ≤ z
-far_up t z h L = le_of_suc-le-suc (lt_of_not-le (λ (g : suc z ≤ 12). not-le_of_lt (lt_of_lt_of_le (shl_lt 52 z h) (pow_mono {i = 52 + z} {j = 63} (omega arith))) L.low))
+module _ (t : ℕ) (h : t < 2 ^ 52) (p : (t ≡ 0 → ⊥)) where
+  abbrev z : ℕ
+  z = count_leading_zeros 64 t
 
-module _ (t z : ℕ) (h : t < 2 ^ 52) (L : LeadingZeros t z) where
-  split : t * 2 ^ z ≡ t * 2 ^ (z - 11) * 2 ^ 11
-  split = split_power t z (z - 11) 11 (omega (arith, far_up t z h L))
+  leads : (j : ℕ) × (z + suc j ≡ 64) × (2 ^ j ≤ t) × (t < 2 ^ suc j)
+  leads = leading_top 64 t (omega arith) (omega arith)
+
+  pub far_up : 12 ≤ z
+  far_up = lt_of_not-le (λ (g : z ≤ 11). not-le_of_lt h (le_trans (pow_mono {i = 52} {j = leads.0} (omega (arith, leads.1))) leads.2))
+
+  up : (i : ℕ) → 2 ^ i * 2 ^ (z - 11) ≡ 2 ^ (i + (z - 11))
+  up i = sym (pow-add 2 i (z - 11))
+
+  pub up_low : 2 ^ 52 ≤ t * 2 ^ (z - 11)
+  up_low = le_trans (le_of_eq (ap (λ (i : ℕ). 2 ^ i) {x = 52} {y = leads.0 + (z - 11)} (omega (arith, leads.1, far_up)) ∙ sym (up leads.0))) (mul-le-mul_right (2 ^ (z - 11)) leads.2)
 
   pub up_top : t * 2 ^ (z - 11) < 2 ^ 53
-  up_top = lt_of_mul-lt-mul_right (2 ^ 11) (subst (λ (w : ℕ). w < 2 ^ 64) split L.high)
+  up_top = lt_of_lt_of_le (mul-lt-mul_of_pos_right leads.3 (pow_pos (z - 11))) (le_of_eq (up (suc leads.0) ∙ ap (λ (i : ℕ). 2 ^ i) {x = suc leads.0 + (z - 11)} {y = 53} (omega (arith, leads.1, far_up))))
 
-  pub subnormal_shift : (m : ℕ) → m ≡ t * 2 ^ (z - 11) → SubnormalParts t m (64 - (z - 11))
-  subnormal_shift m e = record {
-    same = ap (λ (w : ℕ). w * 2 ^ (64 - (z - 11))) e ∙ sym (split_power t 64 (z - 11) (64 - (z - 11)) (omega arith));
-    room = omega arith;
-    digits = λ _. record { lead = rw e (le_of_mul-le-mul_right {k = 2 ^ 11} (subst (λ (w : ℕ). 2 ^ 63 ≤ w) split L.low) (pow_pos 11)); top = rw e up_top; least = omega arith; room = omega arith };
-  }
+  pub up_digits : Digits (t * 2 ^ (z - 11)) (64 - (z - 11))
+  up_digits = record { lead = up_low; top = up_top; least = omega (arith, leads.1); room = omega arith }
 
-pub subnormal_zero : (t : ℕ) → t ≡ 0 → SubnormalParts t 0 64
-subnormal_zero t e = record {
-  same = sym (ap (λ (w : ℕ). w * 2 ^ 64) e);
-  room = lit< tt;
-  digits = λ p. absurd (lt_irrefl 0 p);
-}
+  pub up_same : t * 2 ^ (z - 11) * 2 ^ (64 - (z - 11)) ≡ t * 2 ^ 64
+  up_same = sym (split_power t 64 (z - 11) (64 - (z - 11)) (omega (arith, leads.1)))

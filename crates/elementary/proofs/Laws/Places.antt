@@ -65,7 +65,7 @@ module _ (p w : ℕ) (P : 2 ≤ p) where
   lower v d l = let n : q * 2 ^ k < v → ⊥ = λ g. not-le_of_lt l (gap v d g) in omega arith
 
 -- ---- the tail of a number that is written with p digits or a carry to 2 ^ p
-size_gt : (n j : ℕ) → 2 ^ j ≤ n → j < size n
+pub size_gt : (n j : ℕ) → 2 ^ j ≤ n → j < size n
 size_gt n j h = lt_of_not-le (λ (g : size n ≤ j). not-le_of_lt (lt_of_lt_of_le (size-lt n) (pow_mono g)) h)
 
 lead_plain : (p Q k : ℕ) → 2 ≤ p → (0 < k → 2 ^ (p - 1) ≤ Q) → Q < 2 ^ p → lead p (Q * 2 ^ k) ≡ Q

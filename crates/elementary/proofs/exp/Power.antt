@@ -2,7 +2,7 @@
 use mathlib.Core.Path.{◌≡◌, refl, sym, ap, ◌∙◌, subst}
 use mathlib.Core.Bool.{Bool, true, false}
 use Prim.Native.Nat.{ℕ, ◌+◌, ◌-◌, ◌*◌, ◌^◌, ◌≤◌, ◌<◌}
-use native.Mathlib.Nat.{mul_assoc, mul_comm, mul-pos, one-mul, zero-add}
+use native.Mathlib.Nat.{mul_assoc, mul_comm, mul-pos, one-mul}
 use native.Mathlib.Omega.{arith}
 use lib.Dec.{T}
 use lib.IntN.{ℤ}
@@ -38,11 +38,10 @@ scaled_at f x s a d e l P h =
 
 -- ---- the digits at their new place
 pub far_is : (x : Float) (s : Bool) (m i e : ℕ) → 960 ≤ e → HasValue x s (m * 2 ^ i) (2 ^ 1138)
-    → round binary64 s ((0 * 2 ^ 64 + m) * 2 ^ (i + e - 782)) (2 ^ 2404) ≡ scaled binary64 x (minus e 2048)
+    → round binary64 s (m * 2 ^ (i + e - 782)) (2 ^ 2404) ≡ scaled binary64 x (minus e 2048)
 far_is x s m i e h v =
-    round_same binary64 s ((0 * 2 ^ 64 + m) * 2 ^ (i + e - 782)) (2 ^ 2404) (m * 2 ^ i * 2 ^ e) (2 ^ 1138 * 2 ^ 2048) (pow_pos 2404) (mul-pos (pow_pos 1138) (pow_pos 2048))
-    (ap (λ (z : ℕ). z * 2 ^ (i + e - 782) * 2 ^ 3186) (zero-add m)
-    ∙ same_power m (i + e - 782) 3186 (i + e) 2404 (omega arith)
+    round_same binary64 s (m * 2 ^ (i + e - 782)) (2 ^ 2404) (m * 2 ^ i * 2 ^ e) (2 ^ 1138 * 2 ^ 2048) (pow_pos 2404) (mul-pos (pow_pos 1138) (pow_pos 2048))
+    (same_power m (i + e - 782) 3186 (i + e) 2404 (omega arith)
     ∙ ap (λ (z : ℕ). z * 2 ^ 2404) (ap (λ (z : ℕ). m * z) (pow-add 2 i e) ∙ sym (mul_assoc m (2 ^ i) (2 ^ e))))
     ∙ sym (scaled_at binary64 x s (m * 2 ^ i) (2 ^ 1138) e 2048 (pow_pos 1138) v)
 

@@ -2,16 +2,16 @@
 use mathlib.Core.Path.{◌≡◌, refl, sym, ap, ◌∙◌}
 use mathlib.Core.Logic.{◌⊎◌, ⊎_elim}
 use mathlib.Core.Bool.{Bool, true, false, beq}
-use Prim.Native.Nat.{ℕ, ◌+◌, ◌*◌, ◌^◌, ◌<◌}
-use native.Mathlib.Nat.{mul_assoc, mul_comm, mul_left_comm, mul-mul-mul_comm, mul-pos, mul-zero, mul-one, add-zero, zero-mul, zero-lt-suc}
+use Prim.Native.Nat.{ℕ, ◌*◌, ◌^◌, ◌<◌}
+use native.Mathlib.Nat.{mul_assoc, mul_comm, mul_left_comm, mul-pos, mul-zero, mul-one, zero-mul, zero-lt-suc}
 use native.Mathlib.Omega.{arith}
 use lib.IntN.{pos}
 use lib.Ieee.{Float, nan, inf, fin, Format, binary64, unlike, up, down, round, sum, add, mul}
 use lib.Ieee.Fits.{down_pos}
 use lib.Ieee.Exact.{HasValue}
-use lib.Pow.{pow-add, pow_pos}
+use lib.Pow.{pow_pos}
 use Rattle.elementary.specs.MulAdd.{fma}
-use Rattle.elementary.specs.Inside.Round.{PartsOf, wide}
+use Rattle.elementary.specs.Inside.Round.{PartsOf}
 use Rattle.elementary.proofs.mul_add.Sums.{sum_same, sum_more}
 use Rattle.elementary.proofs.Laws.Adding.{sum_value, add_at, mul_value}
 
@@ -52,9 +52,6 @@ at_zero : (s : Bool) → round binary64 s 0 (D * D) ≡ fin s 0 (pos 0)
 unfolding round
 at_zero s = refl
 
-regroup : (a b x y u w : ℕ) → a * x * (b * y) * (u * u * w) ≡ a * u * (b * u) * (x * y * w)
-regroup a b x y u w = simp (mul_assoc, mul_comm, mul_left_comm)
-
 module _ {x y z : Float} {s t v : Bool} {a i b j c k : ℕ} (p : PartsOf x s a i) (q : PartsOf y t b j) (r : PartsOf z v c k) where
   abbrev A : ℕ
   A = a * 2 ^ i
@@ -87,8 +84,5 @@ module _ {x y z : Float} {s t v : Bool} {a i b j c k : ℕ} (p : PartsOf x s a i
       product_is ∙ sym (fma_is 1 (zero-lt-suc 0) ∙ rw (mul-one (A * B)) (sum_zero binary64 (unlike s t) v (A * B) (C * (1 * D)) (D * D) some none))
 
   -- as the program has the two fractions
-  pub scaled_sum : fma binary64 x y z ≡ sum binary64 (unlike s t) (a * 64 * (b * 64) * 2 ^ (i + j + 116)) v (wide c 0 * 2 ^ (k + 1202)) (2 ^ 2404)
-  scaled_sum =
-      let m : A * B * 2 ^ 128 ≡ a * 64 * (b * 64) * 2 ^ (i + j + 116) = rw (pow-add 2 (i + j) 116, pow-add 2 i j) (regroup a b (2 ^ i) (2 ^ j) 64 (2 ^ 116)) in
-      let n : C * (2 ^ 128 * D) ≡ wide c 0 * 2 ^ (k + 1202) = rw (pow-add 2 k 1202, add-zero (c * 2 ^ 64)) (mul-mul-mul_comm c (2 ^ k) (2 ^ 64) (2 ^ 1202)) in
-      fma_is (2 ^ 128) (pow_pos 128) ∙ rw (m, n)
+  pub scaled_sum : sum binary64 (unlike s t) (A * B * 2 ^ 128) v (C * 2 ^ 1266) (2 ^ 2404) ≡ fma binary64 x y z
+  scaled_sum = sym (fma_is (2 ^ 128) (pow_pos 128))

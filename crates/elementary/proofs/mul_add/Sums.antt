@@ -1,22 +1,23 @@
 -- Signed sums of two fractions: `sum` by its cases, and the leading digits of the sum and the difference where the smaller number is cut. Assumes nothing.
-use mathlib.Core.Path.{◌≡◌, sym, ap, ◌∙◌}
+use mathlib.Core.Path.{◌≡◌, sym, ap, ◌∙◌, subst}
 use mathlib.Core.Logic.{◌⊎◌, inl, inr}
 use mathlib.Core.Bool.{Bool, true, false, ◌&&◌, beq, cond, and-true, and-false}
-use Prim.Native.Nat.{ℕ, zero, suc, ◌+◌, ◌-◌, ◌*◌, ◌/◌, ◌%◌, ◌^◌, ◌≤◌, ◌<◌, compare, Ordering}
-use native.Mathlib.Nat.{le_of_lt, lt_of_lt_of_le, eq-or-lt_of_le, eq-zero-or-pos, mul_assoc, mul_comm, mul_left_comm, mul-pos, mul-le-mul_right, mul-lt-mul_of_pos_right, div-add-mod', div-le_self, div-lt_iff_lt-mul, add-mul, add_comm, suc-mul, zero-mul, zero-mod, mod-lt, mul-div-mul_right, mul-add-div_right, mul-add-mod_self_right}
+use Prim.Native.Nat.{ℕ, ◌+◌, ◌-◌, ◌*◌, ◌/◌, ◌^◌, ◌≤◌, ◌<◌, compare, Ordering}
+use native.Mathlib.Nat.{le_of_lt, eq-or-lt_of_le, mul_assoc, mul-pos, mul-le-mul_left, mul-le-mul_right, mul-lt-mul_of_pos_right, add-mul, add_comm, lt_of_mul-lt-mul_right}
 use native.Mathlib.Decide.{dec_le}
 use native.Mathlib.Omega.{arith}
 use borrow.Author.Tests.{lt-ltb, le-ltb}
 use lib.Dec.{ltb}
-use lib.Arith.{digits_div, digits_mod}
-use lib.Pow.{pow_pos, pow_mono, shr_lt, mod-mod-pow}
-use lib.Ieee.{Float, Format, binary64, round, sum}
-use Rattle.elementary.specs.Inside.Round.{Cut, Flag, Rounds, wide}
-use Rattle.elementary.proofs.Laws.Leaf.{mul_mod_mul, zero_of_mul}
+use lib.Ieee.Positive.{first_pos}
+use lib.Pow.{pow-add, pow_pos, pow_mono}
+use lib.Ieee.{Format, binary64, round, sum}
+use Rattle.std.specs.Float.MulAdd.{IsStickyApprox, IsExactOrSticky, IsRoundable}
+use Rattle.elementary.specs.Inside.MulAdd.{Scaled, Adds}
 use Rattle.elementary.proofs.Laws.Powers.{pow_split}
 use Rattle.elementary.proofs.Laws.Ordering.{Cmp, cmp}
 use Rattle.elementary.proofs.Laws.Adding.{sub_mul}
-use Rattle.elementary.proofs.Laws.Words.{exact_cut}
+use Rattle.std.proofs.lemmas.Bool.{ltb-true, ltb_from_iff}
+use Rattle.elementary.proofs.Laws.Sticky.{times, exact}
 
 -- ---- `sum` by its cases
 pub sum_same : (f : Format) (s t : Bool) (a b c : ℕ) → beq s t ≡ true → sum f s a t b c ≡ round f s (a + b) c
@@ -51,103 +52,88 @@ sum_comm f true false a b c = unlike_comm f a b c
 sum_comm f false true a b c = sym (unlike_comm f b a c)
 sum_comm f false false a b c = rw (add_comm a b)
 
--- ---- l * 2 ^ le and s * 2 ^ se, where s is cut to y at the exponent le and x says whether anything is cut off
-pub record Aligned (l le s se y x : ℕ) : Type 0 where
-  pub low : 2 ^ 116 ≤ l
-  pub high : l < 2 ^ 118
-  pub top : s < 2 ^ 118
-  pub even : s % 4 ≡ 0
+-- ---- l at the exponent le, and s at se, where y stands for s at le
+pub record Aligned (l le s se y : ℕ) : Type 0 where
+  pub large : Scaled l le
+  pub small : Scaled s se
   pub order : se ≤ le
-  pub part : y ≡ s / 2 ^ (le - se)
-  pub rest : Flag x (s % 2 ^ (le - se))
+  pub near : IsExactOrSticky y (2 ^ (le - se)) s
 
--- a cut fraction, both parts times g
-cut_scale : {A B v x : ℕ} (g : ℕ) → 0 < B → 0 < g → Cut A B v x → Cut (A * g) (B * g) v x
-cut_scale {A} {B} g P G C = record {
-  whole = mul-div-mul_right A B G ∙ C.whole;
-  none = λ z. mul_mod_mul A B g P G ∙ ap (λ (t : ℕ). t * g) (C.none z) ∙ zero-mul g;
-  some = λ z. C.some (zero_of_mul (A % B) g G (sym (mul_mod_mul A B g P G) ∙ z));
-}
+module _ {l le s se y : ℕ} (A : Aligned l le s se y) where
+  abbrev u : ℕ
+  u = 2 ^ le
 
-module _ {l le s se y x : ℕ} (A : Aligned l le s se y x) where
-  abbrev Q : ℕ
-  Q = 2 ^ (le - se)
+  abbrev a : ℕ
+  a = l * 2 ^ le
 
-  abbrev P : 0 < Q
-  P = pow_pos (le - se)
+  abbrev b : ℕ
+  b = s * 2 ^ se
 
-  split : s ≡ y * Q + s % Q
-  split = rw A.part (sym (div-add-mod' s Q))
+  -- y by itself
+  stands : IsExactOrSticky y u b
+  stands = subst (λ (z : ℕ). IsExactOrSticky y z b) (sym (pow_split se le A.order)) (times y (2 ^ (le - se)) s (2 ^ se) (pow_pos se) A.near)
 
-  flag_none : x ≡ 0 → s % Q ≡ 0
-  flag_none z = elim (eq-zero-or-pos (s % Q)) [ inl e ↦ e | inr p ↦ absurd (omega (arith, A.rest.some p)) ]
-
-  pub flag_le : x ≤ 1
-  flag_le = elim (eq-zero-or-pos (s % Q)) [ inl e ↦ omega (arith, A.rest.none e) | inr p ↦ omega (arith, A.rest.some p) ]
-
-  pub part_top : y < 2 ^ 118
-  part_top = omega (arith, A.part, A.top, div-le_self s Q)
+  whole : y * 2 ^ (le - se) ≡ s → y * u ≡ b
+  whole e = ap (λ (z : ℕ). y * z) (pow_split se le A.order) ∙ sym (mul_assoc y (2 ^ (le - se)) (2 ^ se)) ∙ ap (λ (z : ℕ). z * 2 ^ se) e
 
   -- digits are lost only of an s far below l
-  pub exact_or_far : (x ≡ 0) ⊎ (y < 2 ^ 115)
-  exact_or_far = go (dec_le (le - se) 2)
+  abbrev ExactOrFar : Type 0
+  ExactOrFar = (y * u ≡ b) ⊎ (IsStickyApprox y u b × (y ≤ 2 ^ 115))
+
+  exact_or_far : ExactOrFar
+  exact_or_far = go A.near stands (dec_le (le - se) 2)
     where
-      go : Dec (le - se ≤ 2) → (x ≡ 0) ⊎ (y < 2 ^ 115)
-      go (yes h) =
+      go : IsExactOrSticky y (2 ^ (le - se)) s → IsExactOrSticky y u b → Dec (le - se ≤ 2) → ExactOrFar
+      go (inl e) t d = inl (whole e)
+      go near (inl e) d = inl e
+      go near (inr t) (yes h) =
           let e : 2 - (le - se) + (le - se) ≡ 2 = omega arith in
-          inl (A.rest.none (sym (rw (e, A.even) at (mod-mod-pow s (2 - (le - se)) (le - se))) ∙ zero-mod Q))
-      go (no h) = inr (rw A.part (shr_lt 115 (le - se) (lt_of_lt_of_le A.top (pow_mono {i = 118} {j = 115 + (le - se)} (omega arith)))))
+          let q = s / 4 * 2 ^ (2 - (le - se)) in
+          let z : s ≡ q * 2 ^ (le - se) = omega (arith, A.small.even) ∙ ap (λ (k : ℕ). s / 4 * k) (ap (λ (k : ℕ). 2 ^ k) (sym e) ∙ pow-add 2 (2 - (le - se)) (le - se)) ∙ sym (mul_assoc (s / 4) (2 ^ (2 - (le - se))) (2 ^ (le - se))) in
+          let i = exact y (2 ^ (le - se)) q (subst (IsExactOrSticky y (2 ^ (le - se))) z near) (pow_pos (le - se)) in
+          inl (whole (ap (λ (k : ℕ). k * 2 ^ (le - se)) i ∙ sym z))
+      go (inr r) (inr t) (no h) =
+          let m : 2 ^ 115 * 2 ^ 3 ≤ 2 ^ 115 * 2 ^ (le - se) = mul-le-mul_left (2 ^ 115) (pow_mono {i = 3} {j = le - se} (omega arith)) in
+          let k : y < 2 ^ 115 + 1 = lt_of_mul-lt-mul_right (2 ^ (le - se)) (omega (arith, r.1, A.small.top)) in
+          inr (t, omega arith)
 
-  pub flag_fits : {v : ℕ} → y < l → v ≡ l - y → wide 0 x ≤ v
-  flag_fits h e = omega (arith, flag_le)
+  module _ (m n : Bool) where
+    pub plus : beq m n ≡ true → Adds m a n b m (l + y) le
+    plus h r R = R (a + b) (go exact_or_far) ∙ sym (sum_same binary64 m n a b (2 ^ 2404) h)
+      where
+        go : ExactOrFar → IsRoundable (l + y) u (a + b)
+        go (inl e) = inl (omega arith)
+        go (inr t) = inr ((omega (arith, t.0.0, A.large.even), omega (arith, t.0.1), omega (arith, t.0.2)), omega (arith, A.large.lead))
 
-  pub difference_ready : {w : ℕ} → y < l → w ≡ l - y - x → (0 < w) × (w < 2 ^ 64 → x ≡ 0)
-  difference_ready h e = elim exact_or_far [ inl z ↦ omega arith | inr k ↦ omega (arith, flag_le, A.low) ]
+    pub minus : beq m n ≡ false → y < l → Adds m a n b m (l - y) le
+    minus h k r R =
+        let z = go exact_or_far in
+        R (a - b) z.1 ∙ sym (sum_more binary64 m n a b (2 ^ 2404) h z.0)
+      where
+        d : l ≡ l - y + y
+        d = omega arith
 
-  -- the sum and the difference by the unit 2 ^ se, cut to the unit 2 ^ le
-  plus : Cut (l * Q + s) Q (l + y) x
-  plus = record {
-    whole = rw A.part (mul-add-div_right P l s);
-    none = λ z. mul-add-mod_self_right l Q s ∙ flag_none z;
-    some = λ z. A.rest.none (sym (mul-add-mod_self_right l Q s) ∙ z);
-  }
+        split : a ≡ (l - y) * u + y * u
+        split = ap (λ (z : ℕ). z * u) d ∙ add-mul (l - y) y u
 
-  minus : y < l → Cut (l * Q - s) Q (l - y - x) x
-  minus h = elim (eq-zero-or-pos (s % Q)) [
-    | inl e ↦ let z : l - y - 0 ≡ l - y = omega arith in rw (A.rest.none e, z) (exact_cut (l * Q - s) Q (l - y) P (omega (arith, split, sub_mul l y Q)))
-    | inr p ↦
-        let w = l - y - 1 in
-        let L : l * Q ≡ w * Q + y * Q + Q = ap (λ (z : ℕ). z * Q) (omega arith) ∙ suc-mul (w + y) Q ∙ ap (λ (z : ℕ). z + Q) (add-mul w y Q) in
-        let m = mod-lt s P in
-        let k : Q - s % Q < Q = omega (arith, P) in
-        let f : l * Q - s ≡ w * Q + (Q - s % Q) = omega (arith, split) in
-        rw (A.rest.some p, f) record { whole = digits_div w k; none = λ z. absurd (omega arith); some = λ z. absurd (omega (arith, digits_mod w k)) }
-  ]
+        go : ExactOrFar → (b < a) × IsRoundable (l - y) u (a - b)
+        go (inl e) = (omega (arith, mul-lt-mul_of_pos_right k (pow_pos le)), inl (omega (arith, split)))
+        go (inr t) =
+            let p : b < a = omega (arith, t.0.2, mul-le-mul_right u k) in
+            (p, inr ((omega (arith, t.0.0, A.large.even), omega (arith, split, t.0.2), omega (arith, split, t.0.1)), omega (arith, t.1, A.large.lead)))
 
-  rounded : {r : Float} (m : Bool) (N v : ℕ) → Cut N Q v x → Rounds r m v x le → r ≡ round binary64 m (N * 2 ^ se) (2 ^ 2404)
-  rounded m N v C R =
-      let e : 2 ^ 2404 * 2 ^ le ≡ Q * (2 ^ se * 2 ^ 2404) = rw (pow_split se le A.order) (simp (mul_assoc, mul_comm, mul_left_comm)) in
-      R (N * 2 ^ se) (2 ^ 2404) (pow_pos 2404) (rw (mul_assoc N (2 ^ se) (2 ^ 2404), e) (cut_scale (2 ^ se * 2 ^ 2404) P (mul-pos (pow_pos se) (pow_pos 2404)) C))
+    -- the second number is not the smaller one
+    pub other : beq m n ≡ false → l ≤ y → Adds m a n b (n && ltb l y) (y - l) le
+    other h k r R =
+        let e : y * u ≡ b = elim exact_or_far [ inl e ↦ e | inr t ↦ absurd (omega (arith, t.1, A.large.lead)) ] in
+        let f : (y - l) * u ≡ b - a = sub_mul y l u ∙ ap (λ (z : ℕ). z - a) e in
+        let g : a ≤ b = omega (arith, mul-le-mul_right u k) in
+        R (b - a) (inl f)
+        ∙ ap (λ (t : Bool). round binary64 (n && t) (b - a) (2 ^ 2404)) (ltb_from_iff (λ t. rw (← f) (mul-pos (positive (ltb-true l y t)) (pow_pos le)), λ p. lt-ltb l y (from p f)))
+        ∙ sym (sum_less binary64 m n a b (2 ^ 2404) h g)
+      where
+        positive : l < y → 0 < y - l
+        positive t = omega arith
 
-  higher : l * 2 ^ le ≡ l * Q * 2 ^ se
-  higher = rw (pow_split se le A.order) (sym (mul_assoc l Q (2 ^ se)))
-
-  module _ {r : Float} {v : ℕ} (m n : Bool) where
-    pub sum_cut : beq m n ≡ true → v ≡ l + y → Rounds r m v x le → r ≡ sum binary64 m (l * 2 ^ le) n (s * 2 ^ se) (2 ^ 2404)
-    sum_cut b e R = rw (sum_same binary64 m n (l * 2 ^ le) (s * 2 ^ se) (2 ^ 2404) b, higher, ← add-mul (l * Q) s (2 ^ se)) (rounded m (l * Q + s) v (rw e plus) R)
-
-    pub difference_cut : beq m n ≡ false → y < l → v ≡ l - y - x → Rounds r m v x le → r ≡ sum binary64 m (l * 2 ^ le) n (s * 2 ^ se) (2 ^ 2404)
-    difference_cut b h e R =
-        let k : s * 2 ^ se < l * Q * 2 ^ se = mul-lt-mul_of_pos_right ((div-lt_iff_lt-mul P).0 (rw A.part at h)) (pow_pos se) in
-        rw (higher, sum_more binary64 m n (l * Q * 2 ^ se) (s * 2 ^ se) (2 ^ 2404) b k, ← sub_mul (l * Q) s (2 ^ se)) (rounded m (l * Q - s) v (rw e (minus h)) R)
-
-  -- the second number is not the smaller one
-  scale_pos : (v q : ℕ) → 0 < q → ltb 0 (v * q) ≡ ltb 0 v
-  scale_pos zero q h = rw (zero-mul q)
-  scale_pos (suc v) q h = rw (lt-ltb 0 (suc v * q) (mul-pos (omega arith) h), lt-ltb 0 (suc v) (omega arith))
-
-  pub difference_exact : (m n : Bool) (v : ℕ) → beq m n ≡ false → l ≤ y → v ≡ y - l → round binary64 (n && ltb 0 v) (v * 2 ^ le) (2 ^ 2404) ≡ sum binary64 m (l * 2 ^ le) n (s * 2 ^ se) (2 ^ 2404)
-  difference_exact m n v b h e =
-      let z : x ≡ 0 = elim exact_or_far [ inl z ↦ z | inr k ↦ absurd (omega (arith, A.low)) ] in
-      let S : s * 2 ^ se ≡ y * 2 ^ le = ap (λ (t : ℕ). t * 2 ^ se) (omega (arith, split, flag_none z)) ∙ mul_assoc y Q (2 ^ se) ∙ rw (pow_split se le A.order) in
-      rw (S, sum_less binary64 m n (l * 2 ^ le) (y * 2 ^ le) (2 ^ 2404) b (mul-le-mul_right (2 ^ le) h), ← sub_mul y l (2 ^ le), ← e, scale_pos v (2 ^ le) (pow_pos le))
+        from : 0 < b - a → (y - l) * u ≡ b - a → l < y
+        from p f = omega (arith, first_pos (y - l) u (omega arith))

@@ -1,12 +1,11 @@
 -- A root with one more digit in the base B, by Zimmermann's step. g is the root of the leading digits, u what is left there with the next digit of the
 -- radicand, l the digit after. Of u = 2 g h + ρ, h is the root's digit, or one more: then g B + h is above the root by less than 1. Assumes nothing.
 use mathlib.Core.Path.{◌≡◌, ap, sym, ◌∙◌, subst}
-use mathlib.Core.Logic.{◌⊎◌, inl, inr}
 use Prim.Native.Nat.{ℕ, suc, ◌+◌, ◌-◌, ◌*◌, ◌/◌, ◌%◌, ◌^◌, ◌≤◌, ◌<◌}
 use native.Mathlib.Nat.{mul_assoc, mul_comm, mul_left_comm, add-mul, mul-add, suc-mul, mul-le-mul, mul-le-mul_right, mod-lt, div-add-mod', div-lt_iff_lt-mul, le-div_iff_mul-le}
 use native.Mathlib.Omega.{arith}
 use lib.Ieee.Positive.{first_pos}
-use Rattle.elementary.proofs.Laws.Isqrt.{sq_lt, sq_suc}
+use Rattle.elementary.proofs.Laws.Isqrt.{sq_suc}
 use Rattle.elementary.specs.Inside.Sqrt.{Root}
 
 -- ---- products written out
@@ -18,16 +17,6 @@ left_of g B = simp (add-mul, mul_assoc) (omega arith)
 
 next_square : (g B : ℕ) → suc g * suc g * B ≡ g * g * B + (2 * g + 1) * B
 next_square g B = ap (λ (z : ℕ). z * B) (sq_suc g) ∙ simp add-mul (omega arith)
-
--- the first two digits of a root of 32
-pub first_digits : (a g : ℕ) → 2 ^ 62 ≤ a → a < 2 ^ 64 → ((9 * 2 ^ 60 ≤ a) × (g ≡ 3)) ⊎ ((a < 9 * 2 ^ 60) × (g ≡ 2))
-    → Root (a / 2 ^ 56 / 4 / 4) g × (0 < 4) × (4 ≤ 2 * g) × (g < 2 ^ 16)
-first_digits a g lo hi (inl (k, e)) = rw e (omega arith)
-first_digits a g lo hi (inr (k, e)) = rw e (omega arith)
-
--- a root's range
-pub root_range : (n g lo hi : ℕ) → Root n g → lo * lo ≤ n → n < hi * hi → (lo ≤ g) × (g < hi)
-root_range n g lo hi r a b = (omega (arith, sq_lt lo (suc g) (omega arith)), sq_lt g hi (omega arith))
 
 module _ {g u l B : ℕ} (pre : (g < 2 ^ 32) × (B ≤ 2 * g) × (B ≤ 2 ^ 22) × (l < B) × (u < (2 * g + 1) * B)) where
   abbrev h : ℕ
@@ -55,20 +44,11 @@ module _ {g u l B : ℕ} (pre : (g < 2 ^ 32) × (B ≤ 2 * g) × (B ≤ 2 ^ 22) 
   square_le : h * h ≤ 2 * (g * B)
   square_le = omega (arith, mul-le-mul h_le h_le, mul-le-mul_right {m = B} {n = 2 * g} B pre.1, mul_assoc 2 g B)
 
-  pub bounds : (g * B ≤ 2 ^ 54) × (h ≤ 2 ^ 22) × (ρ * B + l < 2 ^ 55) × (h * h ≤ 2 ^ 44)
-  bounds =
-      let a = mul-le-mul {n₁ = g} {m₁ = B} {n₂ = 2 ^ 32} {m₂ = 2 ^ 22} (omega arith) pre.2 in
-      let b = mul-le-mul {n₁ = h} {m₁ = h} {n₂ = 2 ^ 22} {m₂ = 2 ^ 22} (omega (arith, h_le)) (omega (arith, h_le)) in
-      (omega arith, omega (arith, h_le), omega (arith, rest_lt), omega arith)
-
   whole : n + h * h ≡ w * w + (ρ * B + l)
   whole = subst (λ (z : ℕ). (g * g * B + z) * B + l + h * h ≡ w * w + (ρ * B + l)) (div-add-mod' u (2 * g)) (square g B h ρ l)
 
   pub root_here : h * h ≤ ρ * B + l → Root n w
   root_here k = (omega (arith, whole), omega (arith, whole, rest_lt, sq_suc w))
-
-  pub above_nothing : ρ * B + l < h * h → 1 ≤ w
-  above_nothing k = omega (arith, first_pos h h (omega arith))
 
   pub root_below : ρ * B + l < h * h → Root n (w - 1)
   root_below k =

@@ -1,26 +1,17 @@
 -- What the contracts inside mul_add say of numbers. Assumes nothing.
-use Rattle.std.specs.Prelude.{◌≡◌, ℕ, ◌%◌, ◌^◌, ◌<◌, ◌≤◌}
-use Rattle.elementary.specs.Inside.Round.{wide}
+use Rattle.std.specs.Prelude.{◌≡◌, Bool, ℕ, ◌%◌, ◌^◌, ◌<◌, ◌≤◌, Float}
+use Rattle.std.specs.Float.{binary64}
+use Rattle.std.specs.Float.Ieee.{sum}
+use Rattle.elementary.specs.Inside.Round.{Rounds}
 
--- a number of two words that has 117 or 118 digits, the last two of them 0
-pub record Scaled (hi lo : ℕ) : Type 0 where
-  pub low : 2 ^ 116 ≤ wide hi lo
-  pub high : wide hi lo < 2 ^ 118
-  pub even : wide hi lo % 4 ≡ 0
+-- digits to add: 117 or 118, the last two of them 0, at an exponent that has room below it
+pub record Scaled (v e : ℕ) : Type 0 where
+  pub lead : 2 ^ 116 ≤ v
+  pub top : v < 2 ^ 118
+  pub even : v % 4 ≡ 0
+  pub least : 128 ≤ e
+  pub room : e < 2 ^ 30
 
--- what `sum_ordered` adds: l * 2 ^ le and s * 2 ^ se, the second's exponent not above the first's
-pub record SumOrdered (lh ll le sh sl se : ℕ) : Type 0 where
-  pub large : Scaled lh ll
-  pub small : Scaled sh sl
-  pub order : se ≤ le
-  pub low : 64 ≤ le
-  pub high : le < 2 ^ 30
-
--- what `sum_wide` adds: the same with the exponents in any order
-pub record SumWide (lh ll le sh sl se : ℕ) : Type 0 where
-  pub first : Scaled lh ll
-  pub second : Scaled sh sl
-  pub low : 64 ≤ le
-  pub high : le < 2 ^ 30
-  pub low' : 64 ≤ se
-  pub high' : se < 2 ^ 30
+-- what ±v * 2 ^ e rounds to, its last digit standing for more, is the sum ±a ± b, in units of 2 ^ -2404
+abbrev pub Adds : Bool → ℕ → Bool → ℕ → Bool → ℕ → ℕ → Type 0
+Adds m a n b s v e = (r : Float) → Rounds r s v e → r ≡ sum binary64 m a n b (2 ^ 2404)

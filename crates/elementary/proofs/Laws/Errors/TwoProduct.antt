@@ -11,7 +11,7 @@ use Rattle.elementary.specs.MulAdd.{fma}
 use Rattle.elementary.proofs.Laws.Decode.{split_power}
 use Rattle.elementary.proofs.Laws.Errors.Digits.{ex, ex_lt, dist, dist_mul, Mult, mult_down, Short, turned, short_times, near, near_mult, near_half, near_sides, near_dist}
 use Rattle.elementary.proofs.Laws.Errors.Pairs.{bound, in_bound, Is, NearPair, near_is, exact_is, add_exact, sub_exact, mul_rounds, fma_rounds, dist_product}
-use Rattle.elementary.proofs.mul_add.Carry.{mul_lt}
+use Rattle.std.proofs.lemmas.Nat.{mul-lt}
 
 -- ---- differences by the unit 2 ^ (k + g)
 unit_dist : (u v k g : ℕ) → dist (u * 2 ^ k * 2 ^ g) (v * 2 ^ k * 2 ^ g) ≡ dist u v * 2 ^ (k + g)
@@ -112,7 +112,7 @@ module _ {x xh y yh : Float} {h h' l l' s s' k k' i j : ℕ} (g : ℕ) (E : (i +
   z' = (h * 2 ^ 27 + l) * (s' * 2 ^ 27 + k') + (h' * 2 ^ 27 + l') * (s * 2 ^ 27 + k)
 
   z_span : (2 ^ 104 ≤ dist z z') × (dist z z' < 2 ^ 106)
-  z_span = subst (λ (w : ℕ). (2 ^ 104 ≤ w) × (w < 2 ^ 106)) (dist_product (h * 2 ^ 27 + l) (h' * 2 ^ 27 + l') (s * 2 ^ 27 + k) (s' * 2 ^ 27 + k')) (mul-le-mul X.span.0 Y.span.0, mul_lt 53 53 _ _ X.span.1 Y.span.1)
+  z_span = subst (λ (w : ℕ). (2 ^ 104 ≤ w) × (w < 2 ^ 106)) (dist_product (h * 2 ^ 27 + l) (h' * 2 ^ 27 + l') (s * 2 ^ 27 + k) (s' * 2 ^ 27 + k')) (mul-le-mul X.span.0 Y.span.0, mul-lt _ _ (2 ^ 53) (2 ^ 53) X.span.1 Y.span.1)
 
   pub z_bound : dist (z * 2 ^ g) (z' * 2 ^ g) ≤ 1 * bound
   z_bound = le_trans (le_of_eq (size_is z z' g z_span)) (in_bound (dist z z') 106 g (le_of_lt z_span.1) (omega arith))

@@ -19,7 +19,7 @@ use Rattle.elementary.proofs.Laws.Values.{recast, revalue, value_mid, whole_valu
 use Rattle.elementary.proofs.Laws.Decode.{same_power}
 use Rattle.elementary.proofs.Laws.Adding.{add_at, sub_at, mul_value, neg_value}
 use Rattle.elementary.proofs.mul_add.Sums.{sum_same, sum_comm}
-use Rattle.elementary.proofs.mul_add.Carry.{mul_lt}
+use Rattle.std.proofs.lemmas.Nat.{mul-lt}
 use Rattle.elementary.proofs.Laws.Errors.Pairs.{Signed, minus_more, minus_less, fma_value}
 
 -- a - b, whose sign and size are s and v, and c
@@ -62,12 +62,12 @@ module _ (x high y z : Float) (h l p q g : ℕ) (H : h < 2 ^ 22) (L : l < 2 ^ 31
 
   product : HasValue (mul binary64 high y) false (u * p) d
   product =
-      exact false (h * p) (31 + g) (u * p) (lt_of_lt_of_le (mul_lt 22 19 h p H P) (pow_mono {i = 41} {j = 53} (omega arith))) (omega arith)
+      exact false (h * p) (31 + g) (u * p) (lt_of_lt_of_le (mul-lt h p (2 ^ 22) (2 ^ 19) H P) (pow_mono {i = 41} {j = 53} (omega arith))) (omega arith)
       (rw (pow-add 2 31 g) (simp (mul_assoc, mul_comm, mul_left_comm))) (mul_value high y false false u p d 1 (pow_pos 64) (zero-lt-suc 0) U Y)
 
   rest_product : HasValue (mul binary64 (sub binary64 x high) y) false (v * p) d
   rest_product =
-      exact false (l * p) g (v * p) (lt_of_lt_of_le (mul_lt 31 19 l p L P) (pow_mono {i = 50} {j = 53} (omega arith))) (omega arith)
+      exact false (l * p) g (v * p) (lt_of_lt_of_le (mul-lt l p (2 ^ 31) (2 ^ 19) L P) (pow_mono {i = 50} {j = 53} (omega arith))) (omega arith)
       (omega arith) (mul_value (sub binary64 x high) y false false v p d 1 (pow_pos 64) (zero-lt-suc 0) rest Y)
 
   -- the first sum, by the unit 2 ^ 31
@@ -75,7 +75,7 @@ module _ (x high y z : Float) (h l p q g : ℕ) (H : h < 2 ^ 22) (L : l < 2 ^ 31
   first =
       let n = h * p * 2 ^ g in
       let e : u * p ≡ n * 2 ^ 31 = omega arith in
-      let small : n < 2 ^ 53 = lt_of_lt_of_le (shl_lt 41 g (mul_lt 22 19 h p H P)) (pow_mono {i = 41 + g} {j = 53} (omega arith)) in
+      let small : n < 2 ^ 53 = lt_of_lt_of_le (shl_lt 41 g (mul-lt h p (2 ^ 22) (2 ^ 19) H P)) (pow_mono {i = 41 + g} {j = 53} (omega arith)) in
       let by_sum = sub_at (mul binary64 high y) z false false (u * p) (q * d) d (pow_pos 64) product (whole z q Z) in
       elim (dec_le (q * d) (u * p)) [
         | yes k ↦ (false, u * p - q * d, exact false (n - q * 2 ^ 33) 31 (u * p - q * d) (omega arith) (omega arith) (omega arith) (by_sum ∙ minus_more (u * p) (q * d) d k), omega arith)

@@ -5,19 +5,16 @@ use mathlib.Core.Bool.{true}
 use lib.Ieee.{Float, fits, binary64, of_bits, to_bits}
 use lib.Ieee.Bits.{of_bits-to_bits}
 use Rattle.elementary.specs.Floor.{floor_of}
-use Rattle.elementary.proofs.Laws.Bits.{differs, no_nan}
+use Rattle.elementary.proofs.Laws.Bits.{nan_by}
 use Rattle.elementary.proofs.floor.Laws.{floor_large}
 use Rattle.elementary.proofs.floor.floor.Goals as goal
 
 back : (x : Float) → fits binary64 x ≡ true → of_bits binary64 (to_bits binary64 x) ≡ x
 back x h = of_bits-to_bits binary64 x (rw h tt)
 
-pub returns-then-x : goal.returns-then-x
+pub returns-then-is_nan : goal.returns-then-is_nan
 unfolding floor_of
-returns-then-x c = rw (differs c.args.x c.if-x.true) refl
-
-pub float_to_bits-b : goal.float_to_bits-b
-float_to_bits-b c = no_nan c.args.x c.if-x.false
+returns-then-is_nan c = rw (nan_by c.args.x c.if-is_nan.ensures.value) refl
 
 pub returns-then-e-ge1075 : goal.returns-then-e-ge1075
 returns-then-e-ge1075 c = rw (back c.args.x c.well_formed.0.1) at (floor_large (to_bits binary64 c.args.x) (omega arith))

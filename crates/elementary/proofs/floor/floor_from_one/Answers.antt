@@ -2,9 +2,8 @@
 use mathlib.Core.Path.{ap, ◌∙◌}
 use mathlib.Core.Logic.{inl, inr}
 use Prim.Native.Nat.{ℕ, ◌+◌, ◌-◌, ◌^◌, ◌<◌}
-use native.Mathlib.Nat.{mod-le}
 use native.Mathlib.Omega.{arith}
-use lib.Pow.{pow_pos, pow_mono}
+use lib.Pow.{pow_mono}
 use Rattle.elementary.proofs.floor.Laws.{AddUnit, unit_is, floor_cut, floor_cut_no_nan}
 use Rattle.elementary.proofs.floor.floor_from_one.Goals as goal
 use Rattle.elementary.proofs.floor.floor_from_one.Goals.{then-b-ge9223372036854775808, else-b-ge9223372036854775808}
@@ -22,17 +21,8 @@ module _ (c : goal.After-row_known-1) where
   add_unit : AddUnit b (2 ^ d) c.if-b-ge9223372036854775808.c
   add_unit = elim c.if-b-ge9223372036854775808.branch [ then-b-ge9223372036854775808 w ↦ inl (w.if-b-ge9223372036854775808.true, w.c-is ∙ ap (λ (z : ℕ). b + (z - 1)) (unit_is d c.requires.1)) | else-b-ge9223372036854775808 w ↦ inr (w.if-b-ge9223372036854775808.false, w.c-is) ]
 
-pub overflow_sub-c : goal.overflow_sub-c
-overflow_sub-c c = omega (arith, unit_is c.args.d c.requires.1, pow_pos c.args.d)
-
 pub overflow_add-c : goal.overflow_add-c
 overflow_add-c c = omega (arith, unit_is c.args.d c.requires.1, pow_mono c.requires.1)
-
-pub nonzero_rem-result : goal.nonzero_rem-result
-nonzero_rem-result c = omega (arith, unit_is c.args.d c.requires.1, pow_pos c.args.d)
-
-pub overflow_sub-result : goal.overflow_sub-result
-overflow_sub-result c = mod-le _ _
 
 pub float_from_bits-result : goal.float_from_bits-result
 float_from_bits-result c =

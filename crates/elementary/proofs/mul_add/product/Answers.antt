@@ -1,32 +1,21 @@
--- `mul_add::product` meets its contract: the four products of half words, with two carries (Carry). Assumes nothing.
-use Prim.Native.Nat.{ℕ, ◌+◌, ◌/◌, ◌^◌, ◌<◌}
+-- `mul_add::product` meets its contract: both factors have 53 digits. Assumes nothing.
+use mathlib.Core.Path.{◌≡◌, refl}
+use Prim.Native.Nat.{ℕ, ◌+◌, ◌*◌, ◌%◌, ◌^◌, ◌<◌}
+use native.Mathlib.Nat.{mul_assoc, mul_comm, mul_left_comm}
 use native.Mathlib.Omega.{arith}
-use Rattle.elementary.proofs.mul_add.Carry.{halves, product_law}
+use lib.Pow.{pow-add}
+use Rattle.std.proofs.lemmas.Nat.{mul-lt}
 use Rattle.elementary.proofs.mul_add.product.Goals as goal
 
-top : (w s : ℕ) → w < 2 ^ 54 → s < 2 ^ 64 → w + s / 2 ^ 32 < 2 ^ 64
-top w s g l = omega arith
+fits : (v : ℕ) → v < 2 ^ 106 → v * 2 ^ 12 % 2 ^ 128 ≡ v * 2 ^ 12
+fits v h = omega arith
 
-pub overflow_add-mid-2 : goal.overflow_add-mid-2
-overflow_add-mid-2 c = omega (arith, halves c.requires.a_high c.requires.b_high)
+regroup : (a b x y : ℕ) → a * b * 2 ^ 12 * (x * y * 2 ^ 116) ≡ a * x * (b * y) * 2 ^ 128
+regroup a b x y = simp (mul_assoc, mul_comm, mul_left_comm) refl
 
-pub overflow_mul-low : goal.overflow_mul-low
-overflow_mul-low c = record { fits = (halves c.requires.a_high c.requires.b_high).0 }
-
-pub overflow_mul-mid : goal.overflow_mul-mid
-overflow_mul-mid c = omega (arith, halves c.requires.a_high c.requires.b_high)
-
-pub overflow_mul-mid-2 : goal.overflow_mul-mid-2
-overflow_mul-mid-2 c = omega (arith, halves c.requires.a_high c.requires.b_high)
-
-pub overflow_add-mid : goal.overflow_add-mid
-overflow_add-mid c = omega (arith, halves c.requires.a_high c.requires.b_high)
-
-pub overflow_mul-result : goal.overflow_mul-result
-overflow_mul-result c = omega (arith, halves c.requires.a_high c.requires.b_high)
-
-pub overflow_add-result : goal.overflow_add-result
-overflow_add-result c = record { fits = top _ _ (halves c.requires.a_high c.requires.b_high).3 (overflow_add-mid-2 c).fits }
-
-pub returns : goal.returns
-returns c = product_law c.args.a c.args.b
+pub returns-clause-value : goal.returns-clause-value
+returns-clause-value c =
+    let a = c.args.a in
+    let b = c.args.b in
+    rw (fits (a.m * b.m) (mul-lt a.m b.m (2 ^ 53) (2 ^ 53) (a.has_digits c.requires.a_nonzero).top (b.has_digits c.requires.b_nonzero).top), pow-add 2 (a.e + b.e) 116, pow-add 2 a.e b.e)
+    (regroup a.m b.m (2 ^ a.e) (2 ^ b.e))

@@ -17,9 +17,8 @@ float_to_bits-b c = decode.finite_no_nan c.args.x c.requires
 
 pub returns-then-f-eq0 : goal.returns-then-f-eq0
 returns-then-f-eq0 c =
-    let a = c.before.before in
     let r = c.subnormal_parts in
-    subst (λ (s : Bool). PartsOf a.args.x s r.result.m r.result.e) (sym r.ensures.neg) (decode.low_value a.args.x (x_fits a.args.x a.well_formed.0.1) c.if-f-eq0.true r.result.m r.result.e r.ensures.subnormal_parts)
+    subst (λ (s : Bool). PartsOf c.args.x s r.result.m r.result.e) (sym r.ensures.neg) (decode.low_value c.args.x (x_fits c.args.x c.well_formed.0.1) c.if-f-eq0.true r.result.m r.result.e r.ensures.value)
 
-pub returns-else-f-eq0 : goal.returns-else-f-eq0
-returns-else-f-eq0 c = decode.normal_value c.args.x (x_fits c.args.x c.well_formed.0.1) (omega arith) (decode.finite_field c.args.x (x_fits c.args.x c.well_formed.0.1) c.requires)
+pub returns : goal.returns
+returns c = decode.normal_value c.args.x (x_fits c.args.x c.well_formed.0.1) (omega arith) (decode.finite_field c.args.x (x_fits c.args.x c.well_formed.0.1) c.requires)

@@ -10,7 +10,7 @@ use lib.Ieee.Fits.{up_pos, and_l}
 use lib.Ieee.Bits.{of_bits-to_bits}
 use Rattle.elementary.specs.Methods.{sign_of}
 use Rattle.elementary.specs.Sqrt.{sqrt_of}
-use Rattle.elementary.proofs.Laws.Bits.{lt_ordered, no_nan, no_sign, nan_quotient}
+use Rattle.elementary.proofs.Laws.Bits.{lt_ordered, no_nan, no_sign}
 use Rattle.elementary.proofs.sqrt.Laws.{root_top}
 use Rattle.elementary.proofs.sqrt.sqrt.Goals as goal
 
@@ -73,10 +73,8 @@ pub returns-then-x-2 : goal.returns-then-x-2
 returns-then-x-2 c = root_zero c.args.x c.if-x-2.true
 
 pub returns : goal.returns
-returns c = nan_quotient ∙ sym (root_none c.args.x c.if-x.false c.if-x-2.false)
-
-pub float_to_bits-b : goal.float_to_bits-b
-float_to_bits-b c = no_nan c.args.x (lt_ordered (of_bits binary64 0) c.args.x c.if-x.true).1
+unfolding of_bits
+returns c = sym (root_none c.args.x c.if-x.false c.if-x-2.false)
 
 pub sqrt_of_positive-requires : goal.sqrt_of_positive-requires
 sqrt_of_positive-requires c = (bits_pos c.args.x (x_fits c.args.x c.well_formed.0.1) c.if-x.true, c.if-b-lt9218868437227405312.true)
