@@ -10,7 +10,7 @@ ghost use Rattle.elementary.specs.Ops.{◌⊕◌, ◌⊘◌, bits, float, one, m
 ghost use Rattle.elementary.specs.Inside.Bounds.{Over};
 ghost use Rattle.elementary.specs.Inside.Errors.{InRange, product_error, Certain, CanSplit};
 ghost use Rattle.prices.specs.Black.{bell as bell_of, innermost as innermost_of, horner_step, taylor_of, small_t_inner};
-ghost use Rattle.prices.specs.Inside.SmallT.{Within, Operands, Grows, CertainStep, InRanges, Term, Adds, Filled};
+ghost use Rattle.prices.specs.Inside.SmallT.{Within, Operands, Grows, InRanges, Term, Adds, Filled};
 ghost use Rattle.std.proofs.Common.{arith};
 ghost use Rattle.std.proofs.lemmas.Nat.{le_or_l, le_or_r};
 
@@ -77,28 +77,14 @@ fn order_doubt(x: f64, y: f64) -> u64
     if p < q { 1 } else { 0 }
 }
 
-// The step from the sum s of the product and c, and from t, what rounding took off that sum.
-fn fused_from(a: f64, b: f64, s: f64, t: f64, doubt: u64) -> Fused
-    requires a_finite { T (finite a) }
-    requires b_finite { T (finite b) }
-    requires s_within { Within s 1000 }
-    requires error_within { Within (t ⊕ product_error a b) 1000 }
-    ensures value { result.value ≡ s ⊕ (t ⊕ product_error a b) }
-    ensures no_earlier_doubt { (result.doubt ≡ 0 → doubt ≡ 0) }
-    ensures certain_unless_doubt { (result.doubt ≡ 0 → CertainStep a b s t) }
-{
-    let doubt = range_doubt(a) | range_doubt(b) | doubt;
-    certain_sum(s, t + product_error(a, b), doubt)
-}
-
 // ---- how the steps are done
 
-// The fused steps of the Taylor sum.
+// The fused steps of the Taylor sum, each with its doubt.
 trait Steps: Copy {
     // Whether the numbers of a step have to be in range.
     ghost ranged: { Bool };
 
-    // Whether a value with this doubt is right.
+    // Whether a value with this doubt is sure to be right.
     ghost certain: { ℕ → Type 0 };
 
     // a × b + c.
@@ -111,7 +97,10 @@ trait Steps: Copy {
     fn fma_ordered(self, a: f64, b: f64, c: f64) -> Fused
         requires { T ranged → Operands a b c }
         ensures value { certain result.doubt → result.value ≡ mul_add a b c }
-        ensures grows { T ranged → Grows a b c result.value };
+        ensures grows { T ranged → Grows a b c result.value }
+    {
+        self.fma(a, b, c)
+    }
 
     // a × p − q.
     fn coefficient(self, a: f64, p: u32, q: u32) -> f64
@@ -119,10 +108,11 @@ trait Steps: Copy {
         ensures value { result ≡ mul_add a (float p) (neg (float q)) }
         ensures within { T ranged → Within result 22 };
 
-    // Two doubts gathered in one.
+    // Two doubts can be gathered in one.
     ghost both: { (x y : ℕ) → certain (bit_or x y) → certain x × certain y };
 }
 
+// By errors.
 #[derive(Clone, Copy)]
 struct ByErrors;
 
@@ -138,13 +128,18 @@ impl Steps for ByErrors {
         let s = p + c;
         let v = s - p;
         let t = (p - (s - v)) + (c - v);
-        fused_from(a, b, s, t, 0)
+        certain_sum(s, t + product_error(a, b), range_doubt(a) | range_doubt(b))
     }
 
     fn fma_ordered(self, a: f64, b: f64, c: f64) -> Fused {
         let p = a * b;
         let s = p + c;
-        fused_from(a, b, s, c - (s - p), order_doubt(p, c))
+        let t = c - (s - p);
+        certain_sum(
+            s,
+            t + product_error(a, b),
+            range_doubt(a) | range_doubt(b) | order_doubt(p, c),
+        )
     }
 
     // For an a of two parts: without its 31 lowest digits, and these. Both products and the
@@ -157,7 +152,7 @@ impl Steps for ByErrors {
     }
 }
 
-// Slower, and right for all numbers.
+// By mul_add: slower, and right for all numbers.
 #[derive(Clone, Copy)]
 struct ByMulAdd;
 
@@ -175,10 +170,6 @@ impl Steps for ByMulAdd {
         }
     }
 
-    fn fma_ordered(self, a: f64, b: f64, c: f64) -> Fused {
-        self.fma(a, b, c)
-    }
-
     fn coefficient(self, a: f64, p: u32, q: u32) -> f64 {
         mul_add(a, p as f64, -(q as f64))
     }
@@ -190,7 +181,7 @@ impl Steps for ByMulAdd {
 // h² × sum + (a × p − q), from entry k. Entry 15 is not used, since term 3 ends with entry 11.
 const INNERMOST: [u32; 4] = [78, 55, 36, 21];
 
-const STEPS: [(u32, u32); 14] = [
+const OUTWARD: [(u32, u32); 14] = [
     (2145, 75),
     (990, 52),
     (378, 33),
@@ -214,7 +205,7 @@ struct Sums {
     doubt: u64,
 }
 
-// What the sum is of, and how its steps are done.
+// The Taylor sum at a, h² and t², whose steps are done in one of the two ways.
 #[derive(Drop)]
 struct TaylorSum<S: Steps> {
     steps: S,
@@ -274,29 +265,30 @@ impl<S: Steps> TaylorSum<S> {
     fn innermost_sums(&self) -> Sums
         ensures { Filled self.now.a self.now.h2 4 result.y (S.certain result.doubt) (T S.ranged) }
     {
-        let mut sums = Sums {
-            y: [0.0; 18],
-            doubt: 0,
-        };
-        for (k, c) in INNERMOST.iter().enumerate() {
-            let f = self.innermost(*c);
-            sums.y[k] = f.value;
-            sums.doubt |= f.doubt;
+        let addends = INNERMOST;
+        let mut y = [0.0; 18];
+        let mut doubt: u64 = 0;
+        for k in 0..4 {
+            let f = self.innermost(addends[k]);
+            y[k] = f.value;
+            doubt |= f.doubt;
         }
-        sums
+        Sums { y, doubt }
     }
 
     // All.
     fn horner_sums(&self) -> Sums
         ensures { Filled self.now.a self.now.h2 18 result.y (S.certain result.doubt) (T S.ranged) }
     {
-        let mut sums = self.innermost_sums();
-        for (k, (p, q)) in STEPS.iter().enumerate() {
-            let f = self.horner_step(sums.y[k], *p, *q);
-            sums.y[k + 4] = f.value;
-            sums.doubt |= f.doubt;
+        let Sums { mut y, mut doubt } = self.innermost_sums();
+        let steps = OUTWARD;
+        for k in 0..14 {
+            let (p, q) = steps[k];
+            let f = self.horner_step(y[k], p, q);
+            y[k + 4] = f.value;
+            doubt |= f.doubt;
         }
-        sums
+        Sums { y, doubt }
     }
 
     // One more term: y over a factorial, by a power of t².

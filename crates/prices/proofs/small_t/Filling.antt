@@ -12,24 +12,10 @@ use lib.Seq.{get_or-set_same, get_or-set_other}
 use lib.Ieee.{Float, nan}
 use lib.Ieee.Fits.{and_l, and_r}
 use Rattle.prices.specs.Black.{innermost, horner_step}
-use Rattle.prices.specs.Inside.SmallT.{Within, INNERMOST, STEPS, step_at, horner_sum, at, Filled}
+use Rattle.prices.specs.Inside.SmallT.{Within, INNERMOST, OUTWARD, step_at, horner_sum, at, Filled}
 use Rattle.prices.proofs.Laws.Sizes.{looser}
 
 -- ---- the tables
-each_small : List ℕ → Bool
-each_small [] = true
-each_small (x ∷ xs) = ltb x (2 ^ 19) && each_small xs
-
-entry_small : (xs : List ℕ) → T (each_small xs) → (k : ℕ) → get_or xs k 0 < 2 ^ 19
-unfolding each_small
-entry_small [] t k = lit< tt
-entry_small (x ∷ xs) t zero = ltb→lt x (2 ^ 19) (and_l (ltb x (2 ^ 19)) (each_small xs) t)
-entry_small (x ∷ xs) t (suc k) = entry_small xs (and_r (ltb x (2 ^ 19)) (each_small xs) t) k
-
-pub addend_small : (k : ℕ) → get_or INNERMOST k 0 < 2 ^ 19
-unfolding each_small
-addend_small k = entry_small INNERMOST tt k
-
 each_step_small : List (ℕ × ℕ) → Bool
 each_step_small [] = true
 each_step_small (s ∷ xs) = (ltb s.0 (2 ^ 19) && ltb s.1 (2 ^ 19)) && each_step_small xs
@@ -44,7 +30,7 @@ small_step (s ∷ xs) t (suc k) = small_step xs (and_r (ltb s.0 (2 ^ 19) && ltb 
 
 pub step_small : (k : ℕ) → ((step_at k).0 < 2 ^ 19) × ((step_at k).1 < 2 ^ 19)
 unfolding each_step_small
-step_small k = small_step STEPS tt k
+step_small k = small_step OUTWARD tt k
 
 -- ---- the sums
 innermost_is : (a h2 : Float) (k : ℕ) → k < 4 → innermost a h2 (get_or INNERMOST k 0) ≡ horner_sum a h2 k

@@ -4,8 +4,6 @@ use Rattle.std.specs.Prelude.{◌≡◌, true, List, [], ◌∷◌, ℕ, zero, s
 use Rattle.std.specs.Float.{nan, binary64}
 use Rattle.std.specs.Float.Ieee.{fits, to_bits}
 use Rattle.elementary.specs.Inside.Bounds.{Over, AtMost}
-use Rattle.elementary.specs.Inside.Errors.{InRange, product_error, Certain}
-use Rattle.elementary.specs.Ops.{◌⊕◌}
 use Rattle.prices.specs.Black.{innermost, horner_step}
 
 -- x is finite and at most 2 ^ n in size
@@ -21,12 +19,6 @@ pub record Operands (a b c : Float) : Type 0 where
 -- v is not much larger than a × b and c
 abbrev pub Grows : Float → Float → Float → Float → Type 0
 Grows a b c v = (i j n : ℕ) → i + j ≤ n → n ≤ 600 → Within a i → Within b j → Within c n → Within v (n + 10)
-
--- the factors a and b are in range, and with them the step from the sum s and its error t is certain
-pub record CertainStep (a b s t : Float) : Type 0 where
-  pub first : InRange a
-  pub second : InRange b
-  pub same : Certain s (t ⊕ product_error a b)
 
 -- a is a double from 2 ^ -12 to below 2, so that it can be cut in two, h² one below 2 ^ 34 and t² one below 1
 pub record InRanges (a h2 t2 : Float) : Type 0 where
@@ -54,8 +46,8 @@ pub record Term (sum y factorial power : Float) : Type 0 where
 abbrev pub INNERMOST : List ℕ
 INNERMOST = 78 ∷ 55 ∷ 36 ∷ 21 ∷ []
 
-abbrev pub STEPS : List (ℕ × ℕ)
-STEPS =
+abbrev pub OUTWARD : List (ℕ × ℕ)
+OUTWARD =
     (2145, 75)
     ∷ (990, 52)
     ∷ (378, 33)
@@ -74,7 +66,7 @@ STEPS =
 
 -- the step at k
 abbrev pub step_at : ℕ → ℕ × ℕ
-step_at k = get_or STEPS k (0, 0)
+step_at k = get_or OUTWARD k (0, 0)
 
 -- the sum at k
 unfoldable pub horner_sum : Float → Float → ℕ → Float

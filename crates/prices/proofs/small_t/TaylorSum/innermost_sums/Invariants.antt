@@ -4,4 +4,4 @@ use Rattle.prices.specs.Inside.SmallT.{Filled}
 use Rattle.prices.proofs.small_t.TaylorSum.innermost_sums.Given as goal
 
 abbrev pub invariant-loop-k : goal.invariant-loop-k
-invariant-loop-k g l = Filled l.self.a l.self.h2 l.k l.sums.y (g.S.Steps.certain l.sums.doubt) (T g.S.Steps.ranged)
+invariant-loop-k g l = Filled l.self.a l.self.h2 l.k l.y (g.S.Steps.certain l.doubt) (T g.S.Steps.ranged)
