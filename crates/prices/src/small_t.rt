@@ -7,7 +7,6 @@ ghost use Rattle.std.specs.Float.{binary64};
 ghost use Rattle.std.specs.Float.Ieee.{to_bits, neg, lt};
 ghost use Rattle.std.specs.Float.Ieee.Scale.{finite};
 ghost use Rattle.elementary.specs.Ops.{◌⊕◌, ◌⊘◌, bits, float, one, mul_add};
-ghost use Rattle.elementary.specs.Inside.Bounds.{Over};
 ghost use Rattle.elementary.specs.Inside.Errors.{InRange, product_error, Certain, CanSplit};
 ghost use Rattle.prices.specs.Black.{bell as bell_of, innermost as innermost_of, horner_step, taylor_of, small_t_inner};
 ghost use Rattle.prices.specs.Inside.SmallT.{Within, Operands, Grows, InRanges, Term, Adds, Filled};

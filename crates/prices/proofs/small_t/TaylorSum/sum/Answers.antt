@@ -10,31 +10,6 @@ use Rattle.prices.proofs.Laws.Sizes.{looser, times, over, one_or_more}
 use Rattle.prices.proofs.small_t.Ranges.{power_within}
 use Rattle.prices.proofs.small_t.TaylorSum.sum.Goals as goal
 
--- ---- the terms, where their Horner sums are right
-term1_is : (a h2 y : Float) → y ≡ innermost a h2 3 → y ⊘ bits 0x4018_0000_0000_0000 ≡ term1 a h2
-unfolding term1 horner_sum of_bits of_int
-term1_is a h2 y e = rw e
-
-term2_is : (a h2 y : Float) → y ≡ horner_step a h2 (innermost a h2 10) 15 7 → y ⊘ bits 0x405e_0000_0000_0000 ≡ term2 a h2
-unfolding term2 horner_sum of_bits of_int
-term2_is a h2 y e = rw e
-
-term3_is : (a h2 y : Float) → y ≡ horner_sum a h2 11 → y ⊘ bits 0x40b3_b000_0000_0000 ≡ term3 a h2
-unfolding term3 horner_sum of_bits of_int
-term3_is a h2 y e = rw e
-
-term4_is : (a h2 y : Float) → y ≡ horner_sum a h2 14 → y ⊘ bits 0x4116_2600_0000_0000 ≡ term4 a h2
-unfolding term4 horner_sum of_bits of_int
-term4_is a h2 y e = rw e
-
-term5_is : (a h2 y : Float) → y ≡ horner_sum a h2 17 → y ⊘ bits 0x4183_08a8_0000_0000 ≡ term5 a h2
-unfolding term5 horner_sum of_bits of_int
-term5_is a h2 y e = rw e
-
-term6_is : (a h2 y : Float) → y ≡ horner_step a h2 (horner_sum a h2 16) 135135 89055 → y ⊘ bits 0x41f7_328c_c000_0000 ≡ term6 a h2
-unfolding term6 horner_sum of_bits of_int
-term6_is a h2 y e = rw e
-
 -- ---- the sizes
 power : {x y : Float} → Within x 0 → Within y 0 → Within (x ⊗ y) 0
 power h k = times 0 (lit≤ tt) (lit< tt) h k
@@ -126,7 +101,7 @@ add_term-sum-requires-5 g c = λ r.
 
 -- ---- the values, where no step is in doubt
 pub returns : goal.returns
-unfolding taylor_of
+unfolding taylor_of term1 term2 term3 term4 term5 term6 horner_sum of_bits of_int
 returns g c = λ z5.
     let a = c.args.self.now.a in
     let h2 = c.args.self.now.h2 in
@@ -151,4 +126,4 @@ returns g c = λ z5.
     let with_y1 = both _ _ with_bracket.0 in
     let right = sums.ensures.right with_y1.0 in
     sym (fma_one _ _)
-    ∙ rw (f5.value z5, f4.value z4, f3.value z3, f2.value z2, f1.value z1, term1_is a h2 y1.result.value (y1.ensures.value with_y1.1), term2_is a h2 y2.result.value (y2.ensures.value with_y2.1 ∙ rw (bracket.ensures.value with_bracket.1)), term3_is a h2 (at sums.result.y 11) (right 11 (lit< tt)), term4_is a h2 (at sums.result.y 14) (right 14 (lit< tt)), term5_is a h2 (at sums.result.y 17) (right 17 (lit< tt)), term6_is a h2 y6.result.value (y6.ensures.value with_y6.1 ∙ rw (right 16 (lit< tt))))
+    ∙ rw (f5.value z5, f4.value z4, f3.value z3, f2.value z2, f1.value z1, y1.ensures.value with_y1.1, y2.ensures.value with_y2.1, bracket.ensures.value with_bracket.1, right 11 (lit< tt), right 14 (lit< tt), right 17 (lit< tt), y6.ensures.value with_y6.1, right 16 (lit< tt))
