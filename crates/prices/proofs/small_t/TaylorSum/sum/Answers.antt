@@ -1,11 +1,11 @@
 -- `small_t::TaylorSum::sum` meets its contract: where no step is in doubt, each is its definition, and `fma` by 1 is the last sum. Assumes nothing.
-use mathlib.Core.Path.{◌≡◌, sym, ◌∙◌}
+use mathlib.Core.Path.{sym, ◌∙◌}
 use lib.Dec.{lit<, lit≤}
 use lib.Ieee.{Float, of_bits, of_int}
 use Rattle.elementary.specs.Ops.{◌⊗◌, ◌⊘◌, bits}
 use Rattle.elementary.proofs.Laws.FmaOne.{fma_one}
-use Rattle.prices.specs.Black.{innermost, horner_step, term1, term2, term3, term4, term5, term6, taylor_of}
-use Rattle.prices.specs.Inside.SmallT.{Within, Adds, horner_sum, at}
+use Rattle.prices.specs.Black.{term1, term2, term3, term4, term5, term6, taylor_of}
+use Rattle.prices.specs.Inside.SmallT.{Within, Adds, horner_sum}
 use Rattle.prices.proofs.Laws.Sizes.{looser, times, over, one_or_more}
 use Rattle.prices.proofs.small_t.Ranges.{power_within}
 use Rattle.prices.proofs.small_t.TaylorSum.sum.Goals as goal
