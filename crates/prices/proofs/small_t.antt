@@ -1,2 +1,4 @@
 -- Laws that the proofs of small_t use.
-mod Filling
+pub mod FusedStep
+pub mod Ranges
+pub mod Filling

@@ -87,14 +87,11 @@ fn series_terms(z2: f64, start: f64, first: f64) -> f64
     let mut y = start;
     let mut sign = -1.0;
     let mut term = first;
-    let mut i: u64 = 3;
-    while i <= 17 {
-        y = y + sign * term;
+    for i in 3u32..=17 {
+        let i = i as f64;
+        y += sign * term;
         sign = -sign;
-        let i_f64 = i as f64;
-        let factor = (2.0 * i_f64 + 2.0) * (2.0 * i_f64 + 3.0);
-        term = term * (z2 / factor);
-        i += 1;
+        term *= z2 / ((2.0 * i + 2.0) * (2.0 * i + 3.0));
     }
     y
 }

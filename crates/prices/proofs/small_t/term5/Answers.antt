@@ -1,8 +1,0 @@
--- `small_t::term5` meets its contract: the steps one after another. Assumes nothing.
-use lib.Ieee.{of_bits, of_int}
-use Rattle.prices.specs.Black.{term5}
-use Rattle.prices.proofs.small_t.term5.Goals as goal
-
-pub returns : goal.returns
-unfolding term5 of_bits of_int
-returns c = rw (c.horner_step.ensures, c.horner_step-sum-3.ensures, c.horner_step-sum-2.ensures, c.horner_step-sum.ensures, c.innermost.ensures)
