@@ -13,7 +13,7 @@ use crate::inputs::OptionType;
 use crate::intrinsic::normalised_intrinsic;
 use crate::refusal::Refusal;
 use crate::small_t::small_t;
-use elementary::cody::{erfc_under, erfcx};
+use elementary::cody::{erfc, erfcx};
 use elementary::exp::exp;
 use elementary::limits::{MAX, MIN, MIN_POSITIVE};
 use elementary::ln::ln;
@@ -34,14 +34,14 @@ fn two_b<E: Exponentials>(set: RuleSet, e: &E, q1: f64, q2: f64) -> f64
     ensures { result ≡ two_b_with set (E.up e.now) (E.down e.now) (E.bell e.now) q1 q2 }
 {
     if q1 < CODYS_THRESHOLD {
-        let first = e.up() * erfc_under(set, q1);
+        let first = e.up() * erfc(set, q1);
         if q2 < CODYS_THRESHOLD {
-            return first - e.down() * erfc_under(set, q2);
+            return first - e.down() * erfc(set, q2);
         }
         return first - e.bell() * erfcx(q2);
     }
     if q2 < CODYS_THRESHOLD {
-        return e.bell() * erfcx(q1) - e.down() * erfc_under(set, q2);
+        return e.bell() * erfcx(q1) - e.down() * erfc(set, q2);
     }
     e.bell() * (erfcx(q1) - erfcx(q2))
 }

@@ -33,7 +33,8 @@ pub fn price_and_vega(
         return Ok(PriceAndVega { price, vega });
     }
     let bell = bell(x / s, 0.5 * s);
-    let vega = vega_with(x, s, bell);
-    let price = out_of_the_money(set, x, s, &AtHand { up, down, bell })?;
+    let exponentials = AtHand { up, down, bell };
+    let vega = vega_with(x, s, &exponentials);
+    let price = out_of_the_money(set, x, s, &exponentials)?;
     Ok(PriceAndVega { price, vega })
 }

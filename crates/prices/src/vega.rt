@@ -2,10 +2,10 @@
 ghost use Rattle.std.specs.Prelude.{◌≡◌};
 ghost use Rattle.elementary.specs.Ops.{◌⊗◌, ◌⊘◌, half};
 ghost use Rattle.prices.specs.Vega.{at_the_money, vega_vanishes, vega_of};
-ghost use Rattle.prices.specs.Black.{bell as bell_of};
+ghost use Rattle.prices.specs.Black.{bell};
 
-use crate::black::bell;
 use crate::constants::ONE_OVER_SQRT_TWO_PI;
+use crate::exponentials::{Exponentials, WhereRead};
 use elementary::exp::exp;
 use elementary::methods::abs;
 
@@ -25,10 +25,9 @@ fn vega_vanishes(ax: f64, s: f64) -> bool
     s <= 0.0 || s <= ax * SQRT_DBL_MIN
 }
 
-// Vega, where `exp_term` gives exp(−((x / s)² + (s / 2)²) / 2), and is asked only where that is read.
-fn vega_by<F: FnOnce() -> f64>(x: f64, s: f64, exp_term: F) -> f64
-    requires callable { F.IsAlwaysCallable exp_term }
-    requires is_the_bell { (y : _) → F.post exp_term y → y ≡ bell_of (x ⊘ s) (half ⊗ s) }
+// Vega, from exponentials of x and s of which that of −(h² + t²) / 2 may be read.
+pub(crate) fn vega_with<E: Exponentials>(x: f64, s: f64, e: &E) -> f64
+    requires { E.bell e.now ≡ bell (x ⊘ s) (half ⊗ s) }
     ensures { result ≡ vega_of x s }
 {
     let ax = abs(x);
@@ -38,19 +37,11 @@ fn vega_by<F: FnOnce() -> f64>(x: f64, s: f64, exp_term: F) -> f64
     if vega_vanishes(ax, s) {
         return 0.0;
     }
-    ONE_OVER_SQRT_TWO_PI * exp_term()
+    ONE_OVER_SQRT_TWO_PI * e.bell()
 }
 
 pub fn normalised_vega(x: f64, s: f64) -> f64
     ensures { result ≡ vega_of x s }
 {
-    vega_by(x, s, || bell(x / s, 0.5 * s))
-}
-
-// The same where that exponential is at hand.
-pub(crate) fn vega_with(x: f64, s: f64, exp_term: f64) -> f64
-    requires { exp_term ≡ bell_of (x ⊘ s) (half ⊗ s) }
-    ensures { result ≡ vega_of x s }
-{
-    vega_by(x, s, || exp_term)
+    vega_with(x, s, &WhereRead { x, s })
 }

@@ -62,7 +62,7 @@ fn elementary(function: u64, a: u64, b: u64, c: u64) -> u64 {
     let x = float_of(a);
     match function {
         // how many units in the last place erfc(x) is from b, the float nearest to the true value
-        0 => apart(bits_of(cody::erfc(x)), b),
+        0 => apart(bits_of(cody::erfc(RULE_SET_0, x)), b),
         3 => bits_of(elementary::methods::max(x, float_of(b))),
         4 => elementary::methods::is_zero(x) as u64,
         8 => bits_of(elementary::mul_add::mul_add(x, float_of(b), float_of(c))),
@@ -87,11 +87,11 @@ fn of_one(function: u64, x: f64) -> f64 {
         16 => cody::cd(x),
         17 => cody::pq(x),
         18 => cody::erfcx_above_threshold(x),
-        19 => cody::erfc(x),
+        19 => cody::erfc(RULE_SET_0, x),
         20 => cody::erfcx(x),
-        21 => normal_distribution::standard_normal_cdf(x),
-        22 => normal_distribution::inverse_normal_cdf(x),
-        23 => normal_distribution::inverse_f_upper_map(x),
+        21 => normal_distribution::standard_normal_cdf(RULE_SET_0, x),
+        22 => normal_distribution::inverse_normal_cdf(RULE_SET_0, x),
+        23 => normal_distribution::inverse_f_upper_map(RULE_SET_0, x),
         _ => x,
     }
 }

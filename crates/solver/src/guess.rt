@@ -15,7 +15,7 @@ use elementary::limits::{MAX, MIN};
 use elementary::ln::powf_1_3;
 use elementary::methods::{abs, max, powi_2};
 use elementary::normal_distribution::{
-    inverse_f_upper_map_under, inverse_normal_cdf_under, standard_normal_cdf_under,
+    inverse_f_upper_map, inverse_normal_cdf, standard_normal_cdf,
 };
 use elementary::rule_set::RuleSet;
 use elementary::sqrt::sqrt;
@@ -57,10 +57,7 @@ fn inverse_f_lower_map(set: RuleSet, x: f64, f: f64) -> f64
     } else {
         abs(
             x / (SQRT_THREE
-                * inverse_normal_cdf_under(
-                    set,
-                    powf_1_3(f / (TWO_PI_OVER_SQRT_TWENTY_SEVEN * abs(x))),
-                )),
+                * inverse_normal_cdf(set, powf_1_3(f / (TWO_PI_OVER_SQRT_TWENTY_SEVEN * abs(x))))),
         )
     }
 }
@@ -68,7 +65,7 @@ fn inverse_f_lower_map(set: RuleSet, x: f64, f: f64) -> f64
 fn compute_f_upper_map_and_first_two_derivatives(set: RuleSet, x: f64, s: f64) -> MapAndDerivatives
     ensures { result ≡ upper_map set x s }
 {
-    let f = standard_normal_cdf_under(set, -0.5 * s);
+    let f = standard_normal_cdf(set, -0.5 * s);
     if is_below_horizon(x) {
         MapAndDerivatives {
             f,
@@ -103,8 +100,8 @@ fn compute_f_lower_map_and_first_two_derivatives(set: RuleSet, x: f64, s: f64) -
     let z = SQRT_ONE_OVER_THREE * ax / s;
     let y = z * z;
     let s2 = s * s;
-    let phi = standard_normal_cdf_under(set, z);
-    let phi_ = standard_normal_cdf_under(set, -z);
+    let phi = standard_normal_cdf(set, z);
+    let phi_ = standard_normal_cdf(set, -z);
     let fpp = PI_OVER_SIX * y / (s2 * s)
         * phi_
         * (8.0 * SQRT_THREE * s * ax + (3.0 * s2 * (s2 - 8.0) - 8.0 * x * x) * phi_ / phi)
@@ -214,9 +211,9 @@ fn upper_guess(
     if f <= 0.0 {
         let h = b_max - b_h;
         let t = (beta - b_h) / h;
-        return Ok(inverse_f_upper_map_under(set, (m.f * (1.0 - t) + 0.5 * h * t) * (1.0 - t)));
+        return Ok(inverse_f_upper_map(set, (m.f * (1.0 - t) + 0.5 * h * t) * (1.0 - t)));
     }
-    Ok(inverse_f_upper_map_under(set, f))
+    Ok(inverse_f_upper_map(set, f))
 }
 
 // ---- where a run begins

@@ -233,9 +233,9 @@ pub fn solve(set: RuleSet, quote: Quote, limit: u32) -> Result<ImpliedVolatility
 pub fn loop_target(set: RuleSet, quote: Quote) -> Result<Option<f64>, Refusal>
     ensures { result ≡ target_of set quote }
 {
-    check_input(quote)?;
-    match accepted_start(set, quote)? {
-        Start::Answered(_) => Ok(None),
-        Start::Looping(_, m, _) => Ok(Some(m.beta)),
-    }
+    check_input(quote)?; // as solve refuses it
+    Ok(match accepted_start(set, quote)? {
+        Start::Answered(_) => None,
+        Start::Looping(_, m, _) => Some(m.beta),
+    })
 }

@@ -6,6 +6,7 @@ ghost use Rattle.elementary.specs.RuleSets.{rule_set_0};
 ghost use Rattle.elementary.specs.Cody.{d_int_of, smoothened_exponential_of_negative_square, smoothened_exponential_of_positive_square, ab_of, cd_of, pq_of, erfcx_above_threshold, erfc_of, erfcx_of};
 
 use elementary::methods::{bits_of, float_of};
+use elementary::rule_set::RULE_SET_0;
 
 #[unsafe(no_mangle)]
 pub extern "C" fn gintubalos_probe_d_int(x: u64) -> u64
@@ -60,7 +61,7 @@ pub extern "C" fn gintubalos_probe_erfcx_above_threshold(y: u64) -> u64
 pub extern "C" fn gintubalos_probe_erfc(x: u64) -> u64
     ensures { result ≡ to_bits binary64 (erfc_of rule_set_0 (of_bits binary64 x)) }
 {
-    bits_of(elementary::cody::erfc(float_of(x)))
+    bits_of(elementary::cody::erfc(RULE_SET_0, float_of(x)))
 }
 
 #[unsafe(no_mangle)]

@@ -4,15 +4,15 @@ use Rattle.prices.proofs.black.two_b.Goals as goal
 
 pub returns-then-q2 : goal.returns-then-q2
 unfolding two_b_with
-returns-then-q2 g c = rw (c.erfc_under-then-q2.ensures, c.down.ensures, c.erfc_under.ensures, c.up.ensures, c.if-q1.true, c.if-q2.true)
+returns-then-q2 g c = rw (c.erfc-then-q2.ensures, c.down.ensures, c.erfc.ensures, c.up.ensures, c.if-q1.true, c.if-q2.true)
 
 pub returns-then-q1 : goal.returns-then-q1
 unfolding two_b_with
-returns-then-q1 g c = rw (c.erfcx.ensures, c.bell.ensures, c.erfc_under.ensures, c.up.ensures, c.if-q1.true, c.if-q2.false)
+returns-then-q1 g c = rw (c.erfcx.ensures, c.bell.ensures, c.erfc.ensures, c.up.ensures, c.if-q1.true, c.if-q2.false)
 
 pub returns-then-q2-2 : goal.returns-then-q2-2
 unfolding two_b_with
-returns-then-q2-2 g c = rw (c.erfc_under-then-q2-2.ensures, c.down-then-q2-2.ensures, c.erfcx-then-q2-2.ensures, c.bell-then-q2-2.ensures, c.if-q1.false, c.if-q2-2.true)
+returns-then-q2-2 g c = rw (c.erfc-then-q2-2.ensures, c.down-then-q2-2.ensures, c.erfcx-then-q2-2.ensures, c.bell-then-q2-2.ensures, c.if-q1.false, c.if-q2-2.true)
 
 pub returns : goal.returns
 unfolding two_b_with

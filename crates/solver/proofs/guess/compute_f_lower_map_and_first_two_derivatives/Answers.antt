@@ -8,7 +8,7 @@ unfolding lower_map of_bits of_int
 returns-then-is_below_horizon c =
     let at-exp = c.before.before in
     let at-cdf = at-exp.before.before in
-    rw (rw c.is_below_horizon.ensures at c.if-is_below_horizon.true, at-exp.exp.ensures, at-exp.standard_normal_cdf_under-phi_.ensures, at-cdf.standard_normal_cdf_under-phi.ensures, at-cdf.abs-ax.ensures)
+    rw (rw c.is_below_horizon.ensures at c.if-is_below_horizon.true, at-exp.exp.ensures, at-exp.standard_normal_cdf-phi_.ensures, at-cdf.standard_normal_cdf-phi.ensures, at-cdf.abs-ax.ensures)
 
 pub returns-else-is_below_horizon : goal.returns-else-is_below_horizon
 unfolding lower_map of_bits of_int
@@ -16,4 +16,4 @@ returns-else-is_below_horizon c =
     let at-if1 = c.before.before in
     let at-exp = at-if1.before.before in
     let at-cdf = at-exp.before.before in
-    rw (c.lower_map_f-f.ensures, c.exp-else-is_below_horizon.ensures, rw at-if1.is_below_horizon.ensures at at-if1.if-is_below_horizon.false, at-exp.exp.ensures, at-exp.standard_normal_cdf_under-phi_.ensures, at-cdf.standard_normal_cdf_under-phi.ensures, at-cdf.abs-ax.ensures)
+    rw (c.lower_map_f-f.ensures, c.exp-else-is_below_horizon.ensures, rw at-if1.is_below_horizon.ensures at at-if1.if-is_below_horizon.false, at-exp.exp.ensures, at-exp.standard_normal_cdf-phi_.ensures, at-cdf.standard_normal_cdf-phi.ensures, at-cdf.abs-ax.ensures)

@@ -4,7 +4,7 @@ use Rattle.solver.proofs.guess.compute_f_upper_map_and_first_two_derivatives.Goa
 
 pub returns-then-is_below_horizon : goal.returns-then-is_below_horizon
 unfolding upper_map
-returns-then-is_below_horizon c = rw (c.standard_normal_cdf_under-f.ensures, rw c.is_below_horizon.ensures at c.if-is_below_horizon.true)
+returns-then-is_below_horizon c = rw (c.standard_normal_cdf-f.ensures, rw c.is_below_horizon.ensures at c.if-is_below_horizon.true)
 
 pub returns-else-is_below_horizon : goal.returns-else-is_below_horizon
 unfolding upper_map
@@ -14,4 +14,4 @@ returns-else-is_below_horizon c =
     let at-if1 = at-square.before in
     let at-horizon = at-if1.before in
     let at-cdf = at-horizon.before in
-    rw (c.exp-else-is_below_horizon.ensures, at-exp.exp.ensures, at-square.powi_2-w.ensures, at-cdf.standard_normal_cdf_under-f.ensures, rw at-horizon.is_below_horizon.ensures at at-if1.if-is_below_horizon.false)
+    rw (c.exp-else-is_below_horizon.ensures, at-exp.exp.ensures, at-square.powi_2-w.ensures, at-cdf.standard_normal_cdf-f.ensures, rw at-horizon.is_below_horizon.ensures at at-if1.if-is_below_horizon.false)

@@ -14,4 +14,4 @@ returns-else-is_below_horizon c =
     let at-abs = at-root.before in
     let at-if1 = at-abs.before in
     let at-horizon = at-if1.before in
-    rw (c.abs-else-is_below_horizon.ensures, at-inverse.inverse_normal_cdf_under.ensures, at-root.powf_1_3.ensures, at-abs.abs.ensures, rw at-horizon.is_below_horizon.ensures at at-if1.if-is_below_horizon.false)
+    rw (c.abs-else-is_below_horizon.ensures, at-inverse.inverse_normal_cdf.ensures, at-root.powf_1_3.ensures, at-abs.abs.ensures, rw at-horizon.is_below_horizon.ensures at at-if1.if-is_below_horizon.false)

@@ -1,6 +1,6 @@
--- `vega::vega_by` meets its contract: each way out is the arm that the tests before it leave. Assumes nothing.
+-- `vega::vega_with` meets its contract: each way out is the arm that the tests before it leave. Assumes nothing.
 use Rattle.prices.specs.Vega.{vega_of}
-use Rattle.prices.proofs.vega.vega_by.Goals as goal
+use Rattle.prices.proofs.vega.vega_with.Goals as goal
 
 pub returns-then-ax : goal.returns-then-ax
 unfolding vega_of
@@ -12,4 +12,4 @@ returns-then-vega_vanishes g c = rw (← c.abs-ax.ensures, c.if-ax.false, ← c.
 
 pub returns : goal.returns
 unfolding vega_of
-returns g c = rw (← c.abs-ax.ensures, c.if-ax.false, ← c.vega_vanishes.ensures, c.if-vega_vanishes.false, c.requires.is_the_bell _ c.exp_term.ensures)
+returns g c = rw (← c.abs-ax.ensures, c.if-ax.false, ← c.vega_vanishes.ensures, c.if-vega_vanishes.false, c.bell.ensures, c.requires)
