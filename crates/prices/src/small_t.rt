@@ -177,7 +177,8 @@ impl Steps for ByMulAdd {
 // ---- the Taylor sum
 
 // The terms 6, 5, 4 and 3, side by side, from their innermost brackets outward: entry k + 4 is one step,
-// h² × sum + (a × p − q), from entry k. Entry 15 is not used, since term 3 ends with entry 11.
+// h² × sum + (a × p − q), from entry k. Entry 15 is not used, since term 3 ends with entry 11. Each loop
+// copies its table first: with the table indexed in place the price took 7 % longer.
 const INNERMOST: [u32; 4] = [78, 55, 36, 21];
 
 const OUTWARD: [(u32, u32); 14] = [

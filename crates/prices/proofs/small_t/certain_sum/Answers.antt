@@ -1,5 +1,5 @@
 -- `small_t::certain_sum` meets its contract: the flag is 0 only where both sums have the same bits. Assumes nothing.
-use mathlib.Core.Path.{refl, sym, subst}
+use mathlib.Core.Path.{sym, subst}
 use lib.Dec.{T}
 use lib.Bits.{bit_xor}
 use lib.Ieee.{Float, binary64, fits, to_bits}
@@ -32,11 +32,10 @@ float_to_bits-result c = is_number (inward_sum (fits_w c) c.requires.s_within c.
 pub float_to_bits-result-2 : goal.float_to_bits-result-2
 float_to_bits-result-2 c = is_number (outward_sum (fits_w c) c.requires.s_within c.requires.w_within)
 
-pub returns : goal.returns
-returns c =
+pub returns-clause-no_earlier_doubt : goal.returns-clause-no_earlier_doubt
+returns-clause-no_earlier_doubt c z = or_right (differ c.args.s c.args.w) c.args.doubt z
+
+pub returns-clause-certain_unless_doubt : goal.returns-clause-certain_unless_doubt
+returns-clause-certain_unless_doubt c z =
     let d = c.args in
-    record {
-      value = refl;
-      no_earlier_doubt = λ z. or_right (differ d.s d.w) d.doubt z;
-      certain_unless_doubt = λ z. xor_same (to_bits binary64 (d.s ⊕ inward d.w)) (to_bits binary64 (d.s ⊕ outward d.w)) (or_left (differ d.s d.w) d.doubt z);
-    }
+    xor_same (to_bits binary64 (d.s ⊕ inward d.w)) (to_bits binary64 (d.s ⊕ outward d.w)) (or_left (differ d.s d.w) d.doubt z)

@@ -1,7 +1,6 @@
 -- `small_t::order_doubt` meets its contract, by its test. Assumes nothing.
 use mathlib.Core.Path.{sym, subst}
 use lib.Dec.{T}
-use native.Mathlib.Omega.{arith}
 use Rattle.elementary.proofs.Laws.Decode.{finite_no_nan}
 use Rattle.prices.proofs.Laws.Sizes.{size_number}
 use Rattle.prices.proofs.small_t.order_doubt.Goals as goal
@@ -17,6 +16,3 @@ float_to_bits-q c = finite_no_nan c.args.y c.requires.y_finite
 
 pub float_from_bits-q : goal.float_from_bits-q
 float_from_bits-q c = size_number c.args.y (subst T (sym c.well_formed.1.0.1) tt) c.requires.y_finite
-
-pub returns-then-p-q : goal.returns-then-p-q
-returns-then-p-q c z = absurd (omega arith)
