@@ -1,25 +1,23 @@
 -- `normal_distribution::close_cdfs` meets its contract: k / 16 is the tilde of each, and its place says where each stands. Assumes nothing.
-use mathlib.Core.Path.{sym, ◌∙◌, ap}
 use borrow.Author.Rules.{rules}
 use native.Mathlib.Omega.{arith}
-use Rattle.elementary.specs.Inside.Cdf.{exp_of_negative_square}
 use Rattle.elementary.proofs.Laws.Close.{up_to_four, above_four}
-use Rattle.elementary.proofs.Laws.Eight.{in_each, both, same_tilde, same_exp}
+use Rattle.elementary.proofs.Laws.Eight.{in_each, both, same_tilde}
 use Rattle.elementary.proofs.normal_distribution.close_cdfs.Goals as goal
 
 pub factors-f-requires-clause-tildes : goal.factors-f-requires-clause-tildes
 factors-f-requires-clause-tildes c =
-    let h = c.requires.close_case in
+    let h = c.requires in
     same_tilde _ _ (omega (arith, h.low)) h.high h.close c.sixteenth.ensures c.of.ensures
 
 pub zip3-requires : goal.zip3-requires
 zip3-requires c =
-    let h = c.requires.close_case in
-    let between = in_each (λ at p. up_to_four h.low (omega (arith, c.if-k-lt64.true)) p c.if-k-lt64.true) h.close in
+    let h = c.requires in
+    let between = in_each (λ at p. up_to_four h.low (omega (arith, c.if-near-lt64.true)) p c.if-near-lt64.true) h.close in
     in_each (λ at p. search rules) (both h.sizes (both between c.factors-f.ensures))
 
-pub zip3-requires-then-k-lt416 : goal.zip3-requires-then-k-lt416
-zip3-requires-then-k-lt416 c =
-    let h = c.requires.close_case in
-    let between = in_each (λ at p. above_four h.low c.if-k-lt416.true p c.if-k-gt64.true) h.close in
+pub zip3-requires-then-near-lt416 : goal.zip3-requires-then-near-lt416
+zip3-requires-then-near-lt416 c =
+    let h = c.requires in
+    let between = in_each (λ at p. above_four h.low c.if-near-lt416.true p c.if-near-gt64.true) h.close in
     in_each (λ at p. search rules) (both h.sizes (both between c.factors-f.ensures))

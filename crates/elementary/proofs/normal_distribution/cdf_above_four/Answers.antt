@@ -1,9 +1,0 @@
--- `normal_distribution::cdf_above_four` meets its contract: erfc's tests are known. Assumes nothing.
-use Rattle.elementary.specs.Cody.{erfc_of, erfc_abs, erfcx_above_threshold}
-use Rattle.elementary.proofs.normal_distribution.cdf_above_four.Goals as goal
-
-pub returns : goal.returns
-unfolding erfc_of erfc_abs erfcx_above_threshold
-returns c =
-    let h = c.requires in
-    rw (c.on_side.ensures, c.pq.ensures, h.factor_is, ← h.y_is, h.between.over, h.between.short, h.between.side)
