@@ -95,7 +95,7 @@ pub(crate) fn sixteenths(t: f64) -> u64
     ensures { result < 1024 }
 {
     let s = t + 281474976710656.0;
-    if s == s { f64::to_bits(s) % 1024 } else { 0 }
+    if s.is_nan() { 0 } else { s.to_bits() % 1024 }
 }
 
 // k / 16.

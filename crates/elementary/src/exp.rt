@@ -31,10 +31,7 @@ pub(crate) fn scale_by_power(p: f64, e: u64) -> f64
     requires e_high { e ≤ 3136 }
     ensures { result ≡ Exp.scaled binary64 p (minus e 2048) }
 {
-    if e < 1026 {
-        return scale_by_any_power(p, e);
-    }
-    if e > 3071 {
+    if e < 1026 || 3071 < e {
         return scale_by_any_power(p, e);
     }
     p * float_of_fields(false, e - 1025, 0)
@@ -94,11 +91,11 @@ fn exp_from_sum(y: f64, k: f64, q: f64) -> f64
     requires q_is { q ≡ Exp.exp_sum 13 (Exp.exp_r y) one }
     ensures { result ≡ Exp.exp_of y }
 {
-    if y != y {
+    if y.is_nan() {
         return y;
     }
     if y > 709.782712893384 {
-        return 1.0 / 0.0;
+        return f64::INFINITY;
     }
     if y < -746.0 {
         return 0.0;

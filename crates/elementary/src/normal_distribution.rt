@@ -164,14 +164,14 @@ pub(crate) fn cdfs(set: RuleSet, x: Eight, near: Sixteenth) -> Eight
 pub fn inverse_normal_cdf(set: RuleSet, p: f64) -> f64
     ensures { result ≡ inverse_of set p }
 {
-    if p != p {
+    if p.is_nan() {
         return p;
     }
     if p <= 0.0 {
-        return -1.0 / 0.0;
+        return f64::NEG_INFINITY;
     }
     if p >= 1.0 {
-        return 1.0 / 0.0;
+        return f64::INFINITY;
     }
     bisect(set, p)
 }
