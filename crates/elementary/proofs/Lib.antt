@@ -3,3 +3,4 @@ pub mod Laws
 pub mod Promised
 -- The definitions at closed inputs.
 mod Examples
+pub mod RuleSets

@@ -51,8 +51,8 @@ fn sum(r: f64) -> f64
     ensures { result ≡ Exp.exp_sum 13 r one }
 {
     let mut p = 1.0;
-    for n in (1..14).rev() {
-        p = next_sum(r, p, n);
+    for i in (1..14).rev() {
+        p = next_sum(r, p, i);
     }
     p
 }

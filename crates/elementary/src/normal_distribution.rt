@@ -40,7 +40,8 @@ fn factors(y: Eight, t: Eight, s: Eight) -> Eight
     requires exponentials { Each exp_of_negative_square t s }
     ensures { Each smoothened_exponential_of_negative_square y result }
 {
-    s.zip(exps(y.zip(t, negative_rest)), |s, c| s * c)
+    let c = exps(y.zip(t, negative_rest));
+    s.zip(c, |s, c| s * c)
 }
 
 // erfc's argument, its size and the exponential factor.
