@@ -262,30 +262,17 @@ fn point(i: u64) -> f64
 }
 
 impl Question {
-    // A step between the points i and i + 2 × half: where lo is then.
-    fn first_step(self, i: u64, half: u64) -> u64
-        requires from_one { 1 ≤ half }
-        requires to_31 { i + half < 32 }
-        ensures value { result ≡ cond (lt (cdf_of self.set (point_of (i + half))) self.p) (i + half) i }
-        ensures at_most { result ≤ i + half }
-    {
-        if cdf_of_thirty_seconds(i + half) < self.p {
-            i + half
-        } else {
-            i
-        }
-    }
-
     fn first_steps(self) -> Bracket
         requires lowest_brackets { lt (cdf_of self.set lowest) self.p ≡ true }
         requires highest_brackets { lt (cdf_of self.set highest) self.p ≡ false }
         ensures { result.question ≡ self }
     {
-        let a = self.first_step(0, 16);
-        let b = self.first_step(a, 8);
-        let c = self.first_step(b, 4);
-        let d = self.first_step(c, 2);
-        let i = self.first_step(d, 1);
+        let mut i = 0;
+        for half in [16, 8, 4, 2, 1] {
+            if cdf_of_thirty_seconds(i + half) < self.p {
+                i += half;
+            }
+        }
         Bracket {
             question: self,
             ends: Ends {

@@ -7,7 +7,7 @@ use native.Mathlib.Omega.{arith}
 use borrow.Author.Tests.{lt-ltb}
 use lib.IntN.{pos}
 use lib.Dec.{T, lit<, lit≤, not_T}
-use lib.Ieee.{Float, nan, inf, fin, binary64, up, down, round, neg, div, lt, le, fits, of_bits}
+use lib.Ieee.{Float, nan, inf, fin, binary64, up, down, round, div, lt, le, fits, of_bits}
 use lib.Ieee.Bits.{is_true, is_false}
 use lib.Ieee.Fits.{and_l, and_r, down_pos, mul-fits, of_int-fits}
 use lib.Ieee.Exact.{HasValue}
@@ -17,24 +17,14 @@ use lib.Ieee.Order.{le_of_values}
 use lib.Ieee.Positive.{num, den, positive, first_pos, den_pos, own_value, positive_of_value, values_of_le, between, mul_at}
 use Rattle.elementary.specs.Ops.{◌⊗◌, ◌⊘◌, float, +0, four, sixteen}
 use Rattle.elementary.specs.Floor.{floor_of}
-use Rattle.elementary.specs.Methods.{abs_of}
 use Rattle.elementary.specs.Cody.{THRESHOLD, XBIG, tilde_of}
-use Rattle.elementary.specs.NormalDistribution.{FRAC_1_SQRT_2}
-use Rattle.elementary.specs.Inside.Cdf.{sixteenths_of, argument_of, is_between, Close, Between}
-use Rattle.elementary.proofs.Laws.Bits.{abs_fits}
+use Rattle.elementary.specs.Inside.Cdf.{sixteenths_of, Close, Between}
 use Rattle.elementary.proofs.Laws.Held.{holds}
 use Rattle.elementary.proofs.Laws.Order.{valued, finite_by, le→fractions}
 use Rattle.elementary.proofs.Laws.Places.{in_units_lem, exact_under}
 use Rattle.elementary.proofs.Laws.Values.{whole_value}
 use Rattle.elementary.proofs.Laws.Compare as compare
 use Rattle.elementary.proofs.Laws.Greatest.{floor_value, floor_fits}
-
--- ---- the test
-size_fits : (x : Float) {w y : Float} → w ≡ argument_of x → y ≡ abs_of w → T (fits binary64 y)
-size_fits x p q = rw (q, p) (abs_fits (argument_of x) (mul-fits binary64 (neg x) FRAC_1_SQRT_2))
-
-pub close_of : (k : ℕ) (x : Float) {w y a b : Float} → w ≡ argument_of x → y ≡ abs_of w → a ≡ sixteenths_of k → b ≡ sixteenths_of (k + 1) → is_between a b y ≡ true → Close k y
-close_of k x p s ea eb t = record { test = rw (← ea, ← eb) t; of_format = size_fits x p s }
 
 -- ---- k / 16 is exact
 over_sixteen : (x : Float) (k : ℕ) → HasValue x false k 1 → x ⊘ sixteen ≡ round binary64 false k 16

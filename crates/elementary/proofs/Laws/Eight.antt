@@ -29,10 +29,6 @@ through set x w r h g = in_each (λ at f. f.1 ∙ ap (half_erfc set) f.0) (both 
 pub same_tilde : {k : ℕ} {a : Float} (y t : Eight) → 1 ≤ k → k < 1024 → All (Close k) y → a ≡ sixteenths_of k → All (λ x. x ≡ a) t → Each tilde_of y t
 same_tilde y t l h c e s = in_each (λ at f. f.1 ∙ e ∙ sym (tilde_close l h f.0)) (both c s)
 
--- and one exponential serves all
-pub same_exp : {a e : Float} (t s : Eight) → e ≡ exp_of_negative_square a → All (λ x. x ≡ a) t → All (λ x. x ≡ e) s → Each exp_of_negative_square t s
-same_exp t s p h g = in_each (λ at f. f.1 ∙ p ∙ ap exp_of_negative_square (sym f.0)) (both h g)
-
 -- a factor is the product of its two exponentials
 factor_of : (y : Float) {t s z c r : Float} → t ≡ tilde_of y → s ≡ exp_of_negative_square t → z ≡ negative_rest y → c ≡ exp_of z → r ≡ s ⊗ c → r ≡ smoothened_exponential_of_negative_square y
 unfolding smoothened_exponential_of_negative_square

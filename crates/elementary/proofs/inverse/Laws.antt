@@ -4,6 +4,8 @@ use mathlib.Core.Bool.{Bool, true, false, cond}
 use Prim.Native.Nat.{ℕ, zero, suc, ◌+◌, ◌-◌, ◌≤◌, ◌<◌}
 use native.Mathlib.Nat.{add_assoc}
 use native.Mathlib.Omega.{arith}
+use mathlib.Core.List.{[], ◌∷◌}
+use lib.ListN.{get_or}
 use lib.Ieee.{Float, lt}
 use Rattle.elementary.specs.declared.rule_set.RuleSet.{RuleSet}
 use Rattle.elementary.specs.NormalDistribution.{cdf_of, mid_of, bisection_ends, lowest, highest, ends_of}
@@ -59,28 +61,41 @@ pub with_ends : {set : RuleSet} {p lo lo' hi hi' : Float} {i : ℕ} → lo ≡ l
 with_ends a b h = rw (a, b) h
 
 -- ---- the first five steps
-module _ (set : RuleSet) (p : Float) where
-  after_step : (h n i steps r : ℕ) → Middle h n → i < n → steps < 64 → r ≡ cond (lt (cdf_of set (point_of (i + h))) p) (i + h) i
-      → AfterSteps set p (point_of i) (point_of (i + (h + h))) steps → AfterSteps set p (point_of r) (point_of (r + h)) (steps + 1)
-  after_step h n i steps r m l s e after = go (lt (cdf_of set (point_of (i + h))) p) refl e
+-- the half of the distance of the ends in the n-th of them, in points, and the distance before it
+abbrev half : ℕ → ℕ
+half n = get_or (16 ∷ 8 ∷ 4 ∷ 2 ∷ 1 ∷ []) n 0
+
+abbrev width : ℕ → ℕ
+width n = get_or (32 ∷ 16 ∷ 8 ∷ 4 ∷ 2 ∷ 1 ∷ []) n 0
+
+-- the ends after n of them are the points i and i + width n
+pub record Points (set : RuleSet) (p : Float) (i n : ℕ) : Type 0 where
+  pub inside : i + width n ≤ 32
+  pub after : AfterSteps set p (point_of i) (point_of (i + width n)) n
+
+module _ {set : RuleSet} {p : Float} where
+  pub at_start : lt (cdf_of set lowest) p ≡ true → lt (cdf_of set highest) p ≡ false → Points set p 0 0
+  unfolding ends_of
+  at_start under over = record { inside = omega arith; after = rw (lowest_point, highest_point) (record { bound = omega arith; under = under; over = over; rest = refl }) }
+
+  halve : (n i r h m : ℕ) → Middle h m → width n ≡ h + h → width (n + 1) ≡ h → m + (h + h) ≡ 33 → n < 64 → Points set p i n
+      → (b : Bool) → lt (cdf_of set (point_of (i + h))) p ≡ b → r ≡ cond b (i + h) i → Points set p r (n + 1)
+  halve n i r h m e wide narrow size l at = go
     where
       mid : mid_of (point_of i) (point_of (i + (h + h))) ≡ point_of (i + h)
-      mid = middle_of h n i m l
+      mid = middle_of h m i e (omega (arith, at.inside, wide, size))
 
-      go : (b : Bool) → lt (cdf_of set (point_of (i + h))) p ≡ b → r ≡ cond b (i + h) i → AfterSteps set p (point_of r) (point_of (r + h)) (steps + 1)
-      go true t e = rw (e, add_assoc i h h, ← mid) (after_up p (point_of i) (point_of (i + (h + h))) steps after s (rw mid t))
-      go false t e = rw (e, ← mid) (after_down p (point_of i) (point_of (i + (h + h))) steps after s (rw mid t))
+      ends : AfterSteps set p (point_of i) (point_of (i + (h + h))) n
+      ends = rw wide at at.after
 
-  pub after_five : (a b c d i : ℕ)
-      → a ≡ cond (lt (cdf_of set (point_of 16)) p) 16 0 → b ≡ cond (lt (cdf_of set (point_of (a + 8))) p) (a + 8) a
-      → c ≡ cond (lt (cdf_of set (point_of (b + 4))) p) (b + 4) b → d ≡ cond (lt (cdf_of set (point_of (c + 2))) p) (c + 2) c
-      → i ≡ cond (lt (cdf_of set (point_of (d + 1))) p) (d + 1) d → a < 17 → b < 25 → c < 29 → d < 31
-      → lt (cdf_of set lowest) p ≡ true → lt (cdf_of set highest) p ≡ false → AfterSteps set p (point_of i) (point_of (i + 1)) 5
-  unfolding ends_of
-  after_five a b c d i ea eb ec ed ei la lb lc ld under over =
-      after_step 1 31 d 4 i middle_1 ld (omega arith) ei
-      (after_step 2 29 c 3 d middle_2 lc (omega arith) ed
-      (after_step 4 25 b 2 c middle_4 lb (omega arith) ec
-      (after_step 8 17 a 1 b middle_8 la (omega arith) eb
-      (after_step 16 1 0 0 a middle_16 (omega arith) (omega arith) ea
-      (rw (lowest_point, highest_point) (record { bound = omega arith; under = under; over = over; rest = refl }))))))
+      go : (b : Bool) → lt (cdf_of set (point_of (i + h))) p ≡ b → r ≡ cond b (i + h) i → Points set p r (n + 1)
+      go true t w = record { inside = omega (arith, at.inside, wide, narrow, w); after = rw (w, narrow, add_assoc i h h, ← mid) (after_up p (point_of i) (point_of (i + (h + h))) n ends l (rw mid t)) }
+      go false t w = record { inside = omega (arith, at.inside, wide, narrow, w); after = rw (w, narrow, ← mid) (after_down p (point_of i) (point_of (i + (h + h))) n ends l (rw mid t)) }
+
+  pub next_points : (n i : ℕ) {r : ℕ} → n < 5 → Points set p i n → (b : Bool) → lt (cdf_of set (point_of (i + half n))) p ≡ b → r ≡ cond b (i + half n) i → Points set p r (n + 1)
+  next_points zero i {r} l at = halve 0 i r 16 1 middle_16 refl refl (omega arith) (omega arith) at
+  next_points (suc zero) i {r} l at = halve 1 i r 8 17 middle_8 refl refl (omega arith) (omega arith) at
+  next_points (suc (suc zero)) i {r} l at = halve 2 i r 4 25 middle_4 refl refl (omega arith) (omega arith) at
+  next_points (suc (suc (suc zero))) i {r} l at = halve 3 i r 2 29 middle_2 refl refl (omega arith) (omega arith) at
+  next_points (suc (suc (suc (suc zero)))) i {r} l at = halve 4 i r 1 31 middle_1 refl refl (omega arith) (omega arith) at
+  next_points (suc (suc (suc (suc (suc n))))) i l at = absurd (omega arith)
