@@ -111,10 +111,10 @@ pub(crate) fn exp_of_negative_square(t: f64) -> f64
     ensures { result ≡ exp_of (negative_square t) }
 {
     let k = sixteenths(t);
-    if k < 96 && same(t, sixteenth(k)) {
-        return exp_of_negative_square_of_sixteenths(k);
+    match exp_of_negative_square_of_sixteenths(k) {
+        Some(value) if same(t, sixteenth(k)) => value,
+        _ => exp(-t * t),
     }
-    exp(-t * t)
 }
 
 pub fn smoothened_exponential_of_negative_square(y: f64) -> f64

@@ -1,4 +1,5 @@
-// Eight numbers side by side: what is computed of each of them in one expression runs as vectors.
+// Eight numbers side by side. The methods are inlined, so that what they compute of all eight runs as
+// vectors.
 ghost use Rattle.std.specs.Prelude.{◌≡◌, true};
 ghost use Rattle.elementary.specs.Inside.Each.{All, Pairs, Triples, Rows};
 

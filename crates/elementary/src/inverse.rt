@@ -16,7 +16,7 @@ use crate::rule_set::RuleSet;
 use crate::sqrt::sqrt;
 use crate::tables::cdf_of_thirty_seconds;
 
-// What is looked for: the least x, as far as the steps tell, at which the cdf is not below p.
+// What is bisected: the cdf under a rule set, for p.
 #[derive(Clone, Copy)]
 struct Question {
     set: RuleSet,
@@ -30,7 +30,7 @@ struct Ends {
     hi: f64,
 }
 
-// The ends after some steps, and the cdf's values there.
+// The ends after some of the 64 steps, and the cdf's values there.
 #[derive(Clone, Copy)]
 struct Bracket {
     question: Question,
@@ -124,8 +124,8 @@ impl Ends {
         }
     }
 
-    // The same for a guess inside, while the middles are exact: each is the middle of the part that
-    // holds the guess, of 1, 2, 4 .. alike parts, and none waits for another.
+    // The same for a guess inside, while the middles are exact: each is the middle of that of 1, 2, 4 ..
+    // alike parts which holds the guess, and none waits for another.
     fn middles_at_once(self, guess: f64) -> Eight {
         let w = self.hi - self.lo;
         let u = (guess - self.lo) / w;

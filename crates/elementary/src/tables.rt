@@ -1,6 +1,6 @@
 // Values of exp and of the cdf at the points where they are asked for most, by their bits. A static is
 // read in place: a constant would be built on the stack at each call.
-ghost use Rattle.std.specs.Prelude.{◌≡◌, ◌<◌, ◌≤◌};
+ghost use Rattle.std.specs.Prelude.{◌≡◌, ◌<◌, ◌≤◌, MatchOption};
 ghost use Rattle.elementary.specs.declared.rule_set.RuleSet.{RuleSet};
 ghost use Rattle.elementary.specs.Inside.Cdf.{sixteenths_of, exp_of_negative_square, point_of};
 ghost use Rattle.elementary.specs.NormalDistribution.{cdf_of};
@@ -138,12 +138,15 @@ static CDFS: [u64; 31] = [
     0x3ff0_0000_0000_0000,
 ];
 
-// exp(−(k / 16)²).
-pub(crate) fn exp_of_negative_square_of_sixteenths(k: u64) -> f64
-    requires { k < 96 }
-    ensures { result ≡ exp_of_negative_square (sixteenths_of k) }
+// exp(−(k / 16)²), for a k below 96.
+pub(crate) fn exp_of_negative_square_of_sixteenths(k: u64) -> Option<f64>
+    ensures { MatchOption result (96 ≤ k) (λ value. value ≡ exp_of_negative_square (sixteenths_of k)) }
 {
-    f64::from_bits(SQUARES[k as usize])
+    if k < 96 {
+        Some(f64::from_bits(SQUARES[k as usize]))
+    } else {
+        None
+    }
 }
 
 // The cdf at −39 + i × 78 / 32, the same under every rule set.
