@@ -1,5 +1,5 @@
 -- Where the cdf of eight numbers side by side shares one exponential, and the points of the bisection's first steps. Definitions only.
-use Rattle.std.specs.Prelude.{◌≡◌, Bool, true, false, ◌&&◌, ℕ, ◌+◌, ◌≤◌, ◌<◌, T, Float}
+use Rattle.std.specs.Prelude.{◌≡◌, Bool, true, false, ◌&&◌, ℕ, ◌+◌, ◌≤◌, T, Float}
 use Rattle.std.specs.Float.{binary64}
 use Rattle.std.specs.Float.Ieee.{neg, lt, le, fits}
 use Rattle.elementary.specs.Ops.{◌⊖◌, ◌⊗◌, ◌⊘◌, bits, float, half, four, sixteen}
@@ -31,7 +31,6 @@ pub record Close (k : ℕ) (y : Float) : Type 0 where
 -- eight sizes y of arguments w that do
 pub record CloseCase (k : ℕ) (w y : Eight) : Type 0 where
   pub low : 8 ≤ k
-  pub high : k < 1024
   pub sizes : Each abs_of w y
   pub close : All (Close k) y
 

@@ -8,7 +8,7 @@ use Rattle.elementary.proofs.normal_distribution.close_cdfs.Goals as goal
 pub factors-f-requires-clause-tildes : goal.factors-f-requires-clause-tildes
 factors-f-requires-clause-tildes c =
     let h = c.requires in
-    same_tilde _ _ (omega (arith, h.low)) h.high h.close c.sixteenth.ensures c.of.ensures
+    same_tilde _ _ (omega (arith, h.low)) c.args.near.k_high h.close c.sixteenth.ensures c.of.ensures
 
 pub zip3-requires : goal.zip3-requires
 zip3-requires c =
