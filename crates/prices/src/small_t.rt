@@ -178,7 +178,7 @@ impl Steps for ByMulAdd {
 
 // The terms 6, 5, 4 and 3, side by side, from their innermost brackets outward: entry k + 4 is one step,
 // h² × sum + (a × p − q), from entry k. Entry 15 is not used, since term 3 ends with entry 11. Each loop
-// copies its table first: with the table indexed in place the price took 7 % longer.
+// copies its table first: over the table in place the price took 2 % longer.
 const INNERMOST: [u32; 4] = [78, 55, 36, 21];
 
 const OUTWARD: [(u32, u32); 14] = [
@@ -268,8 +268,8 @@ impl<S: Steps> TaylorSum<S> {
         let addends = INNERMOST;
         let mut y = [0.0; 18];
         let mut doubt: u64 = 0;
-        for k in 0..4 {
-            let f = self.innermost(addends[k]);
+        for (k, addend) in addends.iter().enumerate() {
+            let f = self.innermost(*addend);
             y[k] = f.value;
             doubt |= f.doubt;
         }
@@ -282,9 +282,8 @@ impl<S: Steps> TaylorSum<S> {
     {
         let Sums { mut y, mut doubt } = self.innermost_sums();
         let steps = OUTWARD;
-        for k in 0..14 {
-            let (p, q) = steps[k];
-            let f = self.horner_step(y[k], p, q);
+        for (k, (p, q)) in steps.iter().enumerate() {
+            let f = self.horner_step(y[k], *p, *q);
             y[k + 4] = f.value;
             doubt |= f.doubt;
         }
