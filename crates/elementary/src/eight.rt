@@ -18,7 +18,7 @@ pub(crate) struct Eight {
 impl Eight {
     // Eight copies.
     #[inline(always)]
-    pub fn of(a: f64) -> Eight
+    pub(crate) fn of(a: f64) -> Eight
         ensures { All (λ x. x ≡ a) result }
     {
         Eight {
@@ -35,7 +35,7 @@ impl Eight {
 
     // f of each.
     #[inline(always)]
-    pub fn map<F: Fn(f64) -> f64>(self, f: F) -> Eight
+    pub(crate) fn map<F: Fn(f64) -> f64>(self, f: F) -> Eight
         requires { All (F.pre f) self }
         ensures { Pairs (F.post f) self result }
     {
@@ -53,7 +53,7 @@ impl Eight {
 
     // f of each and the one of `other` beside it.
     #[inline(always)]
-    pub fn zip<F: Fn(f64, f64) -> f64>(self, other: Eight, f: F) -> Eight
+    pub(crate) fn zip<F: Fn(f64, f64) -> f64>(self, other: Eight, f: F) -> Eight
         requires { Pairs (F.pre f) self other }
         ensures { Triples (F.post f) self other result }
     {
@@ -71,7 +71,7 @@ impl Eight {
 
     // f of each and the two beside it.
     #[inline(always)]
-    pub fn zip3<F: Fn(f64, f64, f64) -> f64>(self, y: Eight, z: Eight, f: F) -> Eight
+    pub(crate) fn zip3<F: Fn(f64, f64, f64) -> f64>(self, y: Eight, z: Eight, f: F) -> Eight
         requires { Triples (F.pre f) self y z }
         ensures { Rows (F.post f) self y z result }
     {
@@ -89,7 +89,7 @@ impl Eight {
 
     // Whether the test holds at each.
     #[inline(always)]
-    pub fn all<F: Fn(f64) -> bool>(self, test: F) -> bool
+    pub(crate) fn all<F: Fn(f64) -> bool>(self, test: F) -> bool
         requires { All (F.pre test) self }
         ensures { result ≡ true → All (λ x. F.post test x true) self }
     {

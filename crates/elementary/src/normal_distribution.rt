@@ -101,7 +101,7 @@ pub(crate) struct Sixteenth {
 
 impl Sixteenth {
     // The one nearest to t, for a t from 0 up to 64.
-    pub fn near(t: f64) -> Sixteenth {
+    pub(crate) fn near(t: f64) -> Sixteenth {
         let k = sixteenths(t);
         Sixteenth {
             k,

@@ -104,7 +104,7 @@ small_t_inner h t =
     let exp_term = exp_of (neg half ⊗ (h2 ⊕ t2)) in
     max_of (ONE_OVER_SQRT_TWO_PI ⊗ exp_term ⊗ y_diff) +0
 
--- small_t_expansion_of_normalised_black_call: refused from the bound on
+-- small_t_expansion_of_normalised_black_call: 8 from the bound on
 unfoldable pub small_t_of : Float → Float → Answer
 small_t_of h t = let inner = small_t_inner h t in cond (le SMALL_T t) (Err TTooLarge) (Ok inner)
 
@@ -134,7 +134,7 @@ asymptotic_inner h t =
 abbrev pub is_outside_asymptotic_region : Float → Float → Bool
 is_outside_asymptotic_region h t = lt H_LARGE h || le (abs_of h ⊖ abs_of H_LARGE ⊕ SMALL_T) t
 
--- asymptotic_expansion_of_normalised_black_call: refused outside of its region
+-- asymptotic_expansion_of_normalised_black_call: 7 outside of its region
 unfoldable pub asymptotic_of : Float → Float → Answer
 asymptotic_of h t = let inner = asymptotic_inner h t in cond (is_outside_asymptotic_region h t) (Err OutsideAsymptoticRegion) (Ok inner)
 

@@ -33,7 +33,7 @@ curve_of h t y_l y_r d_l d_r r =
     let curved = numerator ⊘ denominator in
     cond (lt r MAXIMUM) curved straight
 
--- rational_cubic_interpolation: refused for an infinite place, the middle of both values where the places lie within EPSILON
+-- rational_cubic_interpolation: 6 for an infinite place, the middle of both values where the places lie within EPSILON
 unfoldable pub interpolation_of : Float → Float → Float → Float → Float → Float → Float → Float → Answer
 interpolation_of x x_l x_r y_l y_r d_l d_r r =
     let h = x_r ⊖ x_l in

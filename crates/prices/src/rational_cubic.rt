@@ -21,7 +21,7 @@ pub enum Side {
 fn is_infinite(x: f64) -> bool
     ensures { result ≡ is_infinite x }
 {
-    abs(x) == 1.0 / 0.0
+    x.is_infinite()
 }
 
 // ---- the interpolation
