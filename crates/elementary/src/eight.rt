@@ -5,14 +5,7 @@ ghost use Rattle.elementary.specs.Inside.Each.{All, Pairs, Triples, Rows};
 
 #[derive(Clone, Copy)]
 pub(crate) struct Eight {
-    pub x0: f64,
-    pub x1: f64,
-    pub x2: f64,
-    pub x3: f64,
-    pub x4: f64,
-    pub x5: f64,
-    pub x6: f64,
-    pub x7: f64,
+    pub(crate) x: [f64; 8],
 }
 
 impl Eight {
@@ -21,16 +14,7 @@ impl Eight {
     pub(crate) fn of(a: f64) -> Eight
         ensures { All (λ x. x ≡ a) result }
     {
-        Eight {
-            x0: a,
-            x1: a,
-            x2: a,
-            x3: a,
-            x4: a,
-            x5: a,
-            x6: a,
-            x7: a,
-        }
+        Eight { x: [a; 8] }
     }
 
     // f of each.
@@ -39,16 +23,11 @@ impl Eight {
         requires { All (F.pre f) self }
         ensures { Pairs (F.post f) self result }
     {
-        Eight {
-            x0: f(self.x0),
-            x1: f(self.x1),
-            x2: f(self.x2),
-            x3: f(self.x3),
-            x4: f(self.x4),
-            x5: f(self.x5),
-            x6: f(self.x6),
-            x7: f(self.x7),
+        let mut x = [0.0; 8];
+        for i in 0..8 {
+            x[i] = f(self.x[i]);
         }
+        Eight { x }
     }
 
     // f of each and the one of `other` beside it.
@@ -57,16 +36,11 @@ impl Eight {
         requires { Pairs (F.pre f) self other }
         ensures { Triples (F.post f) self other result }
     {
-        Eight {
-            x0: f(self.x0, other.x0),
-            x1: f(self.x1, other.x1),
-            x2: f(self.x2, other.x2),
-            x3: f(self.x3, other.x3),
-            x4: f(self.x4, other.x4),
-            x5: f(self.x5, other.x5),
-            x6: f(self.x6, other.x6),
-            x7: f(self.x7, other.x7),
+        let mut x = [0.0; 8];
+        for i in 0..8 {
+            x[i] = f(self.x[i], other.x[i]);
         }
+        Eight { x }
     }
 
     // f of each and the two beside it.
@@ -75,16 +49,11 @@ impl Eight {
         requires { Triples (F.pre f) self y z }
         ensures { Rows (F.post f) self y z result }
     {
-        Eight {
-            x0: f(self.x0, y.x0, z.x0),
-            x1: f(self.x1, y.x1, z.x1),
-            x2: f(self.x2, y.x2, z.x2),
-            x3: f(self.x3, y.x3, z.x3),
-            x4: f(self.x4, y.x4, z.x4),
-            x5: f(self.x5, y.x5, z.x5),
-            x6: f(self.x6, y.x6, z.x6),
-            x7: f(self.x7, y.x7, z.x7),
+        let mut x = [0.0; 8];
+        for i in 0..8 {
+            x[i] = f(self.x[i], y.x[i], z.x[i]);
         }
+        Eight { x }
     }
 
     // Whether the test holds at each.
@@ -93,13 +62,10 @@ impl Eight {
         requires { All (F.pre test) self }
         ensures { result ≡ true → All (λ x. F.post test x true) self }
     {
-        test(self.x0)
-            & test(self.x1)
-            & test(self.x2)
-            & test(self.x3)
-            & test(self.x4)
-            & test(self.x5)
-            & test(self.x6)
-            & test(self.x7)
+        let mut all = true;
+        for i in 0..8 {
+            all &= test(self.x[i]);
+        }
+        all
     }
 }

@@ -107,21 +107,12 @@ impl Ends {
     // The next eight middles, if the result is near the guess: step by step.
     fn middles_one_by_one(self, guess: f64) -> Eight {
         let mut ends = self;
-        let mut next = || {
-            let mid = ends.middle();
+        let mut x = [0.0; 8];
+        for mid in x.iter_mut() {
+            *mid = ends.middle();
             ends = ends.half(guess);
-            mid
-        };
-        Eight {
-            x0: next(),
-            x1: next(),
-            x2: next(),
-            x3: next(),
-            x4: next(),
-            x5: next(),
-            x6: next(),
-            x7: next(),
         }
+        Eight { x }
     }
 
     // The same for a guess inside, while the middles are exact: each is the middle of that of 1, 2, 4 ..
@@ -145,14 +136,7 @@ impl Ends {
 }
 
 const PARTS: Eight = Eight {
-    x0: 1.0,
-    x1: 2.0,
-    x2: 4.0,
-    x3: 8.0,
-    x4: 16.0,
-    x5: 32.0,
-    x6: 64.0,
-    x7: 128.0,
+    x: [1.0, 2.0, 4.0, 8.0, 16.0, 32.0, 64.0, 128.0],
 };
 
 // ---- steps
@@ -228,13 +212,11 @@ impl Bracket {
         ensures question { result.question ≡ self.question }
         ensures step { self.steps ≤ result.steps }
     {
-        self.guessed_step(x.x1, f.x1)
-            .guessed_step(x.x2, f.x2)
-            .guessed_step(x.x3, f.x3)
-            .guessed_step(x.x4, f.x4)
-            .guessed_step(x.x5, f.x5)
-            .guessed_step(x.x6, f.x6)
-            .guessed_step(x.x7, f.x7)
+        let mut at = self;
+        for i in 1..8 {
+            at = at.guessed_step(x.x[i], f.x[i]);
+        }
+        at
     }
 
     // One step and up to seven more.
@@ -247,7 +229,7 @@ impl Bracket {
         let mid = self.ends.middle();
         let x = self.ends.middles(guess);
         let f = cdfs(set, x, near);
-        self.step(mid, cdf_at(set, mid, x.x0, f.x0))
+        self.step(mid, cdf_at(set, mid, x.x[0], f.x[0]))
             .guessed_steps(x, f)
     }
 }

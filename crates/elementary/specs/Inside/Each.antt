@@ -1,17 +1,15 @@
 -- Eight numbers side by side. Definitions only.
-use Rattle.std.specs.Prelude.{◌≡◌, Float}
+use Rattle.std.specs.Prelude.{◌≡◌, ℕ, ◌<◌, Float, slice_index_or}
+use Rattle.elementary.specs.Ops.{+0}
 use Rattle.elementary.specs.declared.eight.Eight.{Eight}
+
+-- the one at a place
+abbrev pub at : ℕ → Eight → Float
+at i x = slice_index_or x.x i +0
 
 -- P at each of the eight places
 pub record InEach (P : (Eight → Float) → Type 0) : Type 0 where
-  pub at0 : P (λ x. x.x0)
-  pub at1 : P (λ x. x.x1)
-  pub at2 : P (λ x. x.x2)
-  pub at3 : P (λ x. x.x3)
-  pub at4 : P (λ x. x.x4)
-  pub at5 : P (λ x. x.x5)
-  pub at6 : P (λ x. x.x6)
-  pub at7 : P (λ x. x.x7)
+  pub each : (i : ℕ) → i < 8 → P (at i)
 
 -- each of x is a P
 abbrev pub All : (Float → Type 0) → Eight → Type 0

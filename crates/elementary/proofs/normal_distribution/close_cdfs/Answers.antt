@@ -21,3 +21,12 @@ zip3-requires-then-near-lt416 c =
     let h = c.requires in
     let between = in_each (λ at p. above_four h.low c.if-near-lt416.true p c.if-near-gt64.true) h.close in
     in_each (λ at p. search rules) (both h.sizes (both between c.factors-f.ensures))
+
+pub returns-then-near-lt64 : goal.returns-then-near-lt64
+returns-then-near-lt64 c = in_each (λ at p. search rules) c.zip3.ensures
+
+pub returns-then-near-lt416 : goal.returns-then-near-lt416
+returns-then-near-lt416 c = in_each (λ at p. search rules) c.zip3-then-near-lt416.ensures
+
+pub returns : goal.returns
+returns c = in_each (λ at p. search rules) c.zip3-2.ensures
