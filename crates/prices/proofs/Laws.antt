@@ -1,6 +1,7 @@
 -- Laws, by subject. Nobody has to believe them: each is proved.
 pub mod Flags
 pub mod Sizes
+pub mod Infinities
 pub mod Refusals
 pub mod Regions
 pub mod Exponentials

@@ -18,18 +18,12 @@ pub enum Side {
     Right,
 }
 
-fn is_infinite(x: f64) -> bool
-    ensures { result ≡ is_infinite x }
-{
-    x.is_infinite()
-}
-
 // ---- the interpolation
 
 fn any_infinite(x: f64, x_l: f64, x_r: f64) -> bool
     ensures { result ≡ (is_infinite x || (is_infinite x_l || is_infinite x_r)) }
 {
-    is_infinite(x) || (is_infinite(x_l) || is_infinite(x_r))
+    x.is_infinite() || (x_l.is_infinite() || x_r.is_infinite())
 }
 
 // Formula (2.4) divided by formula (2.5); a straight line unless r is below the maximum.
@@ -168,7 +162,7 @@ fn denominator_at(side: Side, slope: f64, d_l: f64, d_r: f64) -> f64
 fn is_zero_or_infinite(x: f64) -> bool
     ensures { result ≡ (is_zero x || is_infinite x) }
 {
-    is_zero(x) || is_infinite(x)
+    is_zero(x) || x.is_infinite()
 }
 
 pub fn rational_cubic_control_parameter(
