@@ -30,31 +30,32 @@ const CODYS_THRESHOLD: f64 = 0.46875;
 // ---- optimal use of Cody's functions
 
 // Twice the price: from the threshold on erfcx stands for erfc.
-fn two_b<E: Exponentials>(set: RuleSet, e: &E, q1: f64, q2: f64) -> f64
-    ensures { result ≡ two_b_with set (E.up e.now) (E.down e.now) (E.bell e.now) q1 q2 }
+fn two_b<E: Exponentials>(set: RuleSet, e: &E, h: f64, t: f64, q1: f64, q2: f64) -> f64
+    requires { E.has_bell e.now h t }
+    ensures { result ≡ two_b_with set (E.up e.now) (E.down e.now) (bell_of h t) q1 q2 }
 {
     if q1 < CODYS_THRESHOLD {
         let first = e.up() * erfc(set, q1);
         if q2 < CODYS_THRESHOLD {
             return first - e.down() * erfc(set, q2);
         }
-        return first - e.bell() * erfcx(q2);
+        return first - e.bell(h, t) * erfcx(q2);
     }
     if q2 < CODYS_THRESHOLD {
-        return e.bell() * erfcx(q1) - e.down() * erfc(set, q2);
+        return e.bell(h, t) * erfcx(q1) - e.down() * erfc(set, q2);
     }
-    e.bell() * (erfcx(q1) - erfcx(q2))
+    e.bell(h, t) * (erfcx(q1) - erfcx(q2))
 }
 
 fn codys<E: Exponentials>(set: RuleSet, x: f64, s: f64, e: &E) -> f64
-    requires { E.bell e.now ≡ bell_of (x ⊘ s) (half ⊗ s) }
+    requires { E.has_bell e.now (x ⊘ s) (half ⊗ s) }
     ensures { result ≡ codys_with set (E.up e.now) (E.down e.now) x s }
 {
     let h = x / s;
     let t = 0.5 * s;
     let q1 = MINUS_FRAC_1_SQRT_2 * (h + t);
     let q2 = MINUS_FRAC_1_SQRT_2 * (h - t);
-    max(0.5 * two_b(set, e, q1, q2), 0.0)
+    max(0.5 * two_b(set, e, h, t, q1, q2), 0.0)
 }
 
 pub fn normalised_black_call_with_optimal_use_of_codys_functions(
@@ -64,7 +65,7 @@ pub fn normalised_black_call_with_optimal_use_of_codys_functions(
 ) -> f64
     ensures { result ≡ codys_of set x s }
 {
-    codys(set, x, s, &WhereRead { x, s })
+    codys(set, x, s, &WhereRead { x })
 }
 
 // ---- the expansion for a small t
@@ -187,13 +188,17 @@ pub(crate) fn out_of_the_money<E: Exponentials>(
     s: f64,
     e: &E,
 ) -> Result<f64, Refusal>
-    requires { E.bell e.now ≡ bell_of (x ⊘ s) (half ⊗ s) }
+    requires { E.has_bell e.now (x ⊘ s) (half ⊗ s) }
     ensures { result ≡ out_of_the_money_with set (E.up e.now) (E.down e.now) x s }
 {
     match region_of(x, s) {
         Region::Intrinsic => Ok(normalised_intrinsic(x, OptionType::Call)),
         Region::Asymptotic => asymptotic_expansion_of_normalised_black_call(x / s, 0.5 * s),
-        Region::SmallT => Ok(small_t(x / s, 0.5 * s, e.bell())),
+        Region::SmallT => {
+            let h = x / s;
+            let t = 0.5 * s;
+            Ok(small_t(h, t, e.bell(h, t)))
+        }
         Region::Codys => Ok(codys(set, x, s, e)),
     }
 }
@@ -206,7 +211,7 @@ fn call_at(set: RuleSet, depth: u64, x: f64, s: f64) -> Result<f64, Refusal>
         let mapped = call_at(set, depth - 1, -x, s)?;
         return Ok(normalised_intrinsic(x, OptionType::Call) + mapped);
     }
-    out_of_the_money(set, x, s, &WhereRead { x, s })
+    out_of_the_money(set, x, s, &WhereRead { x })
 }
 
 pub fn normalised_black_call(set: RuleSet, x: f64, s: f64) -> Result<f64, Refusal>

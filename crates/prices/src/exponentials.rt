@@ -1,7 +1,6 @@
 // The exponentials that a price out of the money asks for. The solver has those of x at hand for every
 // s; a single price computes each where it is read.
 ghost use Rattle.std.specs.Prelude.{◌≡◌, Float};
-ghost use Rattle.elementary.specs.Ops.{◌⊗◌, ◌⊘◌, half};
 ghost use Rattle.prices.specs.Black.{bell as bell_of};
 ghost use Rattle.prices.specs.Inside.Exponentials.{up_of, down_of};
 
@@ -19,7 +18,8 @@ pub(crate) trait Exponentials {
 
     ghost down: { Self → Float };
 
-    ghost bell: { Self → Float };
+    // Whether it may be asked for the bell of h and t.
+    ghost has_bell: { Self → Float → Float → Type 0 };
 
     // exp(x / 2).
     fn up(&self) -> f64
@@ -29,16 +29,16 @@ pub(crate) trait Exponentials {
     fn down(&self) -> f64
         ensures { result ≡ down self.now };
 
-    // exp(−(h² + t²) / 2), for h = x / s and t = s / 2.
-    fn bell(&self) -> f64
-        ensures { result ≡ bell self.now };
+    // exp(−(h² + t²) / 2). h and t are handed in, since who asks has them: x / s would be divided again.
+    fn bell(&self, h: f64, t: f64) -> f64
+        requires { has_bell self.now h t }
+        ensures { result ≡ bell_of h t };
 }
 
 // Each is computed where it is read.
 #[derive(Clone, Copy)]
 pub(crate) struct WhereRead {
     pub x: f64,
-    pub s: f64,
 }
 
 impl Exponentials for WhereRead {
@@ -46,7 +46,7 @@ impl Exponentials for WhereRead {
 
     ghost down = { λ e. down_of e.x };
 
-    ghost bell = { λ e. bell_of (e.x ⊘ e.s) (half ⊗ e.s) };
+    ghost has_bell = { λ e h t. Unit {0} };
 
     fn up(&self) -> f64 {
         exp(0.5 * self.x)
@@ -56,8 +56,8 @@ impl Exponentials for WhereRead {
         exp(-0.5 * self.x)
     }
 
-    fn bell(&self) -> f64 {
-        bell(self.x / self.s, 0.5 * self.s)
+    fn bell(&self, h: f64, t: f64) -> f64 {
+        bell(h, t)
     }
 }
 
@@ -74,7 +74,7 @@ impl Exponentials for AtHand {
 
     ghost down = { λ e. e.down };
 
-    ghost bell = { λ e. e.bell };
+    ghost has_bell = { λ e h t. e.bell ≡ bell_of h t };
 
     fn up(&self) -> f64 {
         self.up
@@ -84,7 +84,7 @@ impl Exponentials for AtHand {
         self.down
     }
 
-    fn bell(&self) -> f64 {
+    fn bell(&self, _h: f64, _t: f64) -> f64 {
         self.bell
     }
 }

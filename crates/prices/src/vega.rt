@@ -2,7 +2,6 @@
 ghost use Rattle.std.specs.Prelude.{◌≡◌};
 ghost use Rattle.elementary.specs.Ops.{◌⊗◌, ◌⊘◌, half};
 ghost use Rattle.prices.specs.Vega.{at_the_money, vega_vanishes, vega_of};
-ghost use Rattle.prices.specs.Black.{bell};
 
 use crate::constants::ONE_OVER_SQRT_TWO_PI;
 use crate::exponentials::{Exponentials, WhereRead};
@@ -27,7 +26,7 @@ fn vega_vanishes(ax: f64, s: f64) -> bool
 
 // Vega, from exponentials of x and s of which that of −(h² + t²) / 2 may be read.
 pub(crate) fn vega_with<E: Exponentials>(x: f64, s: f64, e: &E) -> f64
-    requires { E.bell e.now ≡ bell (x ⊘ s) (half ⊗ s) }
+    requires { E.has_bell e.now (x ⊘ s) (half ⊗ s) }
     ensures { result ≡ vega_of x s }
 {
     let ax = abs(x);
@@ -37,11 +36,11 @@ pub(crate) fn vega_with<E: Exponentials>(x: f64, s: f64, e: &E) -> f64
     if vega_vanishes(ax, s) {
         return 0.0;
     }
-    ONE_OVER_SQRT_TWO_PI * e.bell()
+    ONE_OVER_SQRT_TWO_PI * e.bell(x / s, 0.5 * s)
 }
 
 pub fn normalised_vega(x: f64, s: f64) -> f64
     ensures { result ≡ vega_of x s }
 {
-    vega_with(x, s, &WhereRead { x, s })
+    vega_with(x, s, &WhereRead { x })
 }

@@ -4,4 +4,4 @@ use Rattle.prices.proofs.black.codys.Goals as goal
 
 pub returns : goal.returns
 unfolding codys_with
-returns g c = rw (c.max.ensures, c.two_b.ensures, c.requires)
+returns g c = rw (c.max.ensures, c.two_b.ensures)

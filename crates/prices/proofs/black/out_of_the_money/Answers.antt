@@ -6,9 +6,6 @@ use Rattle.prices.specs.Black.{SMALL_T, small_t_of}
 use Rattle.prices.proofs.Laws.Regions.{in_region_with, small_t_region}
 use Rattle.prices.proofs.black.out_of_the_money.Goals as goal
 
-pub small_t-requires : goal.small_t-requires
-small_t-requires g c = c.bell.ensures ∙ c.requires
-
 pub returns-in-Intrinsic : goal.returns-in-Intrinsic
 returns-in-Intrinsic g c = ap Ok c.normalised_intrinsic.ensures ∙ in_region_with _ _ _ _ _ c.region_of.ensures c.in-Intrinsic.is _ _
 

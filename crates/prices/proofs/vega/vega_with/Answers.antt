@@ -12,4 +12,4 @@ returns-then-vega_vanishes g c = rw (← c.abs-ax.ensures, c.if-ax.false, ← c.
 
 pub returns : goal.returns
 unfolding vega_of
-returns g c = rw (← c.abs-ax.ensures, c.if-ax.false, ← c.vega_vanishes.ensures, c.if-vega_vanishes.false, c.bell.ensures, c.requires)
+returns g c = rw (← c.abs-ax.ensures, c.if-ax.false, ← c.vega_vanishes.ensures, c.if-vega_vanishes.false, c.bell.ensures)
