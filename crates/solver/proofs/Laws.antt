@@ -6,7 +6,7 @@ pub mod Half
 pub mod Numbers
 pub mod Forms
 pub mod Loops
-pub mod PriceAndVega
+pub mod Place
 pub mod LoopInvariant
 pub mod Checks
 pub mod BySet

@@ -8,7 +8,7 @@ ghost use Rattle.solver.specs.Guess as Guess;
 ghost use Rattle.solver.specs.Guess.{TWO_PI_OVER_SQRT_TWENTY_SEVEN, is_below_horizon, inverse_f_lower_map, upper_map, lower_map, lower_guess, middle_guess, upper_f, upper_guess, start_at, with_value, tail_start, upper_place, lower_start, upper_start, guessed_start, mapped_start, normalised_start};
 
 use crate::answers::Branch;
-use crate::normalised_market::NormalisedMarket;
+use crate::normalised_market::{NormalisedMarket, Place};
 use crate::state::{MapAndDerivatives, Start, State};
 use elementary::exp::exp;
 use elementary::limits::{MAX, MIN};
@@ -122,55 +122,56 @@ fn compute_f_lower_map_and_first_two_derivatives(set: RuleSet, x: f64, s: f64) -
 
 // ---- the first s of each branch
 
-fn lower_guess(set: RuleSet, x: f64, beta: f64, b_l: f64, s_l: f64) -> Result<f64, Refusal>
-    ensures { result ≡ lower_guess set x beta b_l s_l }
+fn lower_guess(set: RuleSet, m: NormalisedMarket, l: Place) -> Result<f64, Refusal>
+    ensures { result ≡ lower_guess set m.x m.beta l.price l.s }
 {
-    let m = compute_f_lower_map_and_first_two_derivatives(set, x, s_l);
-    let f_l = m.f;
+    let map = compute_f_lower_map_and_first_two_derivatives(set, m.x, l.s);
+    let f_l = map.f;
     let r_ll = convex_rational_cubic_control_parameter(
         0.0,
-        b_l,
+        l.price,
         0.0,
         f_l,
         1.0,
-        m.fp,
-        m.fpp,
+        map.fp,
+        map.fpp,
         true,
         Side::Right,
     );
-    let f = rational_cubic_interpolation(beta, 0.0, b_l, 0.0, f_l, 1.0, m.fp, r_ll)?;
+    let f = rational_cubic_interpolation(m.beta, 0.0, l.price, 0.0, f_l, 1.0, map.fp, r_ll)?;
     if f <= 0.0 {
-        let t = beta / b_l;
-        return Ok(inverse_f_lower_map(set, x, (f_l * t + b_l * (1.0 - t)) * t));
+        let t = m.beta / l.price;
+        let f = (f_l * t + l.price * (1.0 - t)) * t;
+        return Ok(inverse_f_lower_map(set, m.x, f));
     }
-    Ok(inverse_f_lower_map(set, x, f))
+    Ok(inverse_f_lower_map(set, m.x, f))
 }
 
-// Between two places with their prices and vegas, for either middle branch.
-fn middle_guess(
-    beta: f64,
-    b_1: f64,
-    b_2: f64,
-    s_1: f64,
-    s_2: f64,
-    v_1: f64,
-    v_2: f64,
-    side: Side,
-) -> Result<f64, Refusal>
-    ensures { result ≡ middle_guess beta b_1 b_2 s_1 s_2 v_1 v_2 side }
+// Between two places, for either middle branch.
+fn middle_guess(beta: f64, p: Place, q: Place, side: Side) -> Result<f64, Refusal>
+    ensures { result ≡ middle_guess beta p.price q.price p.s q.s p.vega q.vega side }
 {
     let r = convex_rational_cubic_control_parameter(
-        b_1,
-        b_2,
-        s_1,
-        s_2,
-        1.0 / v_1,
-        1.0 / v_2,
+        p.price,
+        q.price,
+        p.s,
+        q.s,
+        1.0 / p.vega,
+        1.0 / q.vega,
         0.0,
         false,
         side,
     );
-    rational_cubic_interpolation(beta, b_1, b_2, s_1, s_2, 1.0 / v_1, 1.0 / v_2, r)
+    rational_cubic_interpolation(
+        beta,
+        p.price,
+        q.price,
+        p.s,
+        q.s,
+        1.0 / p.vega,
+        1.0 / q.vega,
+        r,
+    )
 }
 
 // The cubic's f, or -f64::MAX where the second derivative is too large for it.
@@ -196,22 +197,16 @@ fn upper_f(beta: f64, b_max: f64, b_h: f64, m: MapAndDerivatives) -> Result<f64,
     }
 }
 
-fn upper_guess(
-    set: RuleSet,
-    x: f64,
-    beta: f64,
-    b_max: f64,
-    b_h: f64,
-    s_h: f64,
-) -> Result<f64, Refusal>
-    ensures { result ≡ upper_guess set x beta b_max b_h s_h }
+fn upper_guess(set: RuleSet, m: NormalisedMarket, h: Place) -> Result<f64, Refusal>
+    ensures { result ≡ upper_guess set m.x m.beta m.b_max h.price h.s }
 {
-    let m = compute_f_upper_map_and_first_two_derivatives(set, x, s_h);
-    let f = upper_f(beta, b_max, b_h, m)?;
+    let map = compute_f_upper_map_and_first_two_derivatives(set, m.x, h.s);
+    let f = upper_f(m.beta, m.b_max, h.price, map)?;
     if f <= 0.0 {
-        let h = b_max - b_h;
-        let t = (beta - b_h) / h;
-        return Ok(inverse_f_upper_map(set, (m.f * (1.0 - t) + 0.5 * h * t) * (1.0 - t)));
+        let width = m.b_max - h.price;
+        let t = (m.beta - h.price) / width;
+        let f = (map.f * (1.0 - t) + 0.5 * width * t) * (1.0 - t);
+        return Ok(inverse_f_upper_map(set, f));
     }
     Ok(inverse_f_upper_map(set, f))
 }
@@ -244,78 +239,62 @@ fn start_loop(
     Ok(Start::Looping(branch, m, start_at(left, right, guess?)))
 }
 
-// Below b_c: branches 1 and 2.
-fn lower_start(
-    set: RuleSet,
-    m: NormalisedMarket,
-    s_c: f64,
-    b_c: f64,
-    v_c: f64,
-) -> Result<Start, Refusal>
-    ensures { meaning set result ≡ lower_start set m.x m.beta s_c b_c v_c }
+// Below the price at c: branches 1 and 2.
+fn lower_start(set: RuleSet, m: NormalisedMarket, c: Place) -> Result<Start, Refusal>
+    ensures { meaning set result ≡ lower_start set m.x m.beta c.s c.price c.vega }
 {
-    let s_l = s_c - b_c / v_c;
-    let at_l = m.price_and_vega(set, s_l)?;
-    let b_l = at_l.price;
-    if m.beta < b_l {
-        let guess = lower_guess(set, m.x, m.beta, b_l, s_l);
-        return start_loop(Branch::Lower, m, MIN, s_l, guess);
+    let l = m.place(set, c.s - c.price / c.vega)?;
+    if m.beta < l.price {
+        let guess = lower_guess(set, m, l);
+        return start_loop(Branch::Lower, m, MIN, l.s, guess);
     }
-    let guess = middle_guess(m.beta, b_l, b_c, s_l, s_c, at_l.vega, v_c, Side::Right);
-    start_loop(Branch::LowerMiddle, m, s_l, s_c, guess)
+    let guess = middle_guess(m.beta, l, c, Side::Right);
+    start_loop(Branch::LowerMiddle, m, l.s, c.s, guess)
 }
 
-// Above b_h: branches 4 and 5.
-fn tail_start(set: RuleSet, m: NormalisedMarket, b_h: f64, s_h: f64) -> Result<Start, Refusal>
-    ensures { meaning set result ≡ tail_start set m.x m.beta m.b_max b_h s_h }
+// Above the price at h: branches 4 and 5.
+fn tail_start(set: RuleSet, m: NormalisedMarket, h: Place) -> Result<Start, Refusal>
+    ensures { meaning set result ≡ tail_start set m.x m.beta m.b_max h.price h.s }
 {
-    let guess = upper_guess(set, m.x, m.beta, m.b_max, b_h, s_h);
+    let guess = upper_guess(set, m, h);
     if m.beta > 0.5 * m.b_max {
-        return start_loop(Branch::Upper, m, s_h, MAX, guess);
+        return start_loop(Branch::Upper, m, h.s, MAX, guess);
     }
-    start_loop(Branch::UpperRest, m, s_h, MAX, guess)
+    start_loop(Branch::UpperRest, m, h.s, MAX, guess)
 }
 
-fn upper_place(b_max: f64, s_c: f64, b_c: f64, v_c: f64) -> f64
-    ensures { result ≡ upper_place b_max s_c b_c v_c }
+fn upper_place(b_max: f64, c: Place) -> f64
+    ensures { result ≡ upper_place b_max c.s c.price c.vega }
 {
-    if v_c > MIN {
-        s_c + (b_max - b_c) / v_c
+    if c.vega > MIN {
+        c.s + (b_max - c.price) / c.vega
     } else {
-        s_c
+        c.s
     }
 }
 
-// From b_c on: branches 3, 4 and 5.
-fn upper_start(
-    set: RuleSet,
-    m: NormalisedMarket,
-    s_c: f64,
-    b_c: f64,
-    v_c: f64,
-) -> Result<Start, Refusal>
-    ensures { meaning set result ≡ upper_start set m.x m.beta m.b_max s_c b_c v_c }
+// From the price at c on: branches 3, 4 and 5.
+fn upper_start(set: RuleSet, m: NormalisedMarket, c: Place) -> Result<Start, Refusal>
+    ensures { meaning set result ≡ upper_start set m.x m.beta m.b_max c.s c.price c.vega }
 {
-    let s_h = upper_place(m.b_max, s_c, b_c, v_c);
-    let at_h = m.price_and_vega(set, s_h)?;
-    let b_h = at_h.price;
-    if m.beta <= b_h {
-        let guess = middle_guess(m.beta, b_c, b_h, s_c, s_h, v_c, at_h.vega, Side::Left);
-        return start_loop(Branch::UpperMiddle, m, s_c, s_h, guess);
+    let h = m.place(set, upper_place(m.b_max, c))?;
+    if m.beta <= h.price {
+        let guess = middle_guess(m.beta, c, h, Side::Left);
+        return start_loop(Branch::UpperMiddle, m, c.s, h.s, guess);
     }
-    tail_start(set, m, b_h, s_h)
+    tail_start(set, m, h)
 }
 
-// From the price at √(2 |x|) on.
+// From c, the place at √(2 |x|), on.
 fn guessed_start(set: RuleSet, m: NormalisedMarket) -> Result<Start, Refusal>
     ensures { meaning set result ≡ guessed_start set m.x m.beta m.b_max }
 {
-    let s_c = sqrt(2.0 * abs(m.x));
-    let at_c = m.price_and_vega(set, s_c)?;
-    if m.beta < at_c.price {
-        return lower_start(set, m, s_c, at_c.price, at_c.vega);
+    let c = m.place(set, sqrt(2.0 * abs(m.x)))?;
+    if m.beta < c.price {
+        lower_start(set, m, c)
+    } else {
+        upper_start(set, m, c)
     }
-    upper_start(set, m, s_c, at_c.price, at_c.vega)
 }
 
 // From the target and x after all mapping.

@@ -3,8 +3,16 @@ ghost use Rattle.std.specs.Prelude.{◌≡◌};
 ghost use Rattle.prices.specs.Inside.Exponentials.{up_of, down_of};
 
 use elementary::rule_set::RuleSet;
-use prices::point::{PriceAndVega, price_and_vega};
+use prices::point::price_and_vega;
 use prices::refusal::Refusal;
+
+// A place s, and the price and the vega there.
+#[derive(Clone, Copy)]
+pub(crate) struct Place {
+    pub(crate) s: f64,
+    pub(crate) price: f64,
+    pub(crate) vega: f64,
+}
 
 // x and the target after all mapping, b_max, which is exp(x / 2), and exp(−x / 2).
 #[derive(Clone, Copy)]
@@ -20,11 +28,16 @@ pub struct NormalisedMarket {
 impl NormalisedMarket {
     ghost use Rattle.prices.specs.Vega.{vega_of};
     ghost use Rattle.prices.specs.Black.{call_of};
-    ghost use Rattle.prices.specs.Inside.Point.{price_and_vega as with_vega};
+    ghost use Rattle.solver.specs.Inside.Place.{place_of};
 
-    pub(crate) fn price_and_vega(self, set: RuleSet, s: f64) -> Result<PriceAndVega, Refusal>
-        ensures { result ≡ with_vega (call_of set self.x s) (vega_of self.x s) }
+    pub(crate) fn place(self, set: RuleSet, s: f64) -> Result<Place, Refusal>
+        ensures { result ≡ place_of s (call_of set self.x s) (vega_of self.x s) }
     {
-        price_and_vega(set, self.x, s, self.b_max, self.down)
+        let found = price_and_vega(set, self.x, s, self.b_max, self.down)?;
+        Ok(Place {
+            s,
+            price: found.price,
+            vega: found.vega,
+        })
     }
 }

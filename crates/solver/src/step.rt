@@ -3,9 +3,10 @@
 ghost use Rattle.std.specs.Prelude.{◌≡◌};
 ghost use Rattle.solver.specs.Step.{householder_factor, bracket_after, to_middle, halley_of, hh3_of, lower_ds, upper_ds, general_ds, is_close};
 ghost use Rattle.solver.specs.Inside.Branch.{branch_ds, branch_after, branch_step};
+ghost use Rattle.solver.specs.declared.state.Bracket.{Bracket};
 
 use crate::answers::Branch;
-use crate::normalised_market::NormalisedMarket;
+use crate::normalised_market::{NormalisedMarket, Place};
 use crate::state::{Bracket, Record, State, Step};
 use elementary::limits::{EPSILON, MIN};
 use elementary::ln::ln;
@@ -19,10 +20,12 @@ fn householder_factor(newton: f64, halley: f64, hh3: f64) -> f64
     (1.0 + 0.5 * halley * newton) / (1.0 + newton * (halley + hh3 * newton / 6.0))
 }
 
-// The bracket's move after a price b at s.
-fn bracket_after(b: f64, beta: f64, s: f64, left: f64, right: f64) -> Bracket
-    ensures { result ≡ bracket_after b beta s left right }
+// The bracket's move after the price at a place.
+fn bracket_after(at: Place, beta: f64, left: f64, right: f64) -> Bracket
+    ensures { result ≡ bracket_after at.price beta at.s left right }
 {
+    let b = at.price;
+    let s = at.s;
     if b > beta && s < right {
         Bracket { left, right: s }
     } else if b < beta && s > left {
@@ -52,16 +55,19 @@ fn hh3_of(halley: f64, x: f64, s: f64) -> f64
 }
 
 // The lower loop's ds, in ln b.
-fn lower_ds(x: f64, beta: f64, s: f64, b: f64, bp: f64, bracket: Bracket) -> f64
-    ensures { result ≡ lower_ds x beta s b bp bracket }
+fn lower_ds(m: NormalisedMarket, at: Place, bracket: Bracket) -> f64
+    ensures { result ≡ lower_ds m.x m.beta at.s at.price at.vega bracket }
 {
+    let s = at.s;
+    let b = at.price;
+    let bp = at.vega;
     if b <= 0.0 || bp <= 0.0 {
         to_middle(bracket, s)
     } else {
         let ln_b = ln(b);
-        let ln_beta = ln(beta);
+        let ln_beta = ln(m.beta);
         let bpob = bp / b;
-        let h = x / s;
+        let h = m.x / s;
         let b_halley = h * h / s - s / 4.0;
         let newton = (ln_beta - ln_b) * ln_b / ln_beta / bpob;
         let halley = b_halley - bpob * (1.0 + 2.0 / ln_b);
@@ -73,17 +79,20 @@ fn lower_ds(x: f64, beta: f64, s: f64, b: f64, bp: f64, bracket: Bracket) -> f64
 }
 
 // The upper loop's ds, in ln of what is left to the cap.
-fn upper_ds(b_max: f64, x: f64, beta: f64, s: f64, b: f64, bp: f64, bracket: Bracket) -> f64
-    ensures { result ≡ upper_ds b_max x beta s b bp bracket }
+fn upper_ds(m: NormalisedMarket, at: Place, bracket: Bracket) -> f64
+    ensures { result ≡ upper_ds m.b_max m.x m.beta at.s at.price at.vega bracket }
 {
-    if b >= b_max || bp <= MIN {
+    let s = at.s;
+    let b = at.price;
+    let bp = at.vega;
+    if b >= m.b_max || bp <= MIN {
         to_middle(bracket, s)
     } else {
-        let b_max_minus_b = b_max - b;
-        let g = ln((b_max - beta) / b_max_minus_b);
+        let b_max_minus_b = m.b_max - b;
+        let g = ln((m.b_max - m.beta) / b_max_minus_b);
         let gp = bp / b_max_minus_b;
-        let b_halley = halley_of(x, s);
-        let b_hh3 = hh3_of(b_halley, x, s);
+        let b_halley = halley_of(m.x, s);
+        let b_hh3 = hh3_of(b_halley, m.x, s);
         let newton = -g / gp;
         let halley = b_halley + gp;
         let hh3 = b_hh3 + gp * (2.0 * gp + 3.0 * b_halley);
@@ -92,32 +101,23 @@ fn upper_ds(b_max: f64, x: f64, beta: f64, s: f64, b: f64, bp: f64, bracket: Bra
 }
 
 // The general loop's ds, for which the bracket counts nothing; the max binds to the factor alone.
-fn general_ds(x: f64, beta: f64, s: f64, b: f64, bp: f64, bracket: Bracket) -> f64
-    ensures { result ≡ general_ds x beta s b bp bracket }
+fn general_ds(m: NormalisedMarket, at: Place) -> f64
+    ensures { (bracket : Bracket) → result ≡ general_ds m.x m.beta at.s at.price at.vega bracket }
 {
-    let newton = (beta - b) / bp;
-    let halley = halley_of(x, s);
-    let hh3 = hh3_of(halley, x, s);
-    newton * max(householder_factor(newton, halley, hh3), -0.5 * s)
+    let newton = (m.beta - at.price) / at.vega;
+    let halley = halley_of(m.x, at.s);
+    let hh3 = hh3_of(halley, m.x, at.s);
+    newton * max(householder_factor(newton, halley, hh3), -0.5 * at.s)
 }
 
 // The branch's own ds.
-fn branch_ds(
-    branch: Branch,
-    b_max: f64,
-    x: f64,
-    beta: f64,
-    s: f64,
-    b: f64,
-    bp: f64,
-    bracket: Bracket,
-) -> f64
-    ensures { result ≡ branch_ds branch b_max x beta s b bp bracket }
+fn branch_ds(branch: Branch, m: NormalisedMarket, at: Place, bracket: Bracket) -> f64
+    ensures { result ≡ branch_ds branch m.b_max m.x m.beta at.s at.price at.vega bracket }
 {
     match branch {
-        Branch::Lower => lower_ds(x, beta, s, b, bp, bracket),
-        Branch::Upper => upper_ds(b_max, x, beta, s, b, bp, bracket),
-        _ => general_ds(x, beta, s, b, bp, bracket),
+        Branch::Lower => lower_ds(m, at, bracket),
+        Branch::Upper => upper_ds(m, at, bracket),
+        _ => general_ds(m, at),
     }
 }
 
@@ -140,13 +140,10 @@ pub(crate) fn step(
 ) -> Result<Step, Refusal>
     ensures { result ≡ branch_step set branch m.b_max m.x m.beta st }
 {
-    let s = st.s;
-    let at_s = m.price_and_vega(set, s)?;
-    let b = at_s.price;
-    let vega = at_s.vega;
-    let bracket = bracket_after(b, m.beta, s, st.left, st.right);
-    let ds = branch_ds(branch, m.b_max, m.x, m.beta, s, b, vega, bracket);
-    let after = branch_after(branch, s, ds);
+    let at = m.place(set, st.s)?;
+    let bracket = bracket_after(at, m.beta, st.left, st.right);
+    let ds = branch_ds(branch, m, at, bracket);
+    let after = branch_after(branch, st.s, ds);
     let left = bracket.left;
     let right = bracket.right;
     let state = State {
@@ -157,9 +154,9 @@ pub(crate) fn step(
         right,
     };
     let kept = Record {
-        s,
-        b,
-        vega,
+        s: st.s,
+        b: at.price,
+        vega: at.vega,
         left,
         right,
         after,

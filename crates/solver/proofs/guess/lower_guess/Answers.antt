@@ -10,16 +10,16 @@ unfolding lower_guess on_value
 returns-in_err-f c =
     let e : c.rational_cubic_interpolation.result ≡ Err c.in_err-f.field-0.0 = search rules in
     let r : c.from_residual.result ≡ Err c.in_err-f.field-0.0 = search rules in
-    r ∙ rw (← c.compute_f_lower_map_and_first_two_derivatives-m.ensures, ← c.convex_rational_cubic_control_parameter-r_ll.ensures, ← c.rational_cubic_interpolation.ensures, e)
+    r ∙ rw (← c.compute_f_lower_map_and_first_two_derivatives-map.ensures, ← c.convex_rational_cubic_control_parameter-r_ll.ensures, ← c.rational_cubic_interpolation.ensures, e)
 
 pub returns-then-f : goal.returns-then-f
 unfolding lower_guess on_value
 returns-then-f c =
     let e : c.rational_cubic_interpolation.result ≡ Ok c.in_ok-f.f = search rules in
-    rw (c.inverse_f_lower_map.ensures, ← c.compute_f_lower_map_and_first_two_derivatives-m.ensures, ← c.convex_rational_cubic_control_parameter-r_ll.ensures, ← c.rational_cubic_interpolation.ensures, e, c.if-f.true)
+    rw (c.inverse_f_lower_map.ensures, ← c.compute_f_lower_map_and_first_two_derivatives-map.ensures, ← c.convex_rational_cubic_control_parameter-r_ll.ensures, ← c.rational_cubic_interpolation.ensures, e, c.if-f.true)
 
 pub returns : goal.returns
 unfolding lower_guess on_value
 returns c =
     let e : c.rational_cubic_interpolation.result ≡ Ok c.in_ok-f.f = search rules in
-    rw (c.inverse_f_lower_map-2.ensures, ← c.compute_f_lower_map_and_first_two_derivatives-m.ensures, ← c.convex_rational_cubic_control_parameter-r_ll.ensures, ← c.rational_cubic_interpolation.ensures, e, c.if-f.false)
+    rw (c.inverse_f_lower_map-2.ensures, ← c.compute_f_lower_map_and_first_two_derivatives-map.ensures, ← c.convex_rational_cubic_control_parameter-r_ll.ensures, ← c.rational_cubic_interpolation.ensures, e, c.if-f.false)

@@ -4,4 +4,4 @@ use Rattle.solver.proofs.step.general_ds.Goals as goal
 
 pub returns : goal.returns
 unfolding general_ds
-returns c = rw (c.max.ensures, c.householder_factor.ensures, c.hh3_of-hh3.ensures, c.halley_of-halley.ensures)
+returns c bracket = rw (c.max.ensures, c.householder_factor.ensures, c.hh3_of-hh3.ensures, c.halley_of-halley.ensures)
