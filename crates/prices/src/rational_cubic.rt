@@ -68,44 +68,70 @@ pub fn rational_cubic_interpolation(
 
 // ---- the control parameters
 
-fn is_monotonic(d_l: f64, d_r: f64, s: f64) -> bool
-    ensures { result ≡ is_monotonic d_l d_r s }
-{
-    d_l * s >= 0.0 && d_r * s >= 0.0
+// The slopes at both ends, and the chord's.
+#[derive(Clone, Copy)]
+struct Slopes {
+    d_l: f64,
+    d_r: f64,
+    s: f64,
 }
 
-fn is_convex(d_l: f64, d_r: f64, s: f64) -> bool
-    ensures { result ≡ is_convex d_l d_r s }
-{
-    d_l <= s && s <= d_r
-}
-
-fn is_concave(d_l: f64, d_r: f64, s: f64) -> bool
-    ensures { result ≡ is_concave d_l d_r s }
-{
-    d_l >= s && s >= d_r
-}
-
-fn is_convex_or_concave(d_l: f64, d_r: f64, s: f64) -> bool
-    ensures { result ≡ (is_convex d_l d_r s || is_concave d_l d_r s) }
-{
-    is_convex(d_l, d_r, s) || is_concave(d_l, d_r, s)
-}
-
-// r1: satisfies the monotonicity condition (3.8) where monotonicity is possible.
-fn monotonic_parameter(monotonic: bool, d_l: f64, d_r: f64, s: f64, prefer: bool) -> f64
-    ensures { result ≡ monotonic_parameter monotonic d_l d_r s prefer }
-{
-    if monotonic {
-        if is_zero(s) {
-            if prefer {
-                return MAXIMUM_RATIONAL_CUBIC_CONTROL_PARAMETER_VALUE;
-            }
-            return MIN;
-        }
-        return (d_r + d_l) / s;
+impl Slopes {
+    fn is_monotonic(self) -> bool
+        ensures { result ≡ is_monotonic self.d_l self.d_r self.s }
+    {
+        self.d_l * self.s >= 0.0 && self.d_r * self.s >= 0.0
     }
-    MIN
+
+    fn is_convex(self) -> bool
+        ensures { result ≡ is_convex self.d_l self.d_r self.s }
+    {
+        self.d_l <= self.s && self.s <= self.d_r
+    }
+
+    fn is_concave(self) -> bool
+        ensures { result ≡ is_concave self.d_l self.d_r self.s }
+    {
+        self.d_l >= self.s && self.s >= self.d_r
+    }
+
+    fn is_convex_or_concave(self) -> bool
+        ensures { result ≡ (is_convex self.d_l self.d_r self.s || is_concave self.d_l self.d_r self.s) }
+    {
+        self.is_convex() || self.is_concave()
+    }
+
+    // r1: satisfies the monotonicity condition (3.8) where monotonicity is possible.
+    fn monotonic_parameter(self, monotonic: bool, prefer: bool) -> f64
+        ensures { result ≡ monotonic_parameter monotonic self.d_l self.d_r self.s prefer }
+    {
+        if monotonic {
+            if is_zero(self.s) {
+                if prefer {
+                    return MAXIMUM_RATIONAL_CUBIC_CONTROL_PARAMETER_VALUE;
+                }
+                return MIN;
+            }
+            return (self.d_r + self.d_l) / self.s;
+        }
+        MIN
+    }
+
+    // r2, for a convex or a concave curve.
+    fn shape_parameter(self, curved: bool, monotonic: bool, prefer: bool) -> f64
+        ensures { result ≡ shape_parameter curved monotonic self.d_l self.d_r self.s prefer }
+    {
+        let d_r_m_d_l = self.d_r - self.d_l;
+        let d_r_m_s = self.d_r - self.s;
+        let s_m_d_l = self.s - self.d_l;
+        if has_nonzero_divisors(curved, s_m_d_l, d_r_m_s) {
+            return max(abs(d_r_m_d_l / d_r_m_s), abs(d_r_m_d_l / s_m_d_l));
+        }
+        if monotonic && prefer {
+            return MAXIMUM_RATIONAL_CUBIC_CONTROL_PARAMETER_VALUE;
+        }
+        MIN
+    }
 }
 
 // Whether r2 has quotients: the curve is convex or concave, and neither divisor is 0.
@@ -113,22 +139,6 @@ fn has_nonzero_divisors(curved: bool, s_m_d_l: f64, d_r_m_s: f64) -> bool
     ensures { result ≡ (curved && (not (is_zero s_m_d_l) && not (is_zero d_r_m_s))) }
 {
     curved && (!is_zero(s_m_d_l) && !is_zero(d_r_m_s))
-}
-
-// r2, for a convex or a concave curve.
-fn shape_parameter(curved: bool, monotonic: bool, d_l: f64, d_r: f64, s: f64, prefer: bool) -> f64
-    ensures { result ≡ shape_parameter curved monotonic d_l d_r s prefer }
-{
-    let d_r_m_d_l = d_r - d_l;
-    let d_r_m_s = d_r - s;
-    let s_m_d_l = s - d_l;
-    if has_nonzero_divisors(curved, s_m_d_l, d_r_m_s) {
-        return max(abs(d_r_m_d_l / d_r_m_s), abs(d_r_m_d_l / s_m_d_l));
-    }
-    if monotonic && prefer {
-        return MAXIMUM_RATIONAL_CUBIC_CONTROL_PARAMETER_VALUE;
-    }
-    MIN
 }
 
 pub fn minimum_rational_cubic_control_parameter(
@@ -140,13 +150,14 @@ pub fn minimum_rational_cubic_control_parameter(
     ensures { result ≡ minimum_parameter_of d_l d_r s prefer_shape_preservation_over_smoothness }
 {
     let prefer = prefer_shape_preservation_over_smoothness;
-    let monotonic = is_monotonic(d_l, d_r, s);
-    let curved = is_convex_or_concave(d_l, d_r, s);
+    let slopes = Slopes { d_l, d_r, s };
+    let monotonic = slopes.is_monotonic();
+    let curved = slopes.is_convex_or_concave();
     if !monotonic && !curved {
         return MINIMUM_RATIONAL_CUBIC_CONTROL_PARAMETER_VALUE;
     }
-    let r1 = monotonic_parameter(monotonic, d_l, d_r, s, prefer);
-    let r2 = shape_parameter(curved, monotonic, d_l, d_r, s, prefer);
+    let r1 = slopes.monotonic_parameter(monotonic, prefer);
+    let r2 = slopes.shape_parameter(curved, monotonic, prefer);
     max(MINIMUM_RATIONAL_CUBIC_CONTROL_PARAMETER_VALUE, max(r1, r2))
 }
 

@@ -1,5 +1,5 @@
--- `rational_cubic::is_convex_or_concave` meets its contract: each way out is the arm that the tests before it leave. Assumes nothing.
-use Rattle.prices.proofs.rational_cubic.is_convex_or_concave.Goals as goal
+-- `Slopes::is_convex_or_concave` meets its contract: each way out is the arm that the tests before it leave. Assumes nothing.
+use Rattle.prices.proofs.rational_cubic.Slopes.is_convex_or_concave.Goals as goal
 
 pub returns-then-is_convex : goal.returns-then-is_convex
 returns-then-is_convex c = rw (c.if-is_convex.true, rw c.is_convex.ensures at c.if-is_convex.true)
