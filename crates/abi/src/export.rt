@@ -1,4 +1,5 @@
-// An answer as plain numbers.
+// An answer as plain numbers: C has no Result, so its value is returned and its number goes where the
+// caller says.
 ghost use Rattle.std.specs.Prelude.{◌≡◌};
 ghost use Rattle.std.specs.Float.{binary64};
 ghost use Rattle.std.specs.Float.Ieee.{to_bits};

@@ -131,6 +131,8 @@ pub fn smoothened_exponential_of_positive_square(x: f64) -> f64
     exp(x_tilde * x_tilde) * exp((x - x_tilde) * (x + x_tilde))
 }
 
+// ab, cd and pq are nested as in the Rust and the definitions: Cody's order of the coefficients, the last
+// one first, would have to be undone for a loop.
 pub fn ab(z: f64) -> f64
     ensures { result ≡ ab_of z }
 {

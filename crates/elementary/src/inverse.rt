@@ -268,7 +268,8 @@ impl Question {
     }
 }
 
-// The 64 steps: the middle becomes lo if its cdf is below p, else hi.
+// The 64 steps: the middle becomes lo if its cdf is below p, else hi. A while, since a batch takes as many
+// steps as its guesses serve: there is no range to go over.
 pub(crate) fn bisect(set: RuleSet, p: f64) -> f64
     requires lowest_brackets { lt (cdf_of set lowest) p ≡ true }
     requires highest_brackets { lt (cdf_of set highest) p ≡ false }

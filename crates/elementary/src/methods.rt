@@ -4,7 +4,7 @@ ghost use Rattle.std.specs.Float.Ieee as Ieee;
 ghost use Rattle.std.specs.Float.{binary64};
 ghost use Rattle.elementary.specs.Methods.{abs_of, max_of, is_zero, square_of};
 
-// Equal to 0.
+// Equal to 0; f64 has no method for it, and the Rust's comes from a trait.
 pub fn is_zero(x: f64) -> bool
     ensures { result ≡ is_zero x }
 {
@@ -18,7 +18,7 @@ pub fn powi_2(y: f64) -> f64
     y * y
 }
 
-// Whether a and b are the same float; of two zeros, their signs too.
+// Whether a and b are the same float; of two zeros, their signs too, which == does not look at.
 pub(crate) fn same(a: f64, b: f64) -> bool
     ensures { result ≡ true → a ≡ b }
 {

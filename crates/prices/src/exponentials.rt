@@ -13,6 +13,8 @@ pub(crate) fn bell(h: f64, t: f64) -> f64
     exp(-0.5 * (h * h + t * t))
 }
 
+// Whose bell it is, each function that asks for one requires: a ghost field couldn't say it of `AtHand`,
+// since price_and_vega takes any up and down.
 pub(crate) trait Exponentials {
     ghost up: { Self → Float };
 

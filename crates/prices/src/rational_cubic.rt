@@ -1,4 +1,5 @@
-// The rational cubic: rational_cubic.rs, line by line.
+// The rational cubic: rational_cubic.rs, line by line. The public functions keep the Rust's parameters and
+// their order, so that a call reads as the Rust's.
 ghost use Rattle.std.specs.Prelude.{◌≡◌, not, ◌&&◌, ◌||◌};
 ghost use Rattle.elementary.specs.Methods.{is_zero};
 ghost use Rattle.prices.specs.RationalCubic.{is_infinite, curve_of, interpolation_of, is_monotonic, is_convex, is_concave, monotonic_parameter, shape_parameter, minimum_parameter_of, denominator_at, control_parameter_of, convex_parameter_of};

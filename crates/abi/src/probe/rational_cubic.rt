@@ -11,6 +11,7 @@ use crate::export::export_answer;
 use elementary::methods::{bits_of, float_of};
 use prices::rational_cubic::Side;
 
+// C hands in a byte for a side and for a choice.
 fn side_of(side: u8) -> Side
     ensures { result ≡ side_of side }
 {

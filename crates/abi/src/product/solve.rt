@@ -17,7 +17,7 @@ use solver::quote::Quote;
 use solver::refusal::{Failure, Refusal};
 use solver::solve::{loop_target, solve, solve_with_trail, steps_of};
 
-// Number, branch, ending and steps in one word.
+// Number, branch, ending and steps in one word, which is what C gets of them.
 fn outcome_from(number: u8, branch: u8, ending: u8, steps: u32) -> u64
     ensures { result ≡ outcome_from number branch ending steps }
 {
@@ -48,7 +48,8 @@ pub(crate) fn export_solution(answer: Result<ImpliedVolatility, Failure>, outcom
     }
 }
 
-// What a caller asks: a quote, or none where the byte says no kind.
+// What a caller asks: a quote, or none where the byte says no kind. The functions named `.._for` take it
+// with `?`, and each is a definition that an export's clauses name.
 pub(crate) fn asked_by(
     price: u64,
     forward: u64,
