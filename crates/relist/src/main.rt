@@ -38,9 +38,13 @@ fn main(rt: HostRuntime) {
 }
 
 // Block after block, up to one at which the run ends, or until the numbers are used up.
-fn relist(input: Stdin, output: Stdout, log: Stderr, block: &mut [u8], lines: &mut [u8]) -> Step
-    requires block_len { length block.old ≡ 65536 }
-    requires in_bounds { 131200 ≤ length lines.old }
+fn relist(
+    input: Stdin,
+    output: Stdout,
+    log: Stderr,
+    block: &mut [u8; BLOCK_BYTES],
+    lines: &mut [u8; LINES_BYTES],
+) -> Step
     ensures { End result }
 {
     // A `while`, since each block says the next one's number.
@@ -57,12 +61,10 @@ fn relist_block(
     input: Stdin,
     output: Stdout,
     log: Stderr,
-    block: &mut [u8],
-    lines: &mut [u8],
+    block: &mut [u8; BLOCK_BYTES],
+    lines: &mut [u8; LINES_BYTES],
 ) -> Step
-    requires first_bound { first < 9223372036854775808 }
-    requires block_len { length block.old ≡ 65536 }
-    requires in_bounds { 131200 ≤ length lines.old }
+    requires { first < 9223372036854775808 }
     ensures { After first block.new lines.old lines.new result }
 {
     match fill(input, block) {
