@@ -4,6 +4,7 @@
 ghost use Rattle.std.specs.Prelude.{◌≡◌, ◌+◌, ◌<◌, ◌≤◌, length};
 
 use elementary::methods::float_of;
+use std::array;
 
 // How many bytes a line has.
 pub(crate) const WIDTH: usize = 176;
@@ -34,12 +35,8 @@ pub(crate) fn function_in(line: &[u8]) -> u64
 pub(crate) fn line_in(line: &[u8]) -> Line
     requires { length line.now ≡ 176 }
 {
-    let mut arguments: [u64; 9] = [0; 9];
-    for (i, argument) in arguments.iter_mut().enumerate() {
-        *argument = word_at(line, 3 + 17 * i);
-    }
     Line {
-        arguments,
+        arguments: array::from_fn(|i| word_at(line, 3 + 17 * i)),
         bits: word_at(line, 156),
         number: number_at(line, 173),
     }
