@@ -116,15 +116,13 @@ fn step_after(first: u64, n: usize) -> Step
 fn fill(mut input: Stdin, block: &mut [u8]) -> io::Result<usize>
     ensures { IfOk result (λ n. n ≤ length block.new) }
 {
-    // A `while`: `read_exact` doesn't say how many bytes came before the input's end, and `read_to_end`
-    // needs a heap.
+    // A `while`: a read goes on by what it brought, and std's `read_to_end` needs a heap.
     let mut count: usize = 0;
     while count < block.len() {
-        let n = input.read(&mut block[count..])?;
-        if n == 0 {
-            break;
+        match input.read(&mut block[count..])? {
+            0 => break,
+            n => count += n,
         }
-        count += n;
     }
     Ok(count)
 }

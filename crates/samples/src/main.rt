@@ -45,15 +45,13 @@ fn empty_buffer() -> [u8; 524288] {
 fn read_full(mut input: Stdin, buffer: &mut [u8]) -> io::Result<usize>
     ensures { IfOk result (λ n. n ≤ length buffer.new) }
 {
-    // A `while`: `read_exact` doesn't say how many bytes came before the input's end, and `read_to_end`
-    // needs a heap.
+    // A `while`: a read goes on by what it brought, and std's `read_to_end` needs a heap.
     let mut done: usize = 0;
     while done < buffer.len() {
-        let n = input.read(&mut buffer[done..])?;
-        if n == 0 {
-            break;
+        match input.read(&mut buffer[done..])? {
+            0 => break,
+            n => done += n,
         }
-        done += n;
     }
     Ok(done)
 }
