@@ -3,6 +3,7 @@
 #![tactic(auto)]
 
 ghost use Rattle.std.specs.Prelude.{◌≡◌, ◌+◌, ◌*◌, ◌≤◌, ◌<◌, length, IfOk};
+ghost use Rattle.std.specs.ControlFlow.{MatchControlFlow};
 ghost use Rattle.elementary.specs.RuleSets.{rule_set_0};
 ghost use Rattle.solver.specs.LittleEndian.{overwritten};
 ghost use Rattle.solver.specs.Listing.{line_of};
@@ -59,7 +60,7 @@ fn relist(
 fn relist_block(
     first: u64,
     input: Stdin,
-    output: Stdout,
+    mut output: Stdout,
     log: Stderr,
     block: &mut [u8; BLOCK_BYTES],
     lines: &mut [u8; LINES_BYTES],
@@ -67,36 +68,24 @@ fn relist_block(
     requires { first < 9223372036854775808 }
     ensures { After first block.new lines.old lines.new result }
 {
-    match fill(input, block) {
-        Ok(n) => {
-            let used = list(first, &block[..n], lines);
-            if write(output, log, &lines[..used]) {
-                step_after(first, n)
-            } else {
-                Step::Break(first)
-            }
-        }
-        Err(e) => {
-            fail(log, "read", e);
-            Step::Break(first)
-        }
-    }
+    let n = go_on(fill(input, block), "read", log, first)?;
+    let used = list(first, &block[..n], lines);
+    go_on(output.write_all(&lines[..used]), "write", log, first)?;
+    step_after(first, n)
 }
 
-// Writes the bytes, or says why not.
-fn write(mut output: Stdout, log: Stderr, bytes: &[u8]) -> bool {
-    match output.write_all(bytes) {
-        Ok(()) => true,
-        Err(e) => {
-            fail(log, "write", e);
-            false
+// The value, or the run's end where there is none: what failed, and why, stands on standard error. Where
+// that fails too, nobody is left to hear it.
+fn go_on<T>(outcome: io::Result<T>, what: &str, log: Stderr, first: u64) -> ControlFlow<u64, T>
+    ensures { MatchControlFlow result (λ v. outcome ≡ Ok v) (λ last. last ≡ first) }
+{
+    match outcome {
+        Ok(value) => ControlFlow::Continue(value),
+        Err(error) => {
+            let _said = println!(log; "relist: {what}: {error}");
+            ControlFlow::Break(first)
         }
     }
-}
-
-// Says on standard error what failed, and why. Where that fails too, nobody is left to hear it.
-fn fail(log: Stderr, what: &str, error: io::Error) {
-    let _said = println!(log; "relist: {what}: {error}");
 }
 
 // A block that is not full is the last; behind a full one the numbers go on by its records.
