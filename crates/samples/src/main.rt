@@ -64,7 +64,9 @@ fn report(output: Stdout, text: &[u8]) -> io::Result<()> {
     Ok(())
 }
 
-fn tally_of(text: &[u8], function: Function) -> Tally {
+fn tally_of(text: &[u8], function: Function) -> Tally
+    ensures { result.agree ≤ result.count }
+{
     let mut tally = Tally { count: 0, agree: 0 };
     for line in text.chunks_exact(WIDTH) {
         if function_in(line) == function as u64 {

@@ -3,7 +3,7 @@
 ghost use Rattle.std.specs.Prelude.{◌≡◌, ◌*◌};
 
 use crate::list::Line;
-use elementary::methods::{bits_of, float_of};
+use elementary::methods::bits_of;
 use elementary::rule_set::RULE_SET_0;
 use prices::inputs::{OptionType, UnknownKind};
 use prices::refusal::Numbered;
