@@ -2,7 +2,7 @@
 // `differential --samples`.
 use crate::list::Line;
 use crate::records;
-use crate::records::{Answer, Refused, option_type_in};
+use crate::records::{Answer, option_type_in};
 use elementary::methods::{bits_of, float_of};
 use elementary::rule_set::RULE_SET_0;
 use elementary::{cody, methods, normal_distribution};
