@@ -2,4 +2,3 @@
 pub mod Blocks
 pub mod Listing
 pub mod Parts
-pub mod Steps

@@ -2,7 +2,8 @@
 // 64 bytes has a line too.
 #![tactic(auto)]
 
-ghost use Rattle.std.specs.Prelude.{◌≡◌, ◌+◌, ◌*◌, ◌≤◌, ◌<◌, min, length, IfOk};
+ghost use Rattle.std.specs.Prelude.{◌≡◌, ◌+◌, ◌*◌, ◌≤◌, ◌<◌, length, IfOk};
+ghost use Rattle.std.specs.ControlFlow.{MatchControlFlow};
 ghost use Rattle.elementary.specs.RuleSets.{rule_set_0};
 ghost use Rattle.solver.specs.LittleEndian.{overwritten};
 ghost use Rattle.solver.specs.Listing.{line_of};
@@ -13,6 +14,7 @@ use elementary::rule_set::RULE_SET_0;
 use solver::listing::line;
 use std::io;
 use std::io::{Read, Stderr, Stdin, Stdout, Write};
+use std::ops::ControlFlow;
 
 const RECORD_BYTES: usize = 64;
 
@@ -26,12 +28,9 @@ const BLOCK_RECORDS: u64 = 1024;
 // Nothing says that an input ends, and a proved loop does: at a number that no run reaches.
 const INDEX_END: u64 = 0x8000000000000000;
 
-// Where a block leaves the run: whether it goes on, and the next record's number.
-#[derive(Clone, Copy)]
-struct Step {
-    more: bool,
-    next: u64,
-}
+// Where a block leaves the run: it goes on with the next block, whose first number this is, or it ends
+// at the block with this first number.
+type Step = ControlFlow<u64, u64>;
 
 fn main(rt: HostRuntime) {
     let mut block: [u8; BLOCK_BYTES] = [0; BLOCK_BYTES];
@@ -39,75 +38,54 @@ fn main(rt: HostRuntime) {
     relist(rt.stdin(), rt.stdout(), rt.stderr(), &mut block, &mut lines);
 }
 
-// Block after block, up to one that says that the run ends; the last step is answered.
-fn relist(input: Stdin, output: Stdout, log: Stderr, block: &mut [u8], lines: &mut [u8]) -> Step
-    requires block_len { length block.old ≡ 65536 }
-    requires in_bounds { 131200 ≤ length lines.old }
+// Block after block, up to one at which the run ends, or until the numbers are used up.
+fn relist(
+    input: Stdin,
+    output: Stdout,
+    log: Stderr,
+    block: &mut [u8; BLOCK_BYTES],
+    lines: &mut [u8; LINES_BYTES],
+) -> Step
     ensures { End result }
 {
-    let mut index: u64 = 0;
-    while index < INDEX_END {
-        let step = relist_block(index, input, output, log, block, lines);
-        if !step.more {
-            return step;
-        }
-        index = step.next;
+    // A `while`, since each block says the next one's number.
+    let mut first: u64 = 0;
+    while first < INDEX_END {
+        first = relist_block(first, input, output, log, block, lines)?;
     }
-    Step {
-        more: true,
-        next: index,
-    }
+    Step::Continue(first)
 }
 
 // Reads a block and writes its lines.
 fn relist_block(
-    index: u64,
+    first: u64,
     input: Stdin,
-    output: Stdout,
+    mut output: Stdout,
     log: Stderr,
-    block: &mut [u8],
-    lines: &mut [u8],
+    block: &mut [u8; BLOCK_BYTES],
+    lines: &mut [u8; LINES_BYTES],
 ) -> Step
-    requires index_bound { index < 9223372036854775808 }
-    requires block_len { length block.old ≡ 65536 }
-    requires in_bounds { 131200 ≤ length lines.old }
-    ensures { After index block.new lines.old lines.new result }
+    requires { first < 9223372036854775808 }
+    ensures { After first block.new lines.old lines.new result }
 {
-    match fill(input, block) {
-        Ok(n) => {
-            let used = list(index, &block[..n], lines);
-            if !write(output, log, &lines[..used]) {
-                return Step {
-                    more: false,
-                    next: index,
-                };
-            }
-            step_after(index, n)
-        }
-        Err(e) => {
-            fail(log, "read", e);
-            Step {
-                more: false,
-                next: index,
-            }
-        }
-    }
+    let n = go_on(fill(input, block), "read", log, first)?;
+    let used = list(first, &block[..n], lines);
+    go_on(output.write_all(&lines[..used]), "write", log, first)?;
+    step_after(first, n)
 }
 
-// Writes the bytes, or says why not.
-fn write(mut output: Stdout, log: Stderr, bytes: &[u8]) -> bool {
-    match output.write_all(bytes) {
-        Ok(()) => true,
-        Err(e) => {
-            fail(log, "write", e);
-            false
+// The value, or the run's end where there is none: what failed, and why, stands on standard error. Where
+// that fails too, nobody is left to hear it.
+fn go_on<T>(outcome: io::Result<T>, what: &str, log: Stderr, first: u64) -> ControlFlow<u64, T>
+    ensures { MatchControlFlow result (λ v. outcome ≡ Ok v) (λ last. last ≡ first) }
+{
+    match outcome {
+        Ok(value) => ControlFlow::Continue(value),
+        Err(error) => {
+            let _said = println!(log; "relist: {what}: {error}");
+            ControlFlow::Break(first)
         }
     }
-}
-
-// Says on standard error what failed, and why. Where that fails too, nobody is left to hear it.
-fn fail(log: Stderr, what: &str, error: io::Error) {
-    let _said = println!(log; "relist: {what}: {error}");
 }
 
 // A block that is not full is the last; behind a full one the numbers go on by its records.
@@ -117,38 +95,25 @@ fn step_after(first: u64, n: usize) -> Step
     ensures { result ≡ step_of first n }
 {
     if n < BLOCK_BYTES {
-        return Step {
-            more: false,
-            next: first,
-        };
-    }
-    Step {
-        more: true,
-        next: first + BLOCK_RECORDS,
+        Step::Break(first)
+    } else {
+        Step::Continue(first + BLOCK_RECORDS)
     }
 }
 
 // Reads until the block is full, the input ends or a read fails, and answers how many bytes came.
-fn fill(input: Stdin, block: &mut [u8]) -> io::Result<usize>
+fn fill(mut input: Stdin, block: &mut [u8]) -> io::Result<usize>
     ensures { IfOk result (λ n. n ≤ length block.new) }
 {
+    // A `while`: a read goes on by what it brought, and std's `read_to_end` needs a heap.
     let mut count: usize = 0;
     while count < block.len() {
-        let n = read_at(input, block, count)?;
-        if n == 0 {
-            break;
+        match input.read(&mut block[count..])? {
+            0 => break,
+            n => count += n,
         }
-        count += n;
     }
     Ok(count)
-}
-
-// One read, to a place of the block.
-fn read_at(mut input: Stdin, block: &mut [u8], at: usize) -> io::Result<usize>
-    requires { at ≤ length block.old }
-    ensures { IfOk result (λ n. at + n ≤ length block.new) }
-{
-    input.read(&mut block[at..])
 }
 
 // The lines of a block from its start on, and how many bytes they have.
@@ -158,28 +123,11 @@ fn list(first: u64, block: &[u8], lines: &mut [u8]) -> usize
     ensures value { result ≡ length (lines_of first block.now) }
     ensures lines_after { lines.new ≡ overwritten 0 (lines_of first block.now) lines.old }
 {
-    let mut index = first;
-    let mut at: usize = 0;
     let mut used: usize = 0;
-    while at < block.len() {
-        let end = end_of(at, block.len());
-        used += line_at(index, &block[at..end], lines, used);
-        at = end;
-        index += 1;
+    for (i, record) in block.chunks(RECORD_BYTES).enumerate() {
+        used += line_at(first + i as u64, record, lines, used);
     }
     used
-}
-
-// Where the record at a place ends.
-fn end_of(at: usize, length: usize) -> usize
-    requires { at < length }
-    ensures { result ≡ min (at + 64) length }
-{
-    if length - at < RECORD_BYTES {
-        length
-    } else {
-        at + RECORD_BYTES
-    }
 }
 
 // The line of a record from a place on, and how many bytes it has.

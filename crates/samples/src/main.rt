@@ -6,11 +6,12 @@ mod functions;
 mod list;
 mod records;
 
-ghost use Rattle.std.specs.Prelude.{◌+◌, ◌≤◌, length, IfOk};
+ghost use Rattle.std.specs.Prelude.{◌≤◌, length, IfOk};
 
-use functions::print;
-use std::io;
+use functions::{ALL, Function};
+use list::{WIDTH, function_in, line_in};
 use std::io::{Read, Stdin, Stdout};
+use std::{fmt, io};
 
 // The lines of one function, and how many of them have the answer that the proved function gives.
 #[derive(Clone, Copy)]
@@ -19,9 +20,20 @@ struct Tally {
     agree: u64,
 }
 
+// The count alone where all agree.
+impl fmt::Display for Tally {
+    fn fmt<W: fmt::Write>(&self, f: &mut fmt::Formatter<W>) -> fmt::Result {
+        if self.agree != self.count {
+            write!(f, "{} of ", self.agree)?;
+        }
+        write!(f, "{}", self.count)
+    }
+}
+
 fn main(rt: HostRuntime) -> io::Result<()> {
     let mut buffer = empty_buffer();
-    replay(rt.stdin(), rt.stdout(), &mut buffer)
+    let n = read_full(rt.stdin(), &mut buffer)?;
+    report(rt.stdout(), &buffer[..n])
 }
 
 // A function of its own, so that no proof has to count through the zeros.
@@ -29,76 +41,40 @@ fn empty_buffer() -> [u8; 524288] {
     [0; 524288]
 }
 
-fn replay(input: Stdin, output: Stdout, buffer: &mut [u8]) -> io::Result<()> {
-    let n = read_full(input, buffer)?;
-    report(output, &buffer[..n])
-}
-
 // Reads until the buffer is full or the input ends, and answers how many bytes came.
 fn read_full(mut input: Stdin, buffer: &mut [u8]) -> io::Result<usize>
     ensures { IfOk result (λ n. n ≤ length buffer.new) }
 {
+    // A `while`: a read goes on by what it brought, and std's `read_to_end` needs a heap.
     let mut done: usize = 0;
     while done < buffer.len() {
-        let n = input.read(&mut buffer[done..])?;
-        if n == 0 {
-            break;
+        match input.read(&mut buffer[done..])? {
+            0 => break,
+            n => done += n,
         }
-        done += n;
     }
     Ok(done)
 }
 
 fn report(output: Stdout, text: &[u8]) -> io::Result<()> {
-    let mut function: u64 = 0;
-    while function < functions::COUNT {
-        report_function(output, text, function)?;
-        function += 1;
+    for function in ALL {
+        let tally = tally_of(text, function);
+        println!(output; "{function} {tally} agree")?;
     }
     Ok(())
 }
 
-fn report_function(output: Stdout, text: &[u8], function: u64) -> io::Result<()> {
-    let t = tally_of(text, function);
-    functions::print_name(output, function)?;
-    print(output, " ")?;
-    print_tally(output, t)?;
-    print(output, " agree\n")
-}
-
-// The count alone where all agree.
-fn print_tally(output: Stdout, t: Tally) -> io::Result<()> {
-    if t.agree != t.count {
-        print!(output; "{}", t.agree)?;
-        print(output, " of ")?;
-    }
-    print!(output; "{}", t.count)
-}
-
-fn tally_of(text: &[u8], function: u64) -> Tally {
-    let lines = text.len() / list::WIDTH;
-    let mut count: u64 = 0;
-    let mut agree: u64 = 0;
-    let mut i: usize = 0;
-    while i < lines {
-        let at = i * list::WIDTH;
-        if list::number_at(text, at) == function {
-            count += 1;
-            agree += agrees(text, at);
-        }
-        i += 1;
-    }
-    Tally { count, agree }
-}
-
-// 1 where the proved function has the answer of the line at this place, else 0.
-fn agrees(text: &[u8], at: usize) -> u64
-    requires { at + 176 ≤ length text.now }
-    ensures { result ≤ 1 }
+fn tally_of(text: &[u8], function: Function) -> Tally
+    ensures { result.agree ≤ result.count }
 {
-    if functions::agrees(list::line_at(text, at)) {
-        1
-    } else {
-        0
+    let mut tally = Tally { count: 0, agree: 0 };
+    for line in text.chunks_exact(WIDTH) {
+        if function_in(line) == function as u64 {
+            tally.count += 1;
+            if function.agrees(line_in(line)) {
+                tally.agree += 1;
+            }
+        }
     }
+    tally
 }

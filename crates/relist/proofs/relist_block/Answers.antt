@@ -2,5 +2,5 @@
 use Rattle.relist.specs.Inside.Steps.{listing}
 use Rattle.relist.proofs.relist_block.Goals as goal
 
-pub returns-else-not-write : goal.returns-else-not-write
-returns-else-not-write c = listing c.in-Ok.n (rw c.in-Ok.is at c.fill.ensures) c.list-used.ensures.lines_after c.step_after.ensures
+pub returns : goal.returns
+returns c = listing c.in_ok-n.n (rw c.in_ok-n.ensures at c.fill.ensures) c.list-used.ensures.lines_after c.step_after.ensures

@@ -1,9 +1,10 @@
--- `samples::tally_of` is safe and ends: each line read lies within the text, and both counts are at most the lines passed.
-use Prim.Native.Nat.{◌≤◌, ◌-◌}
+-- `tally_of` counts no more lines than it passed, each of some bytes of the text, so that no count overflows. Assumes nothing.
+use mathlib.Core.Path.{◌≡◌}
+use Prim.Native.Nat.{◌+◌, ◌≤◌}
+use lib.ListN.{length}
+use Rattle.std.specs.Slice.Iter.{chunks_exact_rest, chunks_exact_size}
 use Rattle.samples.proofs.tally_of.Given as goal
 
-abbrev pub invariant-loop-i : goal.invariant-loop-i
-invariant-loop-i l = (l.i ≤ l.lines) × (l.count ≤ l.i) × (l.agree ≤ l.i)
-
-abbrev pub decreases-loop-i : goal.decreases-loop-i
-decreases-loop-i l = l.lines - l.i
+abbrev pub invariant-loop-line : goal.invariant-loop-line
+invariant-loop-line l =
+    (l.tally.count + length (chunks_exact_rest l.line-iterator) ≤ length l.text) × (l.tally.agree ≤ l.tally.count) × (chunks_exact_size l.line-iterator ≡ 176)
