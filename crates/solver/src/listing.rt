@@ -4,7 +4,7 @@ ghost use Rattle.solver.specs.LittleEndian.{overwritten};
 ghost use Rattle.solver.specs.Listing.{decimal_by, hex_digit, hex_by, space_and_count, answer_bytes, answer_at, line_in};
 
 use crate::answers::ImpliedVolatility;
-use crate::book::solve_record;
+use crate::book::{RECORD_BYTES, solve_record};
 use crate::refusal::{Failure, Refusal};
 use elementary::methods::bits_of;
 use elementary::rule_set::RuleSet;
@@ -96,10 +96,10 @@ fn put_answer(out: &mut [u8], at: usize, answer: Result<ImpliedVolatility, Failu
 fn answer_of(set: RuleSet, bytes: &[u8]) -> Result<ImpliedVolatility, Failure>
     ensures { result ≡ answer_at set bytes.now }
 {
-    if bytes.len() < 64 {
+    let Some(r) = bytes.first_chunk::<RECORD_BYTES>() else {
         return Err(Failure::from(Refusal::NoSuchRecord));
-    }
-    solve_record(set, bytes)
+    };
+    solve_record(set, r)
 }
 
 // Writes the line of record `index` to the start of `out` and answers its length. An `out` under 128

@@ -23,6 +23,10 @@ module _ (a : ℕ) (xs : List ℕ) where
   pub part_overwritten : (bs ys : List ℕ) → ys ≡ bs ++ drop (length bs) (mid_of a (length xs - a) xs) → put_mid a (length xs - a) xs ys ≡ overwritten a bs xs
   part_overwritten bs ys e = rw (e, whole_mid, none_post, drop-drop, append-nil)
 
+  -- a part of k elements that comes back as other k
+  pub mid_overwritten : (k : ℕ) (ys : List ℕ) → length ys ≡ k → put_mid a k xs ys ≡ overwritten a ys xs
+  mid_overwritten k ys e = rw (e, drop-drop)
+
   -- the same where the bytes are a number's
   pub number_overwritten : (k n : ℕ) (ys : List ℕ) → ys ≡ bytes_of k n ++ drop k (mid_of a (length xs - a) xs) → put_mid a (length xs - a) xs ys ≡ overwritten a (bytes_of k n) xs
   number_overwritten k n ys e = part_overwritten (bytes_of k n) ys (rw (length_bytes k n) e)

@@ -1,0 +1,29 @@
+-- What std's conversions of numbers to bits and bytes give, in the words of the layout. Theorems.
+use mathlib.Core.Path.{◌≡◌, refl}
+use mathlib.Core.Bool.{Bool, true, false, cond}
+use mathlib.Core.List.{List}
+use Prim.Native.Nat.{ℕ, ◌^◌}
+use lib.Dec.{ltb}
+use lib.IntN.{ℤ, pos, negsuc}
+use native.Mathlib.Nat.{div-div-eq-div-mul}
+use Rattle.std.specs.Int.{w32, w64, cast_unsigned, cast_signed, to_le_bytes}
+use Rattle.solver.specs.LittleEndian.{bytes_of}
+use Rattle.solver.specs.Solve.{steps_of}
+use Rattle.solver.specs.Book.{limit_bits, steps_from}
+
+pub limit_bits_cast : (limit : ℤ) → cast_unsigned w32 limit ≡ limit_bits limit
+limit_bits_cast (pos n) = refl
+limit_bits_cast (negsuc n) = refl
+
+pub steps_cast : (bits : ℕ) → steps_of (cast_signed w32 bits) ≡ steps_from bits
+steps_cast bits = go (ltb bits (2 ^ 31)) refl
+  where
+    go : (b : Bool) → ltb bits (2 ^ 31) ≡ b → steps_of (cast_signed w32 bits) ≡ steps_from bits
+    go true e = rw e
+    go false e = rw e
+
+pub four_bytes : (n : ℕ) → to_le_bytes w32 n ≡ bytes_of 4 n
+four_bytes n = simp div-div-eq-div-mul
+
+pub eight_bytes : (n : ℕ) → to_le_bytes w64 n ≡ bytes_of 8 n
+eight_bytes n = simp div-div-eq-div-mul
