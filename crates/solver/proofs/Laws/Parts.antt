@@ -1,7 +1,8 @@
 -- Bytes written into a list from a place on, and bytes behind what stands in front.
 use mathlib.Core.Path.{◌≡◌, refl, ap}
 use mathlib.Core.List.{List, [], ◌++◌, append-nil, append_assoc}
-use Prim.Native.Nat.{ℕ, zero, suc, ◌-◌, ◌/◌}
+use Prim.Native.Nat.{ℕ, zero, suc, ◌+◌, ◌-◌, ◌/◌}
+use native.Mathlib.Omega.{arith}
 use native.Mathlib.Nat.{le_refl}
 use lib.ListN.{length, drop, length-append, length-drop, drop_of_length-le}
 use lib.Seq.{take_all, drop-drop, take-append_seam, drop-append-add}
@@ -23,13 +24,9 @@ module _ (a : ℕ) (xs : List ℕ) where
   pub part_overwritten : (bs ys : List ℕ) → ys ≡ bs ++ drop (length bs) (mid_of a (length xs - a) xs) → put_mid a (length xs - a) xs ys ≡ overwritten a bs xs
   part_overwritten bs ys e = rw (e, whole_mid, none_post, drop-drop, append-nil)
 
-  -- a part of k elements that comes back as other k
-  pub mid_overwritten : (k : ℕ) (ys : List ℕ) → length ys ≡ k → put_mid a k xs ys ≡ overwritten a ys xs
-  mid_overwritten k ys e = rw (e, drop-drop)
-
-  -- the same where the bytes are a number's
-  pub number_overwritten : (k n : ℕ) (ys : List ℕ) → ys ≡ bytes_of k n ++ drop k (mid_of a (length xs - a) xs) → put_mid a (length xs - a) xs ys ≡ overwritten a (bytes_of k n) xs
-  number_overwritten k n ys e = part_overwritten (bytes_of k n) ys (rw (length_bytes k n) e)
+  -- a part `&mut xs[a..a + k]` that comes back as other k bytes
+  pub slot_overwritten : (k : ℕ) (zs ys : List ℕ) → zs ≡ ys → length ys ≡ k → put_mid a (a + k - a) xs zs ≡ overwritten a ys xs
+  slot_overwritten k zs ys s e = let d : a + k - a ≡ k = omega arith in rw (d, s, e, drop-drop)
 
 -- bytes behind what stands in front
 pub behind : (fs bs old l l' : List ℕ) → l ≡ fs ++ drop (length fs) old → l' ≡ overwritten (length fs) bs l → l' ≡ fs ++ bs ++ drop (length (fs ++ bs)) old

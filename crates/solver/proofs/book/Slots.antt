@@ -2,11 +2,11 @@
 use mathlib.Core.Path.{◌≡◌, refl, sym}
 use mathlib.Core.Bool.{Bool, true, false, true≢false, cond, ◌&&◌}
 use mathlib.Core.List.{List, []}
-use Prim.Native.Nat.{ℕ, zero, suc, ◌+◌, ◌*◌, ◌<◌}
+use Prim.Native.Nat.{ℕ, zero, suc, ◌+◌, ◌*◌, ◌≤◌, ◌<◌}
 use native.Mathlib.Omega.{arith}
 use borrow.Author.Tests.{ltb-true, leb-true}
 use lib.Dec.{ltb, leb}
-use lib.ListN.{drop, get_or}
+use lib.ListN.{length, drop, get_or}
 use lib.Seq.{drop-drop}
 use Rattle.std.specs.Prelude.{Result, Ok, Err}
 use Rattle.std.specs.Simd.{first_chunks}
@@ -25,14 +25,17 @@ chunk (suc n) zero bytes h = refl
 chunk (suc n) (suc k) bytes h = let m : 64 * suc k ≡ 64 + 64 * k = omega arith in rw (chunk n k (drop 64 bytes) (omega arith), m, drop-drop)
 
 module _ (book : List ℕ) (used k : ℕ) where
-  inside : record_exists book used k ≡ true → k < slots book
-  inside e =
+  below : record_exists book used k ≡ true → k < slots book
+  below e =
       let h = both (ltb k used) (leb used (slots book)) e in
       omega (arith, ltb-true k used h.0, leb-true used (slots book) h.1)
 
+  pub inside : record_exists book used k ≡ true → k * 64 + 64 ≤ length book
+  inside e = omega (arith, below e)
+
   pub read_existing : record_exists book used k ≡ true → Ok (get_or (first_chunks 64 (slots book) book) k []) ≡ read_of book used k
   unfolding read_of
-  read_existing e = rw (e, chunk (slots book) k book (inside e))
+  read_existing e = rw (e, chunk (slots book) k book (below e))
 
   -- what is read says that the record exists
   pub exists : (part : List ℕ) → Ok part ≡ read_of book used k → (record_exists book used k ≡ true) × (part ≡ record_at k book)

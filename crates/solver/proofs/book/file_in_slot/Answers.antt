@@ -4,7 +4,6 @@ use Rattle.solver.specs.Solve.{solve_of, steps_of}
 use mathlib.Core.List.{List}
 use Prim.Native.Nat.{ℕ, ◌+◌, ◌-◌, ◌*◌}
 use native.Mathlib.Nat.{mul_comm}
-use native.Mathlib.Omega.{arith}
 use borrow.Rule.Slice.PartMut.{put_mid}
 use lib.IntN.{ℤ}
 use lib.ListN.{length}
@@ -16,7 +15,7 @@ use Rattle.std.proofs.Common.{rules}
 use Rattle.std.specs.Prelude.{Ok}
 use Rattle.solver.specs.Answers.{Solution}
 use Rattle.solver.specs.Book.{book_record_bytes, file_answer}
-use Rattle.solver.proofs.Laws.Parts.{mid_overwritten}
+use Rattle.solver.proofs.Laws.Parts.{slot_overwritten}
 use Rattle.solver.proofs.Laws.BySet.{by_set}
 use Rattle.solver.proofs.book.file_in_slot.Goals as goal
 
@@ -29,7 +28,7 @@ module _ (q : Quote) (limit : ℤ) (book : List ℕ) (used : ℕ) (v : ImpliedVo
   bytes_length = refl
 
   files : (ys : List ℕ) (a w : Solution) → a ≡ w → a ≡ Ok v → ys ≡ bytes → put_mid (used * 64) (used * 64 + 64 - used * 64) book ys ≡ (file_answer q limit book used w).book
-  files ys a w e s h = let k : used * 64 + 64 - used * 64 ≡ 64 = omega arith in rw (← e, s, h, k) (rw (mul_comm 64 used) (mid_overwritten (used * 64) book 64 bytes bytes_length))
+  files ys a w e s h = rw (← e, s) (rw (mul_comm 64 used) (slot_overwritten (used * 64) book 64 ys bytes h bytes_length))
 
 pub returns-clause-book_after : goal.returns-clause-book_after
 returns-clause-book_after c =
