@@ -15,7 +15,7 @@ use elementary::rule_set::RuleSet;
 use prices::inputs::OptionType;
 use prices::refusal::Numbered;
 
-// A record's bytes in the book.
+// The bytes of a record.
 pub(crate) const RECORD_BYTES: usize = 64;
 
 // ---- a record's bytes
@@ -112,6 +112,7 @@ fn file_in_slot(
     ensures book_after { book.new ≡ (file_answer quote limit book.old used (solve_of set quote (steps_of limit)).answer).book }
 {
     let a = solve(set, quote, steps_of(limit))?;
+    // A range and no chunk: as_chunks_mut doesn't say what the book is after a write.
     let at = used as usize * RECORD_BYTES;
     book[at..at + RECORD_BYTES].copy_from_slice(&book_record(quote, limit, a));
     Ok(used + 1)

@@ -24,6 +24,7 @@ fn put_byte(out: &mut [u8], at: usize, byte: u8) -> usize
 }
 
 // A number of at most `digits` digits in decimal, and the place after it.
+// By hand, as put_hex: std's printing says what it writes only where it answers Ok, never that it does.
 fn put_decimal(out: &mut [u8], at: usize, digits: usize, n: u64) -> usize
     requires { at + digits ≤ length out.old }
     ensures value { result ≡ at + length (decimal_by digits n) }
