@@ -23,6 +23,17 @@ fn put_byte(out: &mut [u8], at: usize, byte: u8) -> usize
     at + 1
 }
 
+// The same for several bytes.
+fn put_text(out: &mut [u8], at: usize, text: &[u8]) -> usize
+    requires { at + length text.now ≤ length out.old }
+    ensures value { result ≡ at + length text.now }
+    ensures out_after { out.new ≡ overwritten at text.now out.old }
+{
+    let end = at + text.len();
+    out[at..end].copy_from_slice(text);
+    end
+}
+
 // A number of at most `digits` digits in decimal, and the place after it.
 // By hand, as put_hex: std's printing says what it writes only where it answers Ok, never that it does.
 fn put_decimal(out: &mut [u8], at: usize, digits: usize, n: u64) -> usize
@@ -76,18 +87,16 @@ fn put_answer(out: &mut [u8], at: usize, answer: Result<ImpliedVolatility, Failu
     ensures value { result ≡ at + length (answer_bytes answer) }
     ensures out_after { out.new ≡ overwritten at (answer_bytes answer) out.old }
 {
-    let end = put_byte(out, at, b' ');
     match answer {
         Ok(a) => {
+            let end = put_byte(out, at, b' ');
             let end = put_hex(out, end, 16, bits_of(a.volatility));
             let end = put_space_and_count(out, end, a.steps as u64);
             let end = put_space_and_count(out, end, a.branch.number() as u64);
             put_space_and_count(out, end, a.ending.number() as u64)
         }
         Err(failure) => {
-            let end = put_byte(out, end, b'R');
-            let end = put_byte(out, end, b'E');
-            let end = put_byte(out, end, b'F');
+            let end = put_text(out, at, b" REF");
             put_space_and_count(out, end, failure.refusal.number() as u64)
         }
     }
