@@ -27,9 +27,6 @@ steps_cast bits = go (ltb bits (2 ^ 31)) refl
 pub four_bytes : (n : ℕ) → to_le_bytes w32 n ≡ bytes_of 4 n
 four_bytes n = simp div-div-eq-div-mul
 
-pub eight_bytes : (n : ℕ) → to_le_bytes w64 n ≡ bytes_of 8 n
-eight_bytes n = simp div-div-eq-div-mul
-
 number_of_eight : (bs : List ℕ) → length bs ≡ 8 → from_le_bytes w64 bs ≡ number_from bs
 number_of_eight (a ∷ b ∷ c ∷ d ∷ e ∷ f ∷ g ∷ h ∷ []) l = omega arith
 number_of_eight bs l = absurd (omega arith)
