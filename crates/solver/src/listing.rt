@@ -45,17 +45,17 @@ fn put_decimal(out: &mut [u8], at: usize, digits: usize, n: u64) -> usize
         return at;
     }
     if n < 10 {
-        return put_byte(out, at, 48 + n as u8);
+        return put_byte(out, at, b'0' + n as u8);
     }
     let end = put_decimal(out, at, digits - 1, n / 10);
-    put_byte(out, end, 48 + (n % 10) as u8)
+    put_byte(out, end, b'0' + (n % 10) as u8)
 }
 
 fn hex_digit(d: u8) -> u8
     requires { d ≤ 15 }
     ensures { result ≡ hex_digit d }
 {
-    if d < 10 { 48 + d } else { 55 + d }
+    if d < 10 { b'0' + d } else { b'A' + (d - 10) }
 }
 
 // The last `digits` hexadecimal digits of a number, and the place after them.
