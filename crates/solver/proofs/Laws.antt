@@ -17,3 +17,4 @@ pub mod Overwritten
 pub mod Trails
 pub mod Lines
 pub mod Parts
+pub mod Bytes

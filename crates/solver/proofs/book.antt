@@ -1,2 +1,4 @@
 -- Laws that the proofs of the book use.
 pub mod Slots
+pub mod Front
+pub mod Zeros

@@ -4,7 +4,7 @@ ghost use Rattle.solver.specs.LittleEndian.{overwritten};
 ghost use Rattle.solver.specs.Listing.{decimal_by, hex_digit, hex_by, space_and_count, answer_bytes, answer_at, line_in};
 
 use crate::answers::ImpliedVolatility;
-use crate::book::solve_record;
+use crate::book::{RECORD_BYTES, solve_record};
 use crate::refusal::{Failure, Refusal};
 use elementary::methods::bits_of;
 use elementary::rule_set::RuleSet;
@@ -23,7 +23,19 @@ fn put_byte(out: &mut [u8], at: usize, byte: u8) -> usize
     at + 1
 }
 
+// The same for several bytes.
+fn put_text(out: &mut [u8], at: usize, text: &[u8]) -> usize
+    requires { at + length text.now ≤ length out.old }
+    ensures value { result ≡ at + length text.now }
+    ensures out_after { out.new ≡ overwritten at text.now out.old }
+{
+    let end = at + text.len();
+    out[at..end].copy_from_slice(text);
+    end
+}
+
 // A number of at most `digits` digits in decimal, and the place after it.
+// By hand, as put_hex: std's printing says what it writes only where it answers Ok, never that it does.
 fn put_decimal(out: &mut [u8], at: usize, digits: usize, n: u64) -> usize
     requires { at + digits ≤ length out.old }
     ensures value { result ≡ at + length (decimal_by digits n) }
@@ -33,17 +45,17 @@ fn put_decimal(out: &mut [u8], at: usize, digits: usize, n: u64) -> usize
         return at;
     }
     if n < 10 {
-        return put_byte(out, at, 48 + n as u8);
+        return put_byte(out, at, b'0' + n as u8);
     }
     let end = put_decimal(out, at, digits - 1, n / 10);
-    put_byte(out, end, 48 + (n % 10) as u8)
+    put_byte(out, end, b'0' + (n % 10) as u8)
 }
 
 fn hex_digit(d: u8) -> u8
     requires { d ≤ 15 }
     ensures { result ≡ hex_digit d }
 {
-    if d < 10 { 48 + d } else { 55 + d }
+    if d < 10 { b'0' + d } else { b'A' + (d - 10) }
 }
 
 // The last `digits` hexadecimal digits of a number, and the place after them.
@@ -75,18 +87,16 @@ fn put_answer(out: &mut [u8], at: usize, answer: Result<ImpliedVolatility, Failu
     ensures value { result ≡ at + length (answer_bytes answer) }
     ensures out_after { out.new ≡ overwritten at (answer_bytes answer) out.old }
 {
-    let end = put_byte(out, at, b' ');
     match answer {
         Ok(a) => {
+            let end = put_byte(out, at, b' ');
             let end = put_hex(out, end, 16, bits_of(a.volatility));
             let end = put_space_and_count(out, end, a.steps as u64);
             let end = put_space_and_count(out, end, a.branch.number() as u64);
             put_space_and_count(out, end, a.ending.number() as u64)
         }
         Err(failure) => {
-            let end = put_byte(out, end, b'R');
-            let end = put_byte(out, end, b'E');
-            let end = put_byte(out, end, b'F');
+            let end = put_text(out, at, b" REF");
             put_space_and_count(out, end, failure.refusal.number() as u64)
         }
     }
@@ -96,10 +106,10 @@ fn put_answer(out: &mut [u8], at: usize, answer: Result<ImpliedVolatility, Failu
 fn answer_of(set: RuleSet, bytes: &[u8]) -> Result<ImpliedVolatility, Failure>
     ensures { result ≡ answer_at set bytes.now }
 {
-    if bytes.len() < 64 {
+    let Some(r) = bytes.first_chunk::<RECORD_BYTES>() else {
         return Err(Failure::from(Refusal::NoSuchRecord));
-    }
-    solve_record(set, bytes)
+    };
+    solve_record(set, r)
 }
 
 // Writes the line of record `index` to the start of `out` and answers its length. An `out` under 128

@@ -1,29 +1,19 @@
 // Numbers and floats as little-endian bytes of a slice, written and read.
-ghost use Rattle.std.specs.Prelude.{◌≡◌, ◌++◌, ◌+◌, ◌≤◌, length, drop};
+ghost use Rattle.std.specs.Prelude.{◌≡◌, ◌+◌, ◌≤◌, length};
 ghost use Rattle.solver.specs.LittleEndian.{bytes_of, float_bytes, overwritten, number_at, float_at};
 
 use elementary::methods::{bits_of, float_of};
 
-// A number's lowest bytes, the lowest first.
-fn put_number(out: &mut [u8], width: usize, n: u64)
-    requires { width ≤ length out.old }
-    ensures { out.new ≡ bytes_of width n ++ drop width out.old }
-{
-    let mut rest = n;
-    let mut i: usize = 0;
-    while i < width {
-        out[i] = (rest % 256) as u8;
-        rest = rest / 256;
-        i += 1;
-    }
-}
-
-// The same from byte `at` on.
+// A number's lowest bytes from byte `at` on, the lowest first.
 pub fn put_number_at(out: &mut [u8], at: usize, width: usize, n: u64)
     requires { at + width ≤ length out.old }
     ensures { out.new ≡ overwritten at (bytes_of width n) out.old }
 {
-    put_number(&mut out[at..], width, n);
+    let mut rest = n;
+    for byte in out[at..at + width].iter_mut() {
+        *byte = (rest % 256) as u8;
+        rest = rest / 256;
+    }
 }
 
 // A float's bits from byte `at` on.
@@ -31,7 +21,7 @@ pub fn put_float(out: &mut [u8], at: usize, x: f64)
     requires { at + 8 ≤ length out.old }
     ensures { out.new ≡ overwritten at (float_bytes x) out.old }
 {
-    put_number_at(out, at, 8, bits_of(x));
+    out[at..at + 8].copy_from_slice(&bits_of(x).to_le_bytes());
 }
 
 // The number whose bytes stand from byte `at` on, the lowest first.
@@ -40,13 +30,9 @@ pub fn number_at(bytes: &[u8], at: usize, width: usize) -> u64
     requires width_bound { width ≤ 8 }
     ensures { result ≡ number_at at width bytes.now }
 {
-    let mut n: u64 = 0;
-    let mut i = width;
-    while i > 0 {
-        i -= 1;
-        n = n * 256 + bytes[at + i] as u64;
-    }
-    n
+    let mut whole = [0; 8];
+    whole[..width].copy_from_slice(&bytes[at..at + width]);
+    u64::from_le_bytes(whole)
 }
 
 // The float whose bits stand from byte `at` on.

@@ -1,16 +1,12 @@
 -- Bytes written into a list from a place on, and bytes behind what stands in front.
-use mathlib.Core.Path.{◌≡◌, refl, ap}
+use mathlib.Core.Path.{◌≡◌}
 use mathlib.Core.List.{List, [], ◌++◌, append-nil, append_assoc}
-use Prim.Native.Nat.{ℕ, zero, suc, ◌-◌, ◌/◌}
+use Prim.Native.Nat.{ℕ, ◌-◌}
 use native.Mathlib.Nat.{le_refl}
 use lib.ListN.{length, drop, length-append, length-drop, drop_of_length-le}
 use lib.Seq.{take_all, drop-drop, take-append_seam, drop-append-add}
 use borrow.Rule.Slice.PartMut.{mid_of, post_of, put_mid}
-use Rattle.solver.specs.LittleEndian.{bytes_of, overwritten}
-
-pub length_bytes : (k n : ℕ) → length (bytes_of k n) ≡ k
-length_bytes zero n = refl
-length_bytes (suc k) n = ap suc (length_bytes k (n / 256))
+use Rattle.solver.specs.LittleEndian.{overwritten}
 
 -- a part `&mut xs[a..]` that comes back with other bytes at its start
 module _ (a : ℕ) (xs : List ℕ) where
@@ -22,10 +18,6 @@ module _ (a : ℕ) (xs : List ℕ) where
 
   pub part_overwritten : (bs ys : List ℕ) → ys ≡ bs ++ drop (length bs) (mid_of a (length xs - a) xs) → put_mid a (length xs - a) xs ys ≡ overwritten a bs xs
   part_overwritten bs ys e = rw (e, whole_mid, none_post, drop-drop, append-nil)
-
-  -- the same where the bytes are a number's
-  pub number_overwritten : (k n : ℕ) (ys : List ℕ) → ys ≡ bytes_of k n ++ drop k (mid_of a (length xs - a) xs) → put_mid a (length xs - a) xs ys ≡ overwritten a (bytes_of k n) xs
-  number_overwritten k n ys e = part_overwritten (bytes_of k n) ys (rw (length_bytes k n) e)
 
 -- bytes behind what stands in front
 pub behind : (fs bs old l l' : List ℕ) → l ≡ fs ++ drop (length fs) old → l' ≡ overwritten (length fs) bs l → l' ≡ fs ++ bs ++ drop (length (fs ++ bs)) old

@@ -10,6 +10,7 @@ use lib.Dec.{eqb}
 use lib.Ieee.{binary64, to_bits}
 use lib.ListN.{length, get_or}
 use lib.Seq.{drop-cons}
+use Rattle.std.proofs.Common.{rules}
 use Rattle.solver.specs.LittleEndian.{bytes_of, part, number_at}
 use Rattle.solver.specs.Book.{same_bytes}
 use Rattle.solver.proofs.book.agrees.Goals as goal
@@ -38,7 +39,7 @@ pub returns : goal.returns
 returns c =
     let a = c.args in
     let r = a.r.now in
-    let bytes : (i : ℕ) → get_or r i 0 < 256 = λ i. (c.type_inv.r i).fits in
+    let bytes : (i : ℕ) → get_or r i 0 < 256 = λ i. search rules in
     let bits = same_number r 8 32 (to_bits binary64 a.a.volatility) bytes (omega arith) (omega (arith, c.bits_of.type_inv, c.bits_of.ensures)) in
     let steps = same_number r 4 44 a.a.steps bytes (omega arith) (omega arith) in
     rw (bits, steps, c.number_at.ensures, c.number_at-2.ensures, c.bits_of.ensures, c.number.ensures, c.number-2.ensures) refl

@@ -1,18 +1,14 @@
--- `book::is_spare_zero` meets its contract. What is asked of the bytes from 51 on is what is asked of those from i on.
-use mathlib.Core.Path.{◌≡◌, ◌∙◌}
-use mathlib.Core.List.{List}
-use Prim.Native.Nat.{ℕ, suc, ◌+◌, ◌-◌, ◌≤◌, ◌<◌}
-use native.Mathlib.Omega.{arith}
-use lib.ListN.{length, get_or}
-use lib.Seq.{drop-cons}
+-- `book::is_spare_zero` meets its contract: `all` asks of each byte that it is 0.
+use mathlib.Core.Path.{◌∙◌}
+use lib.Dec.{eqb}
+use Rattle.std.proofs.Common.{rules, tests}
+use Rattle.std.proofs.lemmas.Iterator.{YieldsList-from_slice}
+use Rattle.std.proofs.lemmas.Iterator.Search.{all_from_yields_List}
+use Rattle.solver.specs.LittleEndian.{part}
+use Rattle.solver.proofs.book.Zeros.{zero_where_each}
 use Rattle.solver.proofs.book.is_spare_zero.Goals as goal
-use Rattle.solver.proofs.book.is_spare_zero.Invariants.{From}
 
-zero_next : (r : List ℕ) (i : ℕ) → From r i → i < 64 → 64 ≤ length r → get_or r i 0 ≡ 0 → From r (i + 1)
-zero_next r i f h l z =
-    let k : 64 - i ≡ suc (64 - (i + 1)) = omega arith in
-    let m : suc i ≡ i + 1 = omega arith in
-    record { within = omega arith; same = f.same ∙ rw (k, drop-cons r i 0 (omega arith), z, m) }
-
-pub loop-i-preserved : goal.loop-i-preserved
-loop-i-preserved c = zero_next _ _ c.loop-i.invariant c.loop-i-test.true c.requires c.if-r-i-ne0.false
+pub returns : goal.returns
+returns c =
+    let spare = part 51 13 c.args.r.now in
+    all_from_yields_List (λ b. eqb b 0) _ _ _ c.all.ensures.ran (YieldsList-from_slice spare c.iter.ensures.rest) (λ x b q k. search (rules, tests)) ∙ zero_where_each spare

@@ -42,13 +42,7 @@ pub returns-in-Err : goal.returns-in-Err
 returns-in-Err c =
     let a = c.args in
     let room : a.at ≤ length a.out.now = omega arith in
-    let p₁ = c.put_byte-end.ensures in
-    let p₂ = c.put_byte-end-in-Err.ensures in
-    let p₃ = c.put_byte-end-in-Err-2.ensures in
-    let p₄ = c.put_byte-end-in-Err-3.ensures in
-    let p₅ = c.put_space_and_count-in-Err.ensures in
-    let q₂ = put_both a.at (32 ∷ []) (82 ∷ []) a.out.now _ _ _ _ room (p₁.value, p₁.out_after) (p₂.value, p₂.out_after) in
-    let q₃ = put_both a.at (32 ∷ 82 ∷ []) (69 ∷ []) a.out.now _ _ _ _ room q₂ (p₃.value, p₃.out_after) in
-    let q₄ = put_both a.at (32 ∷ 82 ∷ 69 ∷ []) (70 ∷ []) a.out.now _ _ _ _ room q₃ (p₄.value, p₄.out_after) in
-    let q₅ = put_both a.at (32 ∷ 82 ∷ 69 ∷ 70 ∷ []) (space_and_count c.number-in-Err.result) a.out.now _ _ _ _ room q₄ (p₅.value, p₅.out_after) in
-    record { value = rw (c.in-Err.is, ← c.number-in-Err.ensures) q₅.0; out_after = rw (c.in-Err.is, ← c.number-in-Err.ensures) q₅.1 }
+    let p₁ = c.put_text-end.ensures in
+    let p₂ = c.put_space_and_count-in-Err.ensures in
+    let q₂ = put_both a.at (32 ∷ 82 ∷ 69 ∷ 70 ∷ []) (space_and_count c.number-in-Err.result) a.out.now _ _ _ _ room (p₁.value, p₁.out_after) (p₂.value, p₂.out_after) in
+    record { value = rw (c.in-Err.is, ← c.number-in-Err.ensures) q₂.0; out_after = rw (c.in-Err.is, ← c.number-in-Err.ensures) q₂.1 }

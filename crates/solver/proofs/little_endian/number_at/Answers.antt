@@ -1,51 +1,26 @@
--- `little_endian::number_at` meets its contract. From byte i on the number's bytes are read: n is their number, and below 256 to their count.
-use mathlib.Core.Path.{◌≡◌}
-use mathlib.Core.List.{List}
-use Prim.Native.Nat.{ℕ, suc, ◌+◌, ◌-◌, ◌*◌, ◌^◌, ◌≤◌, ◌<◌}
+-- `little_endian::number_at` meets its contract: the part's bytes and zeros above them are the number's eight bytes.
+use mathlib.Core.Path.{◌≡◌, ◌∙◌, ap}
+use mathlib.Core.List.{List, ◌++◌}
+use Prim.Native.Nat.{ℕ, ◌+◌, ◌-◌, ◌≤◌}
 use native.Mathlib.Omega.{arith}
-use native.Mathlib.Nat.{pow-le-pow_right, pow-suc}
-use lib.ListN.{length, get_or}
-use lib.Seq.{drop-cons}
-use Rattle.solver.specs.LittleEndian.{number_at}
+use borrow.Rule.Slice.PartMut.{put_mid, mid_of}
+use lib.ListN.{length, replicate, length-drop}
+use lib.Seq.{length-take-le}
+use Rattle.std.proofs.lemmas.List.{drop-replicate}
+use Rattle.std.specs.Int.{w64, from_le_bytes}
+use Rattle.solver.specs.LittleEndian.{part, number_at}
+use Rattle.solver.proofs.Laws.Bytes.{number_padded}
 use Rattle.solver.proofs.little_endian.number_at.Goals as goal
-use Rattle.solver.proofs.little_endian.number_at.Invariants.{From}
 
-module _ (bytes : List ℕ) (start width n i : ℕ) (f : From bytes start width n i) (p : 0 < i) where
-  -- one byte more fits
-  room : width ≤ 8 → n < 72057594037927936
-  room w =
-      let m : 256 ^ (width - i) ≤ 256 ^ 7 = pow-le-pow_right {n = 256} (omega arith) {i = width - i} {j = 7} (omega arith) in
-      omega (arith, f.below)
-
-  down : start + width ≤ length bytes → get_or bytes (start + (i - 1)) 0 < 256 → From bytes start width (n * 256 + get_or bytes (start + (i - 1)) 0) (i - 1)
-  down l b =
-      let k : width - (i - 1) ≡ suc (width - i) = omega arith in
-      let m : suc (start + (i - 1)) ≡ start + i = omega arith in
-      record {
-        within = omega arith;
-        is = rw (k, drop-cons bytes (start + (i - 1)) 0 (omega arith), m, ← f.is) (omega arith);
-        below = rw (k, pow-suc 256 (width - i)) (omega (arith, f.below));
-      }
-
-whole : (bytes : List ℕ) (start width n i : ℕ) → From bytes start width n i → i ≤ 0 → n ≡ number_at start width bytes
-whole bytes start width n i f z =
-    let m : start + i ≡ start = omega arith in
-    let k : width - i ≡ width = omega arith in
-    rw (m, k) at f.is
-
-pub loop-i-init : goal.loop-i-init
-loop-i-init c =
-    let k : c.args.width - c.args.width ≡ 0 = omega arith in
-    record { within = omega arith; is = rw k; below = rw k (omega arith) }
-
-pub overflow_mul-n : goal.overflow_mul-n
-overflow_mul-n c = omega (arith, room _ _ _ _ _ c.loop-i.invariant c.loop-i-test.true (omega arith))
-
-pub overflow_add-n-in-loop-i : goal.overflow_add-n-in-loop-i
-overflow_add-n-in-loop-i c = omega (arith, room _ _ _ _ _ c.loop-i.invariant c.loop-i-test.true (omega arith))
-
-pub loop-i-preserved : goal.loop-i-preserved
-loop-i-preserved c = down _ _ _ _ _ c.loop-i.invariant c.loop-i-test.true (omega arith) (omega arith)
+module _ (at width : ℕ) (bytes : List ℕ) (room : at + width ≤ length bytes) (h : width ≤ 8) where
+  padded : (ys : List ℕ) → ys ≡ mid_of at (at + width - at) bytes → from_le_bytes w64 (put_mid 0 width (replicate 8 0) ys) ≡ number_at at width bytes
+  padded ys e =
+      let k : at + width - at ≡ width = omega arith in
+      let is : ys ≡ part at width bytes = rw k at e in
+      let long : length (part at width bytes) ≡ width = length-take-le width _ (simp length-drop (omega arith)) in
+      number_padded (part at width bytes) _ (8 - width) (ap (λ zs. ys ++ zs) (drop-replicate width 8 0) ∙ ap (λ bs. bs ++ replicate (8 - width) 0) is) (omega (arith, long))
 
 pub returns : goal.returns
-returns c = whole _ _ _ _ _ c.loop-i.invariant c.loop-i-test.false
+returns c =
+    let a = c.args in
+    c.from_le_bytes.ensures ∙ padded a.at a.width a.bytes.now c.requires.width_in_bounds c.requires.width_bound _ c.copy_from_slice.ensures.after

@@ -1,8 +1,8 @@
--- `book::read` meets its contract: the record's own part of the book, where there is one. Assumes nothing.
+-- `book::record` meets its contract: the record is a whole chunk of the book, where there is one.
 use mathlib.Core.Path.{sym, ◌∙◌}
 use Rattle.solver.specs.Book.{read_of}
 use Rattle.solver.proofs.book.Slots.{read_existing}
-use Rattle.solver.proofs.book.read.Goals as goal
+use Rattle.solver.proofs.book.record.Goals as goal
 
 pub returns-then-not-record_exists : goal.returns-then-not-record_exists
 unfolding read_of
@@ -11,4 +11,4 @@ returns-then-not-record_exists c = rw (sym c.record_exists.ensures ∙ c.if-not-
 pub returns : goal.returns
 returns c =
     let a = c.args in
-    read_existing a.book.now a.used a.k (sym c.record_exists.ensures ∙ c.if-not-record_exists.false)
+    rw c.as_chunks.ensures.front (read_existing a.book.now a.used a.k (sym c.record_exists.ensures ∙ c.if-not-record_exists.false))
