@@ -6,7 +6,7 @@ use Rattle.solver.proofs.Laws.BySet.{by_set}
 use Rattle.solver.proofs.solve.solve.Goals as goal
 
 pub returns : goal.returns
-unfolding solve_of
+unfolding solve_of solve_keeping
 returns c =
     let a = c.args in
     by_set (λ s. c.solve_keeping.result ≡ (solve_keeping s false 0 a.quote a.limit).answer) a.set c.solve_keeping.ensures.value refl

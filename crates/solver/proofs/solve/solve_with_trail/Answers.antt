@@ -3,18 +3,19 @@ use lib.ListN.{length}
 use mathlib.Core.Path.{◌≡◌, refl}
 use mathlib.Core.Bool.{true}
 use Rattle.solver.specs.Solve.{solve_keeping, solve_with_trail}
-use Rattle.solver.specs.Inside.Trail.{trail_if_kept}
+use Rattle.solver.specs.Trail.{trail_after}
+use Rattle.std.proofs.Common.{rules}
 use Rattle.solver.proofs.Laws.BySet.{by_set}
 use Rattle.solver.proofs.solve.solve_with_trail.Goals as goal
 
 pub returns-clause-value : goal.returns-clause-value
-unfolding solve_with_trail
+unfolding solve_with_trail solve_keeping
 returns-clause-value c =
     let a = c.args in
     by_set (λ s. c.solve_keeping.result ≡ (solve_keeping s true (length a.trail.now) a.quote a.limit).answer) a.set c.solve_keeping.ensures.value refl
 
 pub returns-clause-trail_after : goal.returns-clause-trail_after
-unfolding solve_with_trail
+unfolding solve_with_trail solve_keeping
 returns-clause-trail_after c =
     let a = c.args in
-    by_set (λ s. c.solve_keeping.new.trail ≡ trail_if_kept true (solve_keeping s true (length a.trail.now) a.quote a.limit).records a.trail.now) a.set c.solve_keeping.ensures.trail_after refl
+    by_set (λ s. c.trail-1.given.0 ≡ trail_after (solve_keeping s true (length a.trail.now) a.quote a.limit).records a.trail.now) a.set (search rules) refl
