@@ -29,13 +29,13 @@ pub(crate) trait Recorder {
     ghost fewer: { (t : Self) (m n : ℕ) → m ≤ n → too_short t n ≡ false → too_short t m ≡ false };
 }
 
-// A lent trail: record i at byte 48 × i.
+// A trail: record i at byte 48 × i.
 #[derive(Drop)]
-pub(crate) struct Lent<'a> {
+pub(crate) struct LentTrail<'a> {
     pub bytes: &'a mut [u8],
 }
 
-impl Recorder for Lent<'_> {
+impl Recorder for LentTrail<'_> {
     ghost too_short = { λ t n. ltb (length t.bytes.now) (48 * n) };
 
     ghost after = { λ rs t. record t { bytes = record t.bytes { now = trail_after rs t.bytes.now } } };

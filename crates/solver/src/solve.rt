@@ -13,7 +13,7 @@ use crate::answers::{Branch, Ending, ImpliedVolatility};
 use crate::guess::normalised_start;
 use crate::normalised_market::NormalisedMarket;
 use crate::quote::Quote;
-use crate::recorder::{Lent, NoTrail, Recorder};
+use crate::recorder::{LentTrail, NoTrail, Recorder};
 use crate::refusal::{Failure, Refusal};
 use crate::state::{Start, State};
 use crate::step::{is_close, step};
@@ -150,16 +150,12 @@ fn run<R: Recorder>(
         if is_close(st) {
             return Ok(found(st, root, branch, Ending::StepTest, steps));
         }
-        match step(set, branch, m, st) {
-            Ok(completed) => {
-                recorder.put(steps, completed.kept);
-                st = completed.state;
-            }
-            Err(unpriced) => {
-                let refusal = Refusal::Pricing(unpriced);
-                return Err(Failure { refusal, steps });
-            }
-        }
+        let completed = step(set, branch, m, st).map_err(|unpriced| {
+            let refusal = Refusal::Pricing(unpriced);
+            Failure { refusal, steps }
+        })?;
+        recorder.put(steps, completed.kept);
+        st = completed.state;
     }
     Ok(found(st, root, branch, Ending::Limit, limit))
 }
@@ -180,16 +176,12 @@ fn solve_keeping<R: Recorder>(
         return Err(Failure::from(Refusal::TrailTooShort));
     }
     match accepted_start(set, quote)? {
-        Start::Answered(volatility) => {
-            let branch = Branch::NoLoop;
-            let ending = Ending::NoLoop;
-            Ok(ImpliedVolatility {
-                volatility,
-                branch,
-                ending,
-                steps: 0,
-            })
-        }
+        Start::Answered(volatility) => Ok(ImpliedVolatility {
+            volatility,
+            branch: Branch::NoLoop,
+            ending: Ending::NoLoop,
+            steps: 0,
+        }),
         Start::Looping(branch, m, st) => {
             run(set, branch, m, sqrt(quote.expiry), st, limit, recorder)
         }
@@ -214,8 +206,7 @@ pub fn solve_with_trail(
     ensures value { result ≡ (solve_with_trail_of set quote limit (length trail.old)).answer }
     ensures trail_after { trail.new ≡ trail_after (solve_with_trail_of set quote limit (length trail.old)).records trail.old }
 {
-    let mut lent = Lent { bytes: trail };
-    solve_keeping(set, quote, limit, &mut lent)
+    solve_keeping(set, quote, limit, &mut LentTrail { bytes: trail })
 }
 
 // The same without a trail.

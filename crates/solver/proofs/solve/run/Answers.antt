@@ -1,11 +1,15 @@
 -- `solve::run` meets its contract: its loop keeps what it has reached, and each way out is the run's end. Assumes nothing.
-use mathlib.Core.Path.{◌≡◌, refl, sym, ◌∙◌}
+use mathlib.Core.Path.{◌≡◌, refl, ◌∙◌}
 use mathlib.Core.List.{[], ◌∷◌, ◌++◌}
 use Prim.Native.Nat.{◌-◌, ◌+◌}
 use lib.ListN.{length-append}
 use native.Mathlib.Omega.{arith}
 use Rattle.solver.proofs.Laws.LoopInvariant.{run_advances, stops, runs_out, next_advances, next_by_refusal, next_by_test, ended}
+use Rattle.std.proofs.Common.{rules}
+use Rattle.std.specs.Prelude.{Ok, Err}
 use Rattle.solver.specs.declared.state.State.{State}
+use Rattle.solver.specs.declared.refusal.Refusal.TheVariants.{Pricing}
+use Rattle.prices.specs.declared.refusal.Refusal.{Refusal as Unpriced}
 use Rattle.solver.specs.Loop.{by_test, by_limit, by_refusal, run}
 use Rattle.solver.specs.Step.{StepResult, next_by}
 use Rattle.solver.specs.Inside.Branch.{branch_step}
@@ -18,7 +22,7 @@ pub put-requires : goal.put-requires
 put-requires g c =
     let at = c.loop-steps in
     let law = g.met.R.Recorder in
-    law.fewer _ (at.steps + 1) c.args.limit (omega (arith, c.loop-steps-test.true)) (at.invariant.room c.args.limit ∙ c.requires)
+    law.fewer _ (at.steps-counter + 1) c.args.limit (omega (arith, c.loop-steps-test.true)) (at.invariant.room c.args.limit ∙ c.requires)
 
 pub loop-steps-preserved : goal.loop-steps-preserved
 loop-steps-preserved g c =
@@ -26,13 +30,14 @@ loop-steps-preserved g c =
     let at = c.loop-steps in
     let inv = at.invariant in
     let step_of : State → StepResult = branch_step a.set a.branch a.m.b_max a.m.x a.m.beta in
-    let taken = c.in-Ok.completed in
+    let taken = c.in_ok-completed.completed in
+    let e : c.step.result ≡ Ok taken = search rules in
     let r = taken.kept in
     record {
       rs = inv.rs ++ (r ∷ []);
       count = omega (arith, length-append inv.rs (r ∷ []));
       within = omega arith;
-      rest = run_advances (next_by step_of) a.limit at.steps _ inv.rs at.st inv.rest c.loop-steps-test.true r taken.state (next_advances step_of at.st _ _ c.is_close.ensures c.step.ensures c.if-is_close.false taken c.in-Ok.is);
+      rest = run_advances (next_by step_of) a.limit at.steps-counter (run (next_by step_of) a.limit a.start) inv.rs at.st inv.rest c.loop-steps-test.true r taken.state (next_advances step_of at.st _ _ c.is_close.ensures c.step.ensures c.if-is_close.false taken e);
       wrote = c.put.ensures.after inv.rs a.recorder.now inv.count inv.wrote;
       room = λ n. c.put.ensures.room n ∙ inv.room n;
     }
@@ -45,20 +50,21 @@ returns-then-is_close g c =
     let step_of : State → StepResult = branch_step a.set a.branch a.m.b_max a.m.x a.m.beta in
     let next = next_by step_of in
     let all = run next a.limit a.start in
-    let t = ended g.R.Recorder.after all inv.rs (by_test at.st) a.branch a.root _ _ _ (stops next a.limit at.steps all inv.rs at.st inv.rest c.loop-steps-test.true _ (next_by_test step_of at.st _ c.is_close.ensures c.if-is_close.true)) inv.count inv.wrote in
+    let t = ended g.R.Recorder.after all inv.rs (by_test at.st) a.branch a.root _ _ _ (stops next a.limit at.steps-counter all inv.rs at.st inv.rest c.loop-steps-test.true _ (next_by_test step_of at.st _ c.is_close.ensures c.if-is_close.true)) inv.count inv.wrote in
     record { value = c.found.ensures ∙ t.0; recorder_after = t.1 }
 
-pub returns-in-Err : goal.returns-in-Err
-returns-in-Err g c =
+pub returns-in_err-completed : goal.returns-in_err-completed
+returns-in_err-completed g c =
     let a = c.args in
     let at = c.loop-steps in
     let inv = at.invariant in
     let step_of : State → StepResult = branch_step a.set a.branch a.m.b_max a.m.x a.m.beta in
     let next = next_by step_of in
     let all = run next a.limit a.start in
-    let leads = next_by_refusal step_of at.st _ _ c.is_close.ensures c.step.ensures c.if-is_close.false c.in-Err.unpriced c.in-Err.is in
-    let t = ended g.R.Recorder.after all inv.rs (by_refusal c.in-Err.unpriced) a.branch a.root _ _ _ (stops next a.limit at.steps all inv.rs at.st inv.rest c.loop-steps-test.true _ leads) inv.count inv.wrote in
-    record { value = t.0; recorder_after = t.1 }
+    let refused : (k : Unpriced) × (c.step.result ≡ Err k) × (c.from_residual.result ≡ Err (record { refusal = Pricing k; steps = at.steps-counter })) = search rules in
+    let leads = next_by_refusal step_of at.st _ _ c.is_close.ensures c.step.ensures c.if-is_close.false refused.0 refused.1 in
+    let t = ended g.R.Recorder.after all inv.rs (by_refusal refused.0) a.branch a.root _ _ _ (stops next a.limit at.steps-counter all inv.rs at.st inv.rest c.loop-steps-test.true _ leads) inv.count inv.wrote in
+    record { value = refused.2 ∙ t.0; recorder_after = t.1 }
 
 pub returns : goal.returns
 returns g c =
@@ -67,6 +73,6 @@ returns g c =
     let inv = at.invariant in
     let next = next_by (branch_step a.set a.branch a.m.b_max a.m.x a.m.beta) in
     let all = run next a.limit a.start in
-    let last : at.steps ≡ a.limit = omega (arith, inv.within, c.loop-steps-test.false) in
-    let t = ended g.R.Recorder.after all inv.rs (by_limit at.st) a.branch a.root _ _ _ (runs_out next a.limit at.steps all inv.rs at.st inv.rest c.loop-steps-test.false) (inv.count ∙ last) inv.wrote in
+    let last : at.steps-counter ≡ a.limit = omega (arith, inv.within, c.loop-steps-test.false) in
+    let t = ended g.R.Recorder.after all inv.rs (by_limit at.st) a.branch a.root _ _ _ (runs_out next a.limit at.steps-counter all inv.rs at.st inv.rest c.loop-steps-test.false) (inv.count ∙ last) inv.wrote in
     record { value = c.found-2.ensures ∙ t.0; recorder_after = t.1 }

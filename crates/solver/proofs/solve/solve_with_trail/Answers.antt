@@ -1,6 +1,6 @@
 -- `solve::solve_with_trail` meets its contract: a trail is kept. Assumes nothing.
 use lib.ListN.{length}
-use mathlib.Core.Path.{◌≡◌, refl}
+use mathlib.Core.Path.{◌≡◌, refl, ap}
 use mathlib.Core.Bool.{true}
 use Rattle.solver.specs.Solve.{solve_keeping, solve_with_trail}
 use Rattle.solver.specs.Trail.{trail_after}
@@ -18,4 +18,5 @@ pub returns-clause-trail_after : goal.returns-clause-trail_after
 unfolding solve_with_trail solve_keeping
 returns-clause-trail_after c =
     let a = c.args in
-    by_set (λ s. c.trail-1.given.0 ≡ trail_after (solve_keeping s true (length a.trail.now) a.quote a.limit).records a.trail.now) a.set (search rules) refl
+    let said = by_set (λ s. c.solve_keeping.new.recorder.bytes.now ≡ trail_after (solve_keeping s true (length a.trail.now) a.quote a.limit).records a.trail.now) a.set (ap (λ t. t.bytes.now) c.solve_keeping.ensures.recorder_after) refl in
+    search rules
