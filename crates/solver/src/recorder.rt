@@ -18,7 +18,7 @@ pub(crate) trait Recorder {
     fn is_too_short(&self, limit: u32) -> bool
         ensures { result ≡ too_short self.now limit };
 
-    // Puts a step's record behind those of the steps before it.
+    // Puts a step's record behind those of the steps before it, where it has room for one more.
     fn put(&mut self, steps: u32, r: Record)
         requires { too_short self.old (steps + 1) ≡ false }
         ensures room { (n : ℕ) → too_short self.new n ≡ too_short self.old n }
