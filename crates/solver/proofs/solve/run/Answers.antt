@@ -4,16 +4,18 @@ use mathlib.Core.List.{[], ◌∷◌, ◌++◌}
 use Prim.Native.Nat.{◌-◌, ◌+◌}
 use lib.ListN.{length-append}
 use native.Mathlib.Omega.{arith}
-use Rattle.solver.proofs.Laws.LoopInvariant.{run_advances, stops, runs_out, next_advances, next_by_refusal, next_by_test, ended}
 use Rattle.std.proofs.Common.{rules}
 use Rattle.std.specs.Prelude.{Ok, Err}
-use Rattle.solver.specs.declared.state.State.{State}
-use Rattle.solver.specs.declared.refusal.Refusal.TheVariants.{Pricing}
 use Rattle.prices.specs.declared.refusal.Refusal.{Refusal as Unpriced}
+use Rattle.solver.specs.declared.refusal.Refusal.TheVariants.{Pricing}
+use Rattle.solver.specs.declared.state.State.{State}
+use Rattle.solver.proofs.Laws.LoopInvariant.{run_advances, stops, runs_out, next_advances, next_by_refusal, next_by_test, ended}
 use Rattle.solver.specs.Loop.{by_test, by_limit, by_refusal, run}
 use Rattle.solver.specs.Step.{StepResult, next_by}
 use Rattle.solver.specs.Inside.Branch.{branch_step}
+use Rattle.solver.proofs.solve.run.Given.{Over}
 use Rattle.solver.proofs.solve.run.Goals as goal
+use Rattle.solver.proofs.solve.run.Goals.{After-from_residual}
 
 pub loop-steps-init : goal.loop-steps-init
 loop-steps-init g c = record { rs = []; count = refl; within = omega arith; rest = let k : c.args.limit - 0 ≡ c.args.limit = omega arith in rw k; wrote = g.met.R.Recorder.after_nothing _; room = λ n. refl }
@@ -53,6 +55,10 @@ returns-then-is_close g c =
     let t = ended g.R.Recorder.after all inv.rs (by_test at.st) a.branch a.root _ _ _ (stops next a.limit at.steps-counter all inv.rs at.st inv.rest c.loop-steps-test.true _ (next_by_test step_of at.st _ c.is_close.ensures c.if-is_close.true)) inv.count inv.wrote in
     record { value = c.found.ensures ∙ t.0; recorder_after = t.1 }
 
+-- what the step refused, in what the loop answers
+refused : (g : Over) (c : After-from_residual g) → (k : Unpriced) × (c.step.result ≡ Err k) × (c.from_residual.result ≡ Err (record { refusal = Pricing k; steps = c.loop-steps.steps-counter }))
+refused g c = search rules
+
 pub returns-in_err-completed : goal.returns-in_err-completed
 returns-in_err-completed g c =
     let a = c.args in
@@ -61,10 +67,10 @@ returns-in_err-completed g c =
     let step_of : State → StepResult = branch_step a.set a.branch a.m.b_max a.m.x a.m.beta in
     let next = next_by step_of in
     let all = run next a.limit a.start in
-    let refused : (k : Unpriced) × (c.step.result ≡ Err k) × (c.from_residual.result ≡ Err (record { refusal = Pricing k; steps = at.steps-counter })) = search rules in
-    let leads = next_by_refusal step_of at.st _ _ c.is_close.ensures c.step.ensures c.if-is_close.false refused.0 refused.1 in
-    let t = ended g.R.Recorder.after all inv.rs (by_refusal refused.0) a.branch a.root _ _ _ (stops next a.limit at.steps-counter all inv.rs at.st inv.rest c.loop-steps-test.true _ leads) inv.count inv.wrote in
-    record { value = refused.2 ∙ t.0; recorder_after = t.1 }
+    let met = refused g c in
+    let leads = next_by_refusal step_of at.st _ _ c.is_close.ensures c.step.ensures c.if-is_close.false met.0 met.1 in
+    let t = ended g.R.Recorder.after all inv.rs (by_refusal met.0) a.branch a.root _ _ _ (stops next a.limit at.steps-counter all inv.rs at.st inv.rest c.loop-steps-test.true (by_refusal met.0) leads) inv.count inv.wrote in
+    record { value = met.2 ∙ t.0; recorder_after = t.1 }
 
 pub returns : goal.returns
 returns g c =

@@ -2,9 +2,9 @@
 use lib.ListN.{length}
 use mathlib.Core.Path.{◌≡◌, refl, ap}
 use mathlib.Core.Bool.{true}
+use Rattle.std.proofs.Common.{rules}
 use Rattle.solver.specs.Solve.{solve_keeping, solve_with_trail}
 use Rattle.solver.specs.Trail.{trail_after}
-use Rattle.std.proofs.Common.{rules}
 use Rattle.solver.proofs.Laws.BySet.{by_set}
 use Rattle.solver.proofs.solve.solve_with_trail.Goals as goal
 
