@@ -131,7 +131,7 @@ fn found(st: State, root: f64, branch: Branch, ending: Ending, steps: u32) -> Im
     }
 }
 
-// The branch's loop from its starting state, with its steps' records.
+// The branch's loop from its starting state, with its steps' records in the recorder.
 fn run<R: Recorder>(
     set: RuleSet,
     branch: Branch,
@@ -162,6 +162,7 @@ fn run<R: Recorder>(
 
 // ---- solve
 
+// The solution, with the steps' records in the recorder; refused where that is too short for them.
 fn solve_keeping<R: Recorder>(
     set: RuleSet,
     quote: Quote,
