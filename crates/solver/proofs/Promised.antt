@@ -20,7 +20,7 @@ use Rattle.solver.specs.Trail.{trail_after}
 use Rattle.solver.specs.Guess.{Start}
 use Rattle.solver.specs.Answers.{number, number_in, range_number_in, low_in, high_in}
 use Rattle.solver.specs.BidAsk.{RangeResult, quote_at, range_check, range_check_with_trails, solve_range, solve_range_with_trails}
-use Rattle.solver.specs.Solve.{Check, market_check, input_check, start_of, SolveResult, result_from, solve_keeping, solve_of, solve_with_trail, steps_of}
+use Rattle.solver.specs.Solve.{Check, market_check, input_check, start_of, SolveResult, result_from, solve_of, solve_with_trail, steps_of}
 use Rattle.solver.specs.Promises.Demand3.{Trail, none, of_bytes, LongEnough, run_of, begin_of, OneRun, Sentences, Demand3}
 use Rattle.solver.specs.Promises.Answers.{Numbers, SolveNumbers, LineLength}
 use Rattle.solver.specs.Promises.BidAsk.{call_with, RefusedWith, CheckedInOrder, AsSingle, AsSingleWithTrail, BidAskOrder, BidAskEnds, BidAskWithoutTrails}
@@ -58,7 +58,7 @@ module _ (set : RuleSet) (q : Quote) where
   begin_is n (of_bytes k) = refl
 
   run_is : (n : ℤ) (t : Trail) → run n t ≡ result_from (start (is_short n t)) q.expiry (steps_of n)
-  unfolding solve_of solve_with_trail solve_keeping
+  unfolding solve_of solve_with_trail
   run_is n none = refl
   run_is n (of_bytes k) = refl
 

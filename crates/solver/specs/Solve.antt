@@ -1,5 +1,5 @@
 -- solve: `implied_volatility_from_a_transformed_rational_guess_with_limited_iterations` with document 01's refusals. Definitions only.
-use Rattle.std.specs.Prelude.{Bool, true, false, cond, ◌&&◌, List, [], ℕ, ◌*◌, length, ltb, ℤ, pos, negsuc, Float, ⊤, Result, Ok, Err, None, Some}
+use Rattle.std.specs.Prelude.{Bool, false, cond, List, [], ℕ, ◌*◌, length, ltb, ℤ, pos, negsuc, Float, ⊤, Result, Ok, Err, None, Some}
 use Rattle.std.specs.Float.{binary64}
 use Rattle.std.specs.Float.Ieee.{lt, le}
 use Rattle.elementary.specs.Ops.{◌⊖◌, ◌⊗◌, ◌⊘◌, +0, MAX, MIN}
@@ -127,17 +127,13 @@ result_from (answered v) expiry n = record { records = []; answer = solution_of 
 result_from (stopped refusal) expiry n = record { records = []; answer = Err (at_once refusal) }
 result_from (looping branch beta step st) expiry n = result_of_run branch (sqrt_of binary64 expiry) (run (next_by step) n st)
 
--- with a trail of so many bytes where `keep` is true, else with none; n is max(limit, 0)
-unfoldable pub solve_keeping : RuleSet → Bool → ℕ → Quote → ℕ → SolveResult
-solve_keeping set keep bytes q n = result_from (start_of set (keep && ltb bytes (48 * n)) q) q.expiry n
-
--- solve with no trail
+-- solve with no trail; n is max(limit, 0)
 unfoldable pub solve_of : RuleSet → Quote → ℕ → SolveResult
-solve_of set q n = solve_keeping set false 0 q n
+solve_of set q n = result_from (start_of set false q) q.expiry n
 
 -- solve with a trail of so many bytes
 unfoldable pub solve_with_trail : RuleSet → Quote → ℕ → ℕ → SolveResult
-solve_with_trail set q n bytes = solve_keeping set true bytes q n
+solve_with_trail set q n bytes = result_from (start_of set (ltb bytes (48 * n)) q) q.expiry n
 
 -- the arguments of a ported function as a quote
 abbrev pub quote_of : Float → Float → Float → Float → OptionType → Quote

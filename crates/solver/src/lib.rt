@@ -11,6 +11,7 @@ mod step; // the three Householder steps
 mod guess; // where a run starts, after normalising
 pub mod little_endian; // numbers and floats in a slice
 mod trail; // the bytes of a step's record
+mod recorder; // where the records of a run go
 pub mod solve; // solve, with a trail and without, and the wrapper with limit 2
 pub mod bid_ask; // solve at a low and at a high price
 pub mod book; // file, recheck and read

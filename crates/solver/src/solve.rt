@@ -1,23 +1,22 @@
 // solve: `implied_volatility_from_a_transformed_rational_guess_with_limited_iterations` of so_rational.rs
 // with document 01's refusals and its trail.
-ghost use Rattle.std.specs.Prelude.{◌≡◌, true, ◌&&◌, ◌*◌, ◌≤◌, ltb, length};
+ghost use Rattle.std.specs.Prelude.{◌≡◌, false, length};
 ghost use Rattle.elementary.specs.Ops.{◌⊘◌};
 ghost use Rattle.solver.specs.Loop.{run as run_of};
 ghost use Rattle.solver.specs.Step.{next_by};
 ghost use Rattle.solver.specs.Inside.Branch.{branch_step};
 ghost use Rattle.solver.specs.Inside.Start.{meaning};
-ghost use Rattle.solver.specs.Inside.Trail.{trail_if_kept};
-ghost use Rattle.solver.specs.Solve.{cap_of, over_expiry, accepted_start, price_check, market_check, input_check, solution_of, result_of_run, solve_keeping as solve_keeping_of, solve_of, solve_with_trail as solve_with_trail_of, target_of, steps_of};
+ghost use Rattle.solver.specs.Solve.{cap_of, over_expiry, accepted_start, price_check, market_check, input_check, solution_of, result_of_run, result_from, start_of, solve_of, solve_with_trail as solve_with_trail_of, target_of, steps_of};
 ghost use Rattle.solver.specs.Trail.{trail_after};
 
 use crate::answers::{Branch, Ending, ImpliedVolatility};
 use crate::guess::normalised_start;
 use crate::normalised_market::NormalisedMarket;
 use crate::quote::Quote;
+use crate::recorder::{LentTrail, NoTrail, Recorder};
 use crate::refusal::{Failure, Refusal};
 use crate::state::{Start, State};
 use crate::step::{is_close, step};
-use crate::trail::put_record;
 use elementary::limits::{MAX, MIN};
 use elementary::ln::ln;
 use elementary::methods::max;
@@ -132,72 +131,60 @@ fn found(st: State, root: f64, branch: Branch, ending: Ending, steps: u32) -> Im
     }
 }
 
-// The branch's loop from its starting state, with the trail's records where `keep` is true.
-fn run(
+// The branch's loop from its starting state, with its steps' records in the recorder.
+fn run<R: Recorder>(
     set: RuleSet,
     branch: Branch,
     m: NormalisedMarket,
     root: f64,
     start: State,
     limit: u32,
-    trail: &mut [u8],
-    keep: bool,
+    recorder: &mut R,
 ) -> Result<ImpliedVolatility, Failure>
-    requires { keep ≡ true → 48 * limit ≤ length trail.old }
+    requires { R.too_short recorder.old limit ≡ false }
     ensures value { result ≡ (result_of_run branch root (run_of (next_by (branch_step set branch m.b_max m.x m.beta)) limit start)).answer }
-    ensures trail_after { trail.new ≡ trail_if_kept keep (run_of (next_by (branch_step set branch m.b_max m.x m.beta)) limit start).records trail.old }
+    ensures recorder_after { recorder.new ≡ R.after (run_of (next_by (branch_step set branch m.b_max m.x m.beta)) limit start).records recorder.old }
 {
     let mut st = start;
     for steps in 0..limit {
         if is_close(st) {
             return Ok(found(st, root, branch, Ending::StepTest, steps));
         }
-        match step(set, branch, m, st) {
-            Ok(completed) => {
-                if keep {
-                    put_record(&mut trail[steps as usize * 48..], completed.kept);
-                }
-                st = completed.state;
-            }
-            Err(unpriced) => {
-                let refusal = Refusal::Pricing(unpriced);
-                return Err(Failure { refusal, steps });
-            }
-        }
+        let completed = step(set, branch, m, st).map_err(|unpriced| {
+            let refusal = Refusal::Pricing(unpriced);
+            Failure { refusal, steps }
+        })?;
+        recorder.put(steps, completed.kept);
+        st = completed.state;
     }
     Ok(found(st, root, branch, Ending::Limit, limit))
 }
 
 // ---- solve
 
-// With a trail where `keep` is true, else without one.
-fn solve_keeping(
+// The solution, with the steps' records in the recorder; refused where that is too short for them.
+fn solve_keeping<R: Recorder>(
     set: RuleSet,
     quote: Quote,
     limit: u32,
-    trail: &mut [u8],
-    keep: bool,
+    recorder: &mut R,
 ) -> Result<ImpliedVolatility, Failure>
-    ensures value { result ≡ (solve_keeping_of set keep (length trail.old) quote limit).answer }
-    ensures trail_after { trail.new ≡ trail_if_kept keep (solve_keeping_of set keep (length trail.old) quote limit).records trail.old }
+    ensures value { result ≡ (result_from (start_of set (R.too_short recorder.old limit) quote) quote.expiry limit).answer }
+    ensures recorder_after { recorder.new ≡ R.after (result_from (start_of set (R.too_short recorder.old limit) quote) quote.expiry limit).records recorder.old }
 {
     check_input(quote)?;
-    if keep && trail.len() < limit as usize * 48 {
+    if recorder.is_too_short(limit) {
         return Err(Failure::from(Refusal::TrailTooShort));
     }
     match accepted_start(set, quote)? {
-        Start::Answered(volatility) => {
-            let branch = Branch::NoLoop;
-            let ending = Ending::NoLoop;
-            Ok(ImpliedVolatility {
-                volatility,
-                branch,
-                ending,
-                steps: 0,
-            })
-        }
+        Start::Answered(volatility) => Ok(ImpliedVolatility {
+            volatility,
+            branch: Branch::NoLoop,
+            ending: Ending::NoLoop,
+            steps: 0,
+        }),
         Start::Looping(branch, m, st) => {
-            run(set, branch, m, sqrt(quote.expiry), st, limit, trail, keep)
+            run(set, branch, m, sqrt(quote.expiry), st, limit, recorder)
         }
     }
 }
@@ -220,14 +207,14 @@ pub fn solve_with_trail(
     ensures value { result ≡ (solve_with_trail_of set quote limit (length trail.old)).answer }
     ensures trail_after { trail.new ≡ trail_after (solve_with_trail_of set quote limit (length trail.old)).records trail.old }
 {
-    solve_keeping(set, quote, limit, trail, true)
+    solve_keeping(set, quote, limit, &mut LentTrail { bytes: trail })
 }
 
 // The same without a trail.
 pub fn solve(set: RuleSet, quote: Quote, limit: u32) -> Result<ImpliedVolatility, Failure>
     ensures { result ≡ (solve_of set quote limit).answer }
 {
-    solve_keeping(set, quote, limit, &mut [], false)
+    solve_keeping(set, quote, limit, &mut NoTrail)
 }
 
 // What the quote's loop seeks, out of the money and normalised; nothing where the answer comes before a

@@ -1,5 +1,5 @@
--- What holds before each turn of `run`'s loop: the records of its completed steps, what the run is from there on, and the trail. Assumes nothing.
-use mathlib.Core.Path.{◌≡◌, refl}
+-- What holds before each turn of `run`'s loop: the records of its completed steps, what the run is from there on, and the recorder. Assumes nothing.
+use mathlib.Core.Path.{◌≡◌}
 use mathlib.Core.Bool.{Bool, true, false}
 use mathlib.Core.List.{List, [], ◌∷◌, ◌++◌, append_assoc, append-nil}
 use Prim.Native.Nat.{ℕ, suc, ◌+◌, ◌-◌, ◌*◌, ◌<◌, ◌≤◌}
@@ -18,17 +18,17 @@ use Rattle.solver.specs.Step.{StepResult, is_close, next_by}
 use Rattle.solver.specs.Solve.{answer_of, result_of_run}
 use Rattle.solver.specs.LittleEndian.{overwritten}
 use Rattle.solver.specs.Trail.{record_bytes, all_bytes, trail_after}
-use Rattle.solver.specs.Inside.Trail.{trail_if_kept}
 use Rattle.solver.proofs.Laws.Trails.{all_length, all_append}
 use Rattle.solver.proofs.Laws.Parts.{behind}
 
-pub record Invariant (next : State → Transition State Record) (limit : ℕ) (keep : Bool) (st₀ : State) (old trail : List ℕ) (st : State) (steps : ℕ) : Type 0 where
+-- of a recorder's type T, what one is after a run with some records, and whether one is too short for so many
+pub record Invariant {T : Type 0} (after_records : List Record → T → T) (too_short : T → ℕ → Bool) (next : State → Transition State Record) (limit : ℕ) (st₀ : State) (old recorder : T) (st : State) (steps : ℕ) : Type 0 where
   pub rs : List Record
   pub count : length rs ≡ steps
   pub within : steps ≤ limit
   pub rest : run next limit st₀ ≡ after rs (run next (limit - steps) st)
-  pub wrote : trail ≡ trail_if_kept keep rs old
-  pub long : length trail ≡ length old
+  pub wrote : recorder ≡ after_records rs old
+  pub room : (n : ℕ) → too_short recorder n ≡ too_short old n
 
 -- one turn of any loop, from what a state leads to
 module _ {S R : Type 0} (next : S → Transition S R) where
@@ -57,12 +57,6 @@ module _ {S R : Type 0} (next : S → Transition S R) (limit steps : ℕ) (w : R
       let k : limit - steps ≡ 0 = omega arith in
       rw (rest, k, append-nil)
 
--- where nothing is written
-pub no_record : (keep : Bool) (old : List ℕ) → old ≡ trail_if_kept keep [] old
-unfolding trail_after
-no_record true old = refl
-no_record false old = refl
-
 -- a record behind the others
 pub one_more : (rs : List Record) (r : Record) (old trail trail' : List ℕ) (steps : ℕ) → length rs ≡ steps → trail ≡ trail_after rs old → trail' ≡ overwritten (steps * 48) (record_bytes r) trail → trail' ≡ trail_after (rs ++ (r ∷ [])) old
 unfolding trail_after
@@ -81,8 +75,8 @@ module _ (step_of : State → StepResult) (st : State) (close : Bool) (stepped :
 pub next_by_test : (step_of : State → StepResult) (st : State) (close : Bool) → close ≡ is_close st → close ≡ true → next_by step_of st ≡ stop (by_test st)
 next_by_test step_of st close c n = rw (← c, n)
 
--- a run that has ended, and what it answers and leaves in the trail
-pub ended : (w : Run State Record) (rs : List Record) (e : Ending State) (branch : Branch) (root : Float) (keep : Bool) (old trail : List ℕ) (steps : ℕ)
-    → w ≡ record { records = rs; ending = e } → length rs ≡ steps → trail ≡ trail_if_kept keep rs old
-    → (answer_of branch root e steps ≡ (result_of_run branch root w).answer) × (trail ≡ trail_if_kept keep w.records old)
-ended w rs e branch root keep old trail steps p n t = (rw (p, n), rw p t)
+-- a run that has ended, and what it answers and leaves of the recorder
+pub ended : {T : Type 0} (after_records : List Record → T → T) (w : Run State Record) (rs : List Record) (e : Ending State) (branch : Branch) (root : Float) (old recorder : T) (steps : ℕ)
+    → w ≡ record { records = rs; ending = e } → length rs ≡ steps → recorder ≡ after_records rs old
+    → (answer_of branch root e steps ≡ (result_of_run branch root w).answer) × (recorder ≡ after_records w.records old)
+ended after_records w rs e branch root old recorder steps p n t = (rw (p, n), rw p t)

@@ -1,73 +1,84 @@
 -- `solve::run` meets its contract: its loop keeps what it has reached, and each way out is the run's end. Assumes nothing.
 use mathlib.Core.Path.{◌≡◌, refl, ◌∙◌}
 use mathlib.Core.List.{[], ◌∷◌, ◌++◌}
-use Prim.Native.Nat.{◌-◌, ◌*◌}
+use Prim.Native.Nat.{◌-◌, ◌+◌}
 use lib.ListN.{length-append}
 use native.Mathlib.Omega.{arith}
-use Rattle.solver.proofs.Laws.LoopInvariant.{no_record, one_more, run_advances, stops, runs_out, next_advances, next_by_refusal, next_by_test, ended}
-use Rattle.solver.proofs.Laws.Parts.{part_overwritten}
+use Rattle.std.proofs.Common.{rules}
+use Rattle.std.specs.Prelude.{Ok, Err}
+use Rattle.prices.specs.declared.refusal.Refusal.{Refusal as Unpriced}
+use Rattle.solver.specs.declared.refusal.Refusal.TheVariants.{Pricing}
 use Rattle.solver.specs.declared.state.State.{State}
+use Rattle.solver.proofs.Laws.LoopInvariant.{run_advances, stops, runs_out, next_advances, next_by_refusal, next_by_test, ended}
 use Rattle.solver.specs.Loop.{by_test, by_limit, by_refusal, run}
 use Rattle.solver.specs.Step.{StepResult, next_by}
 use Rattle.solver.specs.Inside.Branch.{branch_step}
-use Rattle.solver.specs.Trail.{record_bytes}
+use Rattle.solver.proofs.solve.run.Given.{Over}
 use Rattle.solver.proofs.solve.run.Goals as goal
-use Rattle.solver.proofs.solve.run.Goals.{then-keep, else-keep}
+use Rattle.solver.proofs.solve.run.Goals.{After-from_residual}
 
 pub loop-steps-init : goal.loop-steps-init
-loop-steps-init c = record { rs = []; count = refl; within = omega arith; rest = let k : c.args.limit - 0 ≡ c.args.limit = omega arith in rw k; wrote = no_record c.args.keep _; long = refl }
+loop-steps-init g c = record { rs = []; count = refl; within = omega arith; rest = let k : c.args.limit - 0 ≡ c.args.limit = omega arith in rw k; wrote = g.met.R.Recorder.after_nothing _; room = λ n. refl }
+
+pub put-requires : goal.put-requires
+put-requires g c =
+    let at = c.loop-steps in
+    let law = g.met.R.Recorder in
+    law.fewer _ (at.steps-counter + 1) c.args.limit (omega (arith, c.loop-steps-test.true)) (at.invariant.room c.args.limit ∙ c.requires)
 
 pub loop-steps-preserved : goal.loop-steps-preserved
-unfolding record_bytes
-loop-steps-preserved c =
+loop-steps-preserved g c =
     let a = c.args in
     let at = c.loop-steps in
     let inv = at.invariant in
     let step_of : State → StepResult = branch_step a.set a.branch a.m.b_max a.m.x a.m.beta in
-    let taken = c.in-Ok.completed in
+    let taken = c.in_ok-completed.completed in
+    let e : c.step.result ≡ Ok taken = search rules in
     let r = taken.kept in
     record {
       rs = inv.rs ++ (r ∷ []);
       count = omega (arith, length-append inv.rs (r ∷ []));
       within = omega arith;
-      rest = run_advances (next_by step_of) a.limit at.steps _ inv.rs at.st inv.rest c.loop-steps-test.true r taken.state (next_advances step_of at.st _ _ c.is_close.ensures c.step.ensures c.if-is_close.false taken c.in-Ok.is);
-      wrote = elim c.if-keep.branch [
-        | then-keep w ↦ rw w.if-keep.true (one_more inv.rs r _ at.trail _ _ inv.count (rw w.if-keep.true at inv.wrote) (w.trail-is ∙ part_overwritten (at.steps * 48) at.trail (record_bytes r) _ w.put_record.ensures))
-        | else-keep w ↦ rw w.if-keep.false (w.trail-is ∙ (rw w.if-keep.false at inv.wrote))
-      ];
-      long = omega arith;
+      rest = run_advances (next_by step_of) a.limit at.steps-counter (run (next_by step_of) a.limit a.start) inv.rs at.st inv.rest c.loop-steps-test.true r taken.state (next_advances step_of at.st _ _ c.is_close.ensures c.step.ensures c.if-is_close.false taken e);
+      wrote = c.put.ensures.after inv.rs a.recorder.now inv.count inv.wrote;
+      room = λ n. c.put.ensures.room n ∙ inv.room n;
     }
 
 pub returns-then-is_close : goal.returns-then-is_close
-returns-then-is_close c =
+returns-then-is_close g c =
     let a = c.args in
     let at = c.loop-steps in
     let inv = at.invariant in
     let step_of : State → StepResult = branch_step a.set a.branch a.m.b_max a.m.x a.m.beta in
     let next = next_by step_of in
     let all = run next a.limit a.start in
-    let t = ended all inv.rs (by_test at.st) a.branch a.root a.keep _ _ _ (stops next a.limit at.steps all inv.rs at.st inv.rest c.loop-steps-test.true _ (next_by_test step_of at.st _ c.is_close.ensures c.if-is_close.true)) inv.count inv.wrote in
-    record { value = c.found.ensures ∙ t.0; trail_after = t.1 }
+    let t = ended g.R.Recorder.after all inv.rs (by_test at.st) a.branch a.root _ _ _ (stops next a.limit at.steps-counter all inv.rs at.st inv.rest c.loop-steps-test.true _ (next_by_test step_of at.st _ c.is_close.ensures c.if-is_close.true)) inv.count inv.wrote in
+    record { value = c.found.ensures ∙ t.0; recorder_after = t.1 }
 
-pub returns-in-Err : goal.returns-in-Err
-returns-in-Err c =
+-- what the step refused, in what the loop answers
+refused : (g : Over) (c : After-from_residual g) → (k : Unpriced) × (c.step.result ≡ Err k) × (c.from_residual.result ≡ Err (record { refusal = Pricing k; steps = c.loop-steps.steps-counter }))
+refused g c = search rules
+
+pub returns-in_err-completed : goal.returns-in_err-completed
+returns-in_err-completed g c =
     let a = c.args in
     let at = c.loop-steps in
     let inv = at.invariant in
     let step_of : State → StepResult = branch_step a.set a.branch a.m.b_max a.m.x a.m.beta in
     let next = next_by step_of in
     let all = run next a.limit a.start in
-    let leads = next_by_refusal step_of at.st _ _ c.is_close.ensures c.step.ensures c.if-is_close.false c.in-Err.unpriced c.in-Err.is in
-    let t = ended all inv.rs (by_refusal c.in-Err.unpriced) a.branch a.root a.keep _ _ _ (stops next a.limit at.steps all inv.rs at.st inv.rest c.loop-steps-test.true _ leads) inv.count inv.wrote in
-    record { value = t.0; trail_after = t.1 }
+    let met = refused g c in
+    let leads = next_by_refusal step_of at.st _ _ c.is_close.ensures c.step.ensures c.if-is_close.false met.0 met.1 in
+    let t = ended g.R.Recorder.after all inv.rs (by_refusal met.0) a.branch a.root _ _ _ (stops next a.limit at.steps-counter all inv.rs at.st inv.rest c.loop-steps-test.true (by_refusal met.0) leads) inv.count inv.wrote in
+    record { value = met.2 ∙ t.0; recorder_after = t.1 }
 
 pub returns : goal.returns
-returns c =
+returns g c =
     let a = c.args in
     let at = c.loop-steps in
     let inv = at.invariant in
     let next = next_by (branch_step a.set a.branch a.m.b_max a.m.x a.m.beta) in
     let all = run next a.limit a.start in
-    let last : at.steps ≡ a.limit = omega (arith, inv.within, c.loop-steps-test.false) in
-    let t = ended all inv.rs (by_limit at.st) a.branch a.root a.keep _ _ _ (runs_out next a.limit at.steps all inv.rs at.st inv.rest c.loop-steps-test.false) (inv.count ∙ last) inv.wrote in
-    record { value = c.found-2.ensures ∙ t.0; trail_after = t.1 }
+    let last : at.steps-counter ≡ a.limit = omega (arith, inv.within, c.loop-steps-test.false) in
+    let t = ended g.R.Recorder.after all inv.rs (by_limit at.st) a.branch a.root _ _ _ (runs_out next a.limit at.steps-counter all inv.rs at.st inv.rest c.loop-steps-test.false) (inv.count ∙ last) inv.wrote in
+    record { value = c.found-2.ensures ∙ t.0; recorder_after = t.1 }
