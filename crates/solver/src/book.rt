@@ -97,7 +97,7 @@ fn agrees(r: &[u8; RECORD_BYTES], a: ImpliedVolatility) -> bool
         & (r[50] == a.ending.number())
 }
 
-// ---- the book
+// ---- the book: lent bytes, and beside them the count of the records in use, as in document 01 and in C
 
 // Solves, files the solution in slot `used` and answers used + 1. A refusal leaves the book as it was.
 fn file_in_slot(
