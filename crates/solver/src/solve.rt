@@ -146,9 +146,14 @@ fn run<R: Recorder>(
     ensures recorder_after { recorder.new ≡ R.after (run_of (next_by (branch_step set branch m.b_max m.x m.beta)) limit start).records recorder.old }
 {
     let mut st = start;
-    for steps in 0..limit {
+    let mut steps: u32 = 0;
+    // No `for`: document 01 names the form, a loop that yields its ending with the state by break.
+    let (ending, last) = loop {
+        if steps >= limit {
+            break (Ending::Limit, st);
+        }
         if is_close(st) {
-            return Ok(found(st, root, branch, Ending::StepTest, steps));
+            break (Ending::StepTest, st);
         }
         let completed = step(set, branch, m, st).map_err(|unpriced| {
             let refusal = Refusal::Pricing(unpriced);
@@ -156,8 +161,9 @@ fn run<R: Recorder>(
         })?;
         recorder.put(steps, completed.kept);
         st = completed.state;
-    }
-    Ok(found(st, root, branch, Ending::Limit, limit))
+        steps += 1;
+    };
+    Ok(found(last, root, branch, ending, steps))
 }
 
 // ---- solve

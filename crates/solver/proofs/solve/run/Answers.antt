@@ -15,7 +15,7 @@ use Rattle.solver.specs.Step.{StepResult, next_by}
 use Rattle.solver.specs.Inside.Branch.{branch_step}
 use Rattle.solver.proofs.solve.run.Given.{Over}
 use Rattle.solver.proofs.solve.run.Goals as goal
-use Rattle.solver.proofs.solve.run.Goals.{After-from_residual}
+use Rattle.solver.proofs.solve.run.Goals.{After-from_residual, then-steps-limit, else-steps-limit+then-is_close}
 
 pub loop-steps-init : goal.loop-steps-init
 loop-steps-init g c = record { rs = []; count = refl; within = omega arith; rest = let k : c.args.limit - 0 ≡ c.args.limit = omega arith in rw k; wrote = g.met.R.Recorder.after_nothing _; room = λ n. refl }
@@ -24,7 +24,7 @@ pub put-requires : goal.put-requires
 put-requires g c =
     let at = c.loop-steps in
     let law = g.met.R.Recorder in
-    law.fewer _ (at.steps-counter + 1) c.args.limit (omega (arith, c.loop-steps-test.true)) (at.invariant.room c.args.limit ∙ c.requires)
+    law.fewer _ (at.steps + 1) c.args.limit (omega (arith, c.if-steps-limit.false)) (at.invariant.room c.args.limit ∙ c.requires)
 
 pub loop-steps-preserved : goal.loop-steps-preserved
 loop-steps-preserved g c =
@@ -39,24 +39,13 @@ loop-steps-preserved g c =
       rs = inv.rs ++ (r ∷ []);
       count = omega (arith, length-append inv.rs (r ∷ []));
       within = omega arith;
-      rest = run_advances (next_by step_of) a.limit at.steps-counter (run (next_by step_of) a.limit a.start) inv.rs at.st inv.rest c.loop-steps-test.true r taken.state (next_advances step_of at.st _ _ c.is_close.ensures c.step.ensures c.if-is_close.false taken e);
+      rest = run_advances (next_by step_of) a.limit at.steps (run (next_by step_of) a.limit a.start) inv.rs at.st inv.rest c.if-steps-limit.false r taken.state (next_advances step_of at.st _ _ c.is_close.ensures c.step.ensures c.if-is_close.false taken e);
       wrote = c.put.ensures.after inv.rs a.recorder.now inv.count inv.wrote;
       room = λ n. c.put.ensures.room n ∙ inv.room n;
     }
 
-pub returns-then-is_close : goal.returns-then-is_close
-returns-then-is_close g c =
-    let a = c.args in
-    let at = c.loop-steps in
-    let inv = at.invariant in
-    let step_of : State → StepResult = branch_step a.set a.branch a.m.b_max a.m.x a.m.beta in
-    let next = next_by step_of in
-    let all = run next a.limit a.start in
-    let t = ended g.R.Recorder.after all inv.rs (by_test at.st) a.branch a.root _ _ _ (stops next a.limit at.steps-counter all inv.rs at.st inv.rest c.loop-steps-test.true _ (next_by_test step_of at.st _ c.is_close.ensures c.if-is_close.true)) inv.count inv.wrote in
-    record { value = c.found.ensures ∙ t.0; recorder_after = t.1 }
-
 -- what the step refused, in what the loop answers
-refused : (g : Over) (c : After-from_residual g) → (k : Unpriced) × (c.step.result ≡ Err k) × (c.from_residual.result ≡ Err (record { refusal = Pricing k; steps = c.loop-steps.steps-counter }))
+refused : (g : Over) (c : After-from_residual g) → (k : Unpriced) × (c.step.result ≡ Err k) × (c.from_residual.result ≡ Err (record { refusal = Pricing k; steps = c.loop-steps.steps }))
 refused g c = search rules
 
 pub returns-in_err-completed : goal.returns-in_err-completed
@@ -69,7 +58,7 @@ returns-in_err-completed g c =
     let all = run next a.limit a.start in
     let met = refused g c in
     let leads = next_by_refusal step_of at.st _ _ c.is_close.ensures c.step.ensures c.if-is_close.false met.0 met.1 in
-    let t = ended g.R.Recorder.after all inv.rs (by_refusal met.0) a.branch a.root _ _ _ (stops next a.limit at.steps-counter all inv.rs at.st inv.rest c.loop-steps-test.true (by_refusal met.0) leads) inv.count inv.wrote in
+    let t = ended g.R.Recorder.after all inv.rs (by_refusal met.0) a.branch a.root _ _ _ (stops next a.limit at.steps all inv.rs at.st inv.rest c.if-steps-limit.false (by_refusal met.0) leads) inv.count inv.wrote in
     record { value = met.2 ∙ t.0; recorder_after = t.1 }
 
 pub returns : goal.returns
@@ -77,8 +66,14 @@ returns g c =
     let a = c.args in
     let at = c.loop-steps in
     let inv = at.invariant in
-    let next = next_by (branch_step a.set a.branch a.m.b_max a.m.x a.m.beta) in
+    let step_of : State → StepResult = branch_step a.set a.branch a.m.b_max a.m.x a.m.beta in
+    let next = next_by step_of in
     let all = run next a.limit a.start in
-    let last : at.steps-counter ≡ a.limit = omega (arith, inv.within, c.loop-steps-test.false) in
-    let t = ended g.R.Recorder.after all inv.rs (by_limit at.st) a.branch a.root _ _ _ (runs_out next a.limit at.steps-counter all inv.rs at.st inv.rest c.loop-steps-test.false) (inv.count ∙ last) inv.wrote in
-    record { value = c.found-2.ensures ∙ t.0; recorder_after = t.1 }
+    elim c.if-steps-limit.branch [
+      | then-steps-limit w ↦
+          let t = ended g.R.Recorder.after all inv.rs (by_limit at.st) a.branch a.root _ _ _ (runs_out next a.limit at.steps all inv.rs at.st inv.rest w.if-steps-limit.true) inv.count inv.wrote in
+          record { value = rw (c.found.ensures, w.ending-is) t.0; recorder_after = t.1 }
+      | else-steps-limit+then-is_close w ↦
+          let t = ended g.R.Recorder.after all inv.rs (by_test at.st) a.branch a.root _ _ _ (stops next a.limit at.steps all inv.rs at.st inv.rest w.if-steps-limit.false _ (next_by_test step_of at.st _ w.is_close.ensures w.if-is_close.true)) inv.count inv.wrote in
+          record { value = rw (c.found.ensures, w.ending-is) t.0; recorder_after = t.1 }
+    ]
