@@ -174,7 +174,8 @@ pub fn erfcx_above_threshold(y: f64) -> f64
     }
 }
 
-// erfc of y = |x| above the threshold. A rule set decides whether the factor multiplies the far arm.
+// erfc of y = |x| above the threshold. A rule set decides whether the factor multiplies the far arm. That it is
+// y's factor is asked here, of erfc_with_factor's closure and by `Argument::new`, whose ghost field then says it.
 fn erfc_abs(set: RuleSet, y: f64, factor: f64) -> f64
     requires { factor ≡ smoothened_exponential_of_negative_square y }
     ensures { result ≡ erfc_abs set y }

@@ -1,5 +1,6 @@
 // Eight numbers side by side. The methods are inlined, so that what they compute of all eight runs as
-// vectors.
+// vectors; `all` tests all eight, without a short cut, for the same reason. They are `for`s over the place,
+// since arrays have no zip, and of `array::from_fn` what its closure asks at each turn stayed open.
 ghost use Rattle.std.specs.Prelude.{◌≡◌, true};
 ghost use Rattle.elementary.specs.Inside.Each.{All, Pairs, Triples, Rows};
 

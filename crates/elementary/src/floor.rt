@@ -1,5 +1,5 @@
 // floor: IEEE 754's roundToIntegralTowardNegative, on the bits. std's f64::floor is proved too; ours stays, since
-// must-fail's wrong programs change its steps.
+// document 01 has it written anew, and wrong programs change its steps.
 ghost use Rattle.std.specs.Prelude.{◌≡◌, ◌+◌, ◌/◌, ◌%◌, ◌^◌, ◌<◌, ◌≤◌};
 ghost use Rattle.std.specs.Float.{binary64};
 ghost use Rattle.std.specs.Float.Ieee.{of_bits};

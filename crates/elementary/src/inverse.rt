@@ -11,10 +11,11 @@ ghost use Rattle.elementary.specs.Inside.Bisection.{AfterSteps};
 use crate::eight::Eight;
 use crate::ln::ln;
 use crate::methods::{abs, same};
-use crate::normal_distribution::{FRAC_1_SQRT_2, Sixteenth, cdfs, standard_normal_cdf};
+use crate::normal_distribution::{Sixteenth, cdfs, standard_normal_cdf};
 use crate::rule_set::RuleSet;
 use crate::sqrt::sqrt;
 use crate::tables::cdf_of_thirty_seconds;
+use std::f64::consts::FRAC_1_SQRT_2;
 
 // What is bisected: the cdf under a rule set, for p.
 #[derive(Clone, Copy)]
@@ -244,6 +245,8 @@ fn point(i: u64) -> f64
 }
 
 impl Question {
+    // The rule's own halves. No library's search of a sorted table would do: that the cdf's values grow is
+    // not known of them.
     fn first_steps(self) -> Bracket
         requires lowest_brackets { lt (cdf_of self.set lowest) self.p ≡ true }
         requires highest_brackets { lt (cdf_of self.set highest) self.p ≡ false }

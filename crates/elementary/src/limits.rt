@@ -1,10 +1,10 @@
-// f64's limits, by the Rust's names.
-pub const MAX: f64 = 1.7976931348623157e308;
+// f64's limits, by the names that the Rust's source reads them under.
+pub const MAX: f64 = f64::MAX;
 
-pub const MIN: f64 = -1.7976931348623157e308;
+pub const MIN: f64 = f64::MIN;
 
 // The least positive normal number.
-pub const MIN_POSITIVE: f64 = 2.2250738585072014e-308;
+pub const MIN_POSITIVE: f64 = f64::MIN_POSITIVE;
 
 // From 1 to the next number.
-pub const EPSILON: f64 = 2.220446049250313e-16;
+pub const EPSILON: f64 = f64::EPSILON;

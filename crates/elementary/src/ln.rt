@@ -7,8 +7,7 @@ ghost use Rattle.elementary.specs.Ln.{ln_sum, ln_at, ln_inner, ln_of, cube_root_
 use crate::exp::{H, L, exp};
 use crate::methods::is_zero;
 use crate::round::{float_of_fields, parts_of};
-
-const SQRT_2: f64 = 1.4142135623730951;
+use std::f64::consts::SQRT_2;
 
 // The sum of the series in z: 1/1 + z/3 + z^2/5 and so on to z^11/23.
 fn series(z: f64) -> f64

@@ -25,8 +25,8 @@ pub(crate) fn same(a: f64, b: f64) -> bool
     a == b && a.to_bits() == b.to_bits()
 }
 
-// abs clears the sign. std's f64::abs does so by two tests; ours stays, since must-fail's wrong programs
-// change its mask.
+// abs clears the sign. std's f64::abs does so by two tests; ours stays, since document 01 has it written
+// anew, and a wrong program changes its mask.
 pub fn abs(x: f64) -> f64
     ensures { result ≡ abs_of x }
 {

@@ -1,5 +1,5 @@
 // IEEE 754's fusedMultiplyAdd, a × b + c rounded once, in whole numbers. std's f64::mul_add is proved
-// too; ours stays, since must-fail's wrong programs change its steps.
+// too; ours stays, since document 01 has it written anew, and wrong programs change its steps.
 ghost use Rattle.std.specs.Prelude.{◌≡◌, ◌*◌, ◌^◌, ◌<◌, ◌≤◌, T};
 ghost use Rattle.std.specs.Float.{binary64};
 ghost use Rattle.std.specs.Float.Ieee.{unlike};

@@ -16,8 +16,7 @@ use crate::exp::exps;
 use crate::inverse::bisect;
 use crate::methods::abs;
 use crate::rule_set::RuleSet;
-
-pub(crate) const FRAC_1_SQRT_2: f64 = 0.7071067811865476;
+use std::f64::consts::FRAC_1_SQRT_2;
 
 pub fn standard_normal_cdf(set: RuleSet, y: f64) -> f64
     ensures { result ≡ cdf_of set y }

@@ -1,5 +1,5 @@
 // The square root, correctly rounded, in whole numbers. std's f64::sqrt is proved too; ours stays, since
-// must-fail's wrong programs change its steps.
+// document 01 has it written anew, and wrong programs change its steps.
 ghost use Rattle.std.specs.Prelude.{◌≡◌, ◌+◌, ◌*◌, ◌/◌, ◌^◌, ◌<◌, ◌≤◌};
 ghost use Rattle.std.specs.Float.{binary64};
 ghost use Rattle.std.specs.Float.Ieee.{of_bits};

@@ -142,11 +142,8 @@ static CDFS: [u64; 31] = [
 pub(crate) fn exp_of_negative_square_of_sixteenths(k: u64) -> Option<f64>
     ensures { MatchOption result (96 ≤ k) (λ value. value ≡ exp_of_negative_square (sixteenths_of k)) }
 {
-    if k < 96 {
-        Some(f64::from_bits(SQUARES[k as usize]))
-    } else {
-        None
-    }
+    let bits = SQUARES.get(k as usize)?;
+    Some(f64::from_bits(*bits))
 }
 
 // The cdf at −39 + i × 78 / 32, the same under every rule set.

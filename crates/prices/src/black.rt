@@ -203,7 +203,8 @@ pub(crate) fn out_of_the_money<E: Exponentials>(
     }
 }
 
-// In the money the price at −x is out of the money: the call to itself is made once.
+// In the money the price at −x is out of the money: the call to itself is made once. The Rust calls itself
+// too; the depth falls, which is why it ends.
 fn call_at(set: RuleSet, depth: u64, x: f64, s: f64) -> Result<f64, Refusal>
     ensures { result ≡ call_at depth set x s }
 {
@@ -233,7 +234,7 @@ pub fn normalised_black(
 
 // ---- black
 
-// Not so for document 01's 2, 3 and 4.
+// Not so for document 01's 2, 3 and 4. By comparisons, as document 01 says it and the definition tests it.
 pub fn is_positive_normal(x: f64) -> bool
     ensures { result ≡ is_positive_normal x }
 {
@@ -247,8 +248,9 @@ pub fn is_finite(x: f64) -> bool
     x >= MIN && x <= MAX
 }
 
-// The price is the factor times the normalised one, and not below the intrinsic value. s and x come
-// first: the normalised price waits for them, and for the other two roots only the last product does.
+// The price is the factor times the normalised one, and not below the intrinsic value. The parameters are
+// black's, which are the Rust's. s and x come first: the normalised price waits for them, and for the other
+// two roots only the last product does.
 fn price(
     set: RuleSet,
     forward: f64,

@@ -65,7 +65,7 @@ fn certain_sum(s: f64, w: f64, doubt: u64) -> Fused
     }
 }
 
-// 1 where |x| < |y|.
+// 1 where |x| < |y|, by their bits, since both are finite.
 fn order_doubt(x: f64, y: f64) -> u64
     requires x_finite { T (finite x) }
     requires y_finite { T (finite y) }
@@ -73,7 +73,7 @@ fn order_doubt(x: f64, y: f64) -> u64
 {
     let p = f64::from_bits(f64::to_bits(x) % 0x8000_0000_0000_0000);
     let q = f64::from_bits(f64::to_bits(y) % 0x8000_0000_0000_0000);
-    if p < q { 1 } else { 0 }
+    u64::from(p < q)
 }
 
 // ---- how the steps are done

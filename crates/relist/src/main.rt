@@ -48,7 +48,7 @@ fn relist(
 ) -> Step
     ensures { End result }
 {
-    // A `while`, since each block says the next one's number.
+    // A `while`: each block answers the next one's number, which a range by steps would count a second time.
     let mut first: u64 = 0;
     while first < INDEX_END {
         first = relist_block(first, input, output, log, block, lines)?;
@@ -105,7 +105,8 @@ fn step_after(first: u64, n: usize) -> Step
 fn fill(mut input: Stdin, block: &mut [u8]) -> io::Result<usize>
     ensures { IfOk result (λ n. n ≤ length block.new) }
 {
-    // A `while`: a read goes on by what it brought, and std's `read_to_end` needs a heap.
+    // A `while`: a read goes on by what it brought, and std's `read_to_end` needs a heap. samples has the same,
+    // since no library reads under both programs.
     let mut count: usize = 0;
     while count < block.len() {
         match input.read(&mut block[count..])? {

@@ -57,7 +57,8 @@ pub(crate) enum Function {
     BidAsk,
 }
 
-// Those that are counted: all but `BidAsk`.
+// Those that are counted: all but `BidAsk`. By hand, as the names below: a macro that wrote them would be the
+// repository's own, which the gate refuses.
 pub(crate) const ALL: [Function; 41] = [
     Function::ErfcAsPublished,
     Function::BitsOf,
@@ -328,6 +329,7 @@ fn convex_parameter(line: Line) -> Answer {
     ))
 }
 
+// A side by its word, as abi has it by its byte.
 fn side_of(side: u64) -> Side {
     if side == 0 { Side::Left } else { Side::Right }
 }

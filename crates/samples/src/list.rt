@@ -10,7 +10,7 @@ use std::array;
 pub(crate) const WIDTH: usize = 176;
 
 // What a line says of the function: words, a float by its bits; the number of a refusal is 0 where
-// there is none.
+// there is none. Both bits and number stand in every line, since a refusal leaves words behind too.
 #[derive(Clone, Copy)]
 pub(crate) struct Line {
     pub(crate) arguments: [u64; 9],

@@ -45,7 +45,8 @@ fn empty_buffer() -> [u8; 524288] {
 fn read_full(mut input: Stdin, buffer: &mut [u8]) -> io::Result<usize>
     ensures { IfOk result (λ n. n ≤ length buffer.new) }
 {
-    // A `while`: a read goes on by what it brought, and std's `read_to_end` needs a heap.
+    // A `while`: a read goes on by what it brought, and std's `read_to_end` needs a heap. relist has the same,
+    // since no library reads under both programs.
     let mut done: usize = 0;
     while done < buffer.len() {
         match input.read(&mut buffer[done..])? {

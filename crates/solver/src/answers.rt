@@ -6,7 +6,8 @@ use crate::refusal::Failure;
 use prices::refusal::Numbered;
 
 // The loop that found a volatility, or none: 2 and 3 lie below and above the middle, 5 is what branch 4
-// leaves of the upper tail.
+// leaves of the upper tail. None is a case among them and no Option, since document 01 numbers it with them,
+// in the answer, in a record and in a line.
 #[derive(Clone, Copy, Debug, PartialEq, Eq)]
 pub enum Branch {
     NoLoop = 0,

@@ -7,6 +7,7 @@ use crate::answers::{Ends, ImpliedVolatility};
 use crate::quote::{Quote, QuoteRange};
 use crate::refusal::{Failure, Refusal};
 use crate::solve::{check_market, check_price, solve, solve_with_trail};
+use crate::trail::STEP_BYTES;
 use elementary::rule_set::RuleSet;
 
 // ---- the checks
@@ -34,7 +35,7 @@ fn check_range_with_trails(
     ensures { result ≡ range_check_with_trails range limit low high }
 {
     check_range(range)?;
-    let room = limit as usize * 48;
+    let room = limit as usize * STEP_BYTES;
     if low < room || high < room {
         return Err(Refusal::TrailTooShort);
     }
@@ -77,7 +78,8 @@ pub fn solve_range_with_trails(
     Ok(Ends { low, high })
 }
 
-// The same without trails.
+// The same without trails. One function over a recorder would be no shorter than these two of four lines,
+// and would need a definition over both.
 pub fn solve_range(set: RuleSet, range: QuoteRange, limit: u32) -> Result<Ends, Refusal>
     ensures { result ≡ solve_range set range limit }
 {

@@ -25,6 +25,7 @@ use prices::rational_cubic::{
     Side, convex_rational_cubic_control_parameter, rational_cubic_interpolation,
 };
 use prices::refusal::Refusal;
+use std::f64::consts::PI;
 
 const SQRT_DBL_MAX: f64 = 1.3407807929942596e154;
 
@@ -35,8 +36,6 @@ const TWO_PI_OVER_SQRT_TWENTY_SEVEN: f64 = 1.2091995761561452;
 const SQRT_PI_OVER_TWO: f64 = 1.2533141373155003;
 
 const SQRT_ONE_OVER_THREE: f64 = 0.5773502691896257;
-
-const PI: f64 = 3.141592653589793;
 
 const PI_OVER_SIX: f64 = PI / 6.0;
 

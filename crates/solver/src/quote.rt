@@ -11,7 +11,7 @@ pub struct Quote {
     pub option_type: OptionType,
 }
 
-// An option at a low and at a high price.
+// An option at a low and at a high price. Both structs name their fields as the documents' arguments.
 #[derive(Clone, Copy)]
 pub struct QuoteRange {
     pub low: f64,

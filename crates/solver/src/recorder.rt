@@ -6,7 +6,7 @@ ghost use Rattle.std.proofs.Common.{arith, refl};
 ghost use Rattle.std.proofs.lemmas.Bool.{le-ltb, ltb-false};
 
 use crate::state::Record;
-use crate::trail::put_record;
+use crate::trail::{STEP_BYTES, put_record};
 
 pub(crate) trait Recorder {
     // Whether it has no room for so many records.
@@ -45,11 +45,11 @@ impl Recorder for LentTrail<'_> {
     ghost fewer = { λ t m n h e. le-ltb (length t.bytes.now) (48 * m) (omega (arith, ltb-false (length t.bytes.now) (48 * n) e)) };
 
     fn is_too_short(&self, limit: u32) -> bool {
-        self.bytes.len() < limit as usize * 48
+        self.bytes.len() < limit as usize * STEP_BYTES
     }
 
     fn put(&mut self, steps: u32, r: Record) {
-        put_record(&mut self.bytes[steps as usize * 48..], r);
+        put_record(&mut self.bytes[steps as usize * STEP_BYTES..], r);
     }
 }
 

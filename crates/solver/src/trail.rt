@@ -5,6 +5,9 @@ ghost use Rattle.solver.specs.Trail.{record_bytes};
 use crate::little_endian::put_float;
 use crate::state::Record;
 
+// A record's bytes in the trail.
+pub(crate) const STEP_BYTES: usize = 48;
+
 pub(crate) fn put_record(out: &mut [u8], r: Record)
     requires { 48 ≤ length out.old }
     ensures { out.new ≡ record_bytes r ++ drop 48 out.old }
