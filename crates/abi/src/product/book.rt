@@ -22,16 +22,8 @@ fn export_filing(answer: Result<u64, Failure>, outcome: &mut u64) -> u64
     ensures value { result ≡ filing_used answer }
     ensures outcome_after { outcome.new ≡ filing_outcome answer }
 {
-    match answer {
-        Ok(used) => {
-            *outcome = 0;
-            used
-        }
-        Err(failure) => {
-            *outcome = outcome_of_failure(failure);
-            0
-        }
-    }
+    *outcome = answer.err().map_or(0, outcome_of_failure);
+    answer.unwrap_or(0)
 }
 
 fn file_for(
@@ -71,16 +63,8 @@ fn export_checking(answer: Result<bool, Failure>, outcome: &mut u64) -> u8
     ensures value { result ≡ agrees_byte answer }
     ensures outcome_after { outcome.new ≡ checking_outcome answer }
 {
-    match answer {
-        Ok(agrees) => {
-            *outcome = 0;
-            agrees as u8
-        }
-        Err(failure) => {
-            *outcome = outcome_of_failure(failure);
-            0
-        }
-    }
+    *outcome = answer.err().map_or(0, outcome_of_failure);
+    answer.unwrap_or(false) as u8
 }
 
 #[unsafe(no_mangle)]

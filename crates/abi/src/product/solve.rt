@@ -8,6 +8,7 @@ ghost use Rattle.solver.specs.Solve.{steps_of};
 ghost use Rattle.solver.specs.Trail.{trail_after};
 ghost use Rattle.abi.specs.Solutions.{outcome_from, outcome_of, asked_by, solve_with_trail_for, solve_for, target_for};
 
+use crate::export::export_answer;
 use elementary::methods::{bits_of, float_of};
 use elementary::rule_set::RULE_SET_0;
 use prices::inputs::{OptionType, UnknownKind};
@@ -143,16 +144,7 @@ fn export_target(answer: Result<Option<f64>, Refusal>, number: &mut u8) -> u64
     ensures value { result ≡ to_bits binary64 (target_value answer) }
     ensures number_after { number.new ≡ target_number answer }
 {
-    match answer {
-        Ok(target) => {
-            *number = 0;
-            bits_of(target.unwrap_or(f64::NAN))
-        }
-        Err(refusal) => {
-            *number = refusal.number();
-            bits_of(f64::NAN)
-        }
-    }
+    export_answer(answer.map(|target| target.unwrap_or(f64::NAN)), number)
 }
 
 fn target_for(asked: Result<Quote, UnknownKind>) -> Result<Option<f64>, Refusal>
