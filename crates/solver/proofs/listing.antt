@@ -1,2 +1,3 @@
 -- Laws that the proofs of listing use.
 mod Digits
+mod Puts

@@ -2,3 +2,4 @@
 pub mod Start
 pub mod Branch
 pub mod Place
+pub mod Text
