@@ -1,3 +1,2 @@
 -- Laws that the proofs of listing use.
 mod Digits
-mod Puts

@@ -2,4 +2,3 @@
 pub mod Start
 pub mod Branch
 pub mod Place
-pub mod Text

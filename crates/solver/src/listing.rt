@@ -1,6 +1,6 @@
 // A line of relist, byte by byte.
 ghost use Rattle.std.specs.Prelude.{◌≡◌, [], ◌∷◌, ◌+◌, ◌≤◌, length};
-ghost use Rattle.solver.specs.Inside.Text.{put};
+ghost use Rattle.solver.specs.LittleEndian.{overwritten};
 ghost use Rattle.solver.specs.Listing.{decimal_by, hex_digit, hex_by, space_and_count, answer_bytes, answer_at, line_in};
 
 use crate::answers::ImpliedVolatility;
@@ -13,87 +13,44 @@ use prices::refusal::Numbered;
 // The bytes that any line fits in.
 const LINE_BYTES: usize = 128;
 
-// A buffer that is written from its start on: `end` is the place of the next byte.
-#[derive(Drop)]
-struct Text<'a> {
-    out: &'a mut [u8],
-    end: usize,
+// A byte at `at`, and the place after it.
+// Methods of a struct with both were proved, and 2 to 3 ns a line slower, as each byte loads and stores the place.
+fn put_byte(out: &mut [u8], at: usize, byte: u8) -> usize
+    requires { at + 1 ≤ length out.old }
+    ensures value { result ≡ at + 1 }
+    ensures out_after { out.new ≡ overwritten at (byte ∷ []) out.old }
+{
+    out[at] = byte;
+    at + 1
 }
 
-impl Text<'_> {
-    fn put_byte(&mut self, byte: u8)
-        requires { self.old.end + 1 ≤ length self.old.out.now }
-        ensures { self.new ≡ put (byte ∷ []) self.old }
-    {
-        self.out[self.end] = byte;
-        self.end += 1;
-    }
+// The same for several bytes.
+fn put_text(out: &mut [u8], at: usize, text: &[u8]) -> usize
+    requires { at + length text.now ≤ length out.old }
+    ensures value { result ≡ at + length text.now }
+    ensures out_after { out.new ≡ overwritten at text.now out.old }
+{
+    let end = at + text.len();
+    out[at..end].copy_from_slice(text);
+    end
+}
 
-    fn put_bytes(&mut self, bytes: &[u8])
-        requires { self.old.end + length bytes.now ≤ length self.old.out.now }
-        ensures { self.new ≡ put bytes.now self.old }
-    {
-        let end = self.end + bytes.len();
-        self.out[self.end..end].copy_from_slice(bytes);
-        self.end = end;
+// A number of at most `digits` digits in decimal, and the place after it.
+// By hand, as put_hex: std's printing says what it writes only where it answers Ok, never that it does; itoa would be a
+// dependency of the layer for one function, and writes no hexadecimal.
+fn put_decimal(out: &mut [u8], at: usize, digits: usize, n: u64) -> usize
+    requires { at + digits ≤ length out.old }
+    ensures value { result ≡ at + length (decimal_by digits n) }
+    ensures out_after { out.new ≡ overwritten at (decimal_by digits n) out.old }
+{
+    if digits == 0 {
+        return at;
     }
-
-    // A number of at most `digits` digits. By hand, as put_hex: std's printing says what it writes only where it answers
-    // Ok, never that it does; itoa would be a dependency of the layer for one function, and writes no hexadecimal.
-    fn put_decimal(&mut self, digits: usize, n: u64)
-        requires { self.old.end + digits ≤ length self.old.out.now }
-        ensures { self.new ≡ put (decimal_by digits n) self.old }
-    {
-        if digits == 0 {
-            return;
-        }
-        if n < 10 {
-            self.put_byte(b'0' + n as u8);
-            return;
-        }
-        self.put_decimal(digits - 1, n / 10);
-        self.put_byte(b'0' + (n % 10) as u8);
+    if n < 10 {
+        return put_byte(out, at, b'0' + n as u8);
     }
-
-    // The last `digits` hexadecimal digits of a number.
-    fn put_hex(&mut self, digits: usize, n: u64)
-        requires { self.old.end + digits ≤ length self.old.out.now }
-        ensures { self.new ≡ put (hex_by digits n) self.old }
-    {
-        if digits == 0 {
-            return;
-        }
-        self.put_hex(digits - 1, n / 16);
-        self.put_byte(hex_digit((n % 16) as u8));
-    }
-
-    fn put_space_and_count(&mut self, n: u64)
-        requires { self.old.end + 21 ≤ length self.old.out.now }
-        ensures { self.new ≡ put (space_and_count n) self.old }
-    {
-        self.put_byte(b' ');
-        self.put_decimal(20, n);
-    }
-
-    // What follows the record number, but for the line feed.
-    fn put_answer(&mut self, answer: Result<ImpliedVolatility, Failure>)
-        requires { self.old.end + 80 ≤ length self.old.out.now }
-        ensures { self.new ≡ put (answer_bytes answer) self.old }
-    {
-        match answer {
-            Ok(a) => {
-                self.put_byte(b' ');
-                self.put_hex(16, bits_of(a.volatility));
-                self.put_space_and_count(a.steps as u64);
-                self.put_space_and_count(a.branch.number() as u64);
-                self.put_space_and_count(a.ending.number() as u64);
-            }
-            Err(failure) => {
-                self.put_bytes(b" REF");
-                self.put_space_and_count(failure.refusal.number() as u64);
-            }
-        }
-    }
+    let end = put_decimal(out, at, digits - 1, n / 10);
+    put_byte(out, end, b'0' + (n % 10) as u8)
 }
 
 fn hex_digit(d: u8) -> u8
@@ -101,6 +58,50 @@ fn hex_digit(d: u8) -> u8
     ensures { result ≡ hex_digit d }
 {
     if d < 10 { b'0' + d } else { b'A' + (d - 10) }
+}
+
+// The last `digits` hexadecimal digits of a number, and the place after them.
+fn put_hex(out: &mut [u8], at: usize, digits: usize, n: u64) -> usize
+    requires { at + digits ≤ length out.old }
+    ensures value { result ≡ at + length (hex_by digits n) }
+    ensures out_after { out.new ≡ overwritten at (hex_by digits n) out.old }
+{
+    if digits == 0 {
+        return at;
+    }
+    let end = put_hex(out, at, digits - 1, n / 16);
+    put_byte(out, end, hex_digit((n % 16) as u8))
+}
+
+// A space and a decimal count.
+fn put_space_and_count(out: &mut [u8], at: usize, n: u64) -> usize
+    requires { at + 21 ≤ length out.old }
+    ensures value { result ≡ at + length (space_and_count n) }
+    ensures out_after { out.new ≡ overwritten at (space_and_count n) out.old }
+{
+    let end = put_byte(out, at, b' ');
+    put_decimal(out, end, 20, n)
+}
+
+// What follows the record number, but for the line feed.
+fn put_answer(out: &mut [u8], at: usize, answer: Result<ImpliedVolatility, Failure>) -> usize
+    requires { at + 80 ≤ length out.old }
+    ensures value { result ≡ at + length (answer_bytes answer) }
+    ensures out_after { out.new ≡ overwritten at (answer_bytes answer) out.old }
+{
+    match answer {
+        Ok(a) => {
+            let end = put_byte(out, at, b' ');
+            let end = put_hex(out, end, 16, bits_of(a.volatility));
+            let end = put_space_and_count(out, end, a.steps as u64);
+            let end = put_space_and_count(out, end, a.branch.number() as u64);
+            put_space_and_count(out, end, a.ending.number() as u64)
+        }
+        Err(failure) => {
+            let end = put_text(out, at, b" REF");
+            put_space_and_count(out, end, failure.refusal.number() as u64)
+        }
+    }
 }
 
 // What the record answers; a part under 64 bytes 23.
@@ -122,9 +123,7 @@ pub fn line(set: RuleSet, index: u64, bytes: &[u8], out: &mut [u8]) -> usize
     if out.len() < LINE_BYTES {
         return 0;
     }
-    let mut text = Text { out, end: 0 };
-    text.put_decimal(20, index);
-    text.put_answer(answer_of(set, bytes));
-    text.put_byte(b'\n');
-    text.end
+    let end = put_decimal(out, 0, 20, index);
+    let end = put_answer(out, end, answer_of(set, bytes));
+    put_byte(out, end, b'\n')
 }

@@ -1,5 +1,0 @@
--- `listing::Text::put_decimal` calls itself with a digit less, so its measure is their count.
-use Rattle.solver.proofs.listing.Text.+put_decimal.Given as goal
-
-abbrev pub decreases-put_decimal : goal.decreases-put_decimal
-decreases-put_decimal l = l.digits
