@@ -14,6 +14,7 @@ use prices::refusal::Numbered;
 const LINE_BYTES: usize = 128;
 
 // A byte at `at`, and the place after it.
+// Methods of a struct with both were proved, and 2 to 3 ns a line slower, as each byte loads and stores the place.
 fn put_byte(out: &mut [u8], at: usize, byte: u8) -> usize
     requires { at + 1 ≤ length out.old }
     ensures value { result ≡ at + 1 }
@@ -35,7 +36,8 @@ fn put_text(out: &mut [u8], at: usize, text: &[u8]) -> usize
 }
 
 // A number of at most `digits` digits in decimal, and the place after it.
-// By hand, as put_hex: std's printing says what it writes only where it answers Ok, never that it does.
+// By hand, as put_hex: std's printing says what it writes only where it answers Ok, never that it does; itoa would be a
+// dependency of the layer for one function, and writes no hexadecimal.
 fn put_decimal(out: &mut [u8], at: usize, digits: usize, n: u64) -> usize
     requires { at + digits ≤ length out.old }
     ensures value { result ≡ at + length (decimal_by digits n) }
