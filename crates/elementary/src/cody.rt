@@ -194,7 +194,8 @@ pub(crate) fn on_side(x: f64, right: f64) -> f64
     if x < 0.0 { 2.0 - right } else { right }
 }
 
-// erfc of x, whose size is y. The exponential factor is asked for above the threshold alone.
+// erfc of x, whose size is y: who asks for it with a factor of its own has the size too. The factor is asked for above
+// the threshold alone.
 pub(crate) fn erfc_with_factor<F: FnOnce(f64) -> f64>(
     set: RuleSet,
     x: f64,

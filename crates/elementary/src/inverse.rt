@@ -38,6 +38,7 @@ struct Bracket {
     ends: Ends,
     cdf_lo: f64,
     cdf_hi: f64,
+    // How many are done.
     steps: u64,
     ghost after_steps: { AfterSteps question.set question.p ends.lo ends.hi steps },
 }

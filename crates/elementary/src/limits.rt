@@ -1,4 +1,4 @@
-// f64's limits, by the names that the Rust's source reads them under.
+// f64's limits: the public names of this layer, which are std's numbers.
 pub const MAX: f64 = f64::MAX;
 
 pub const MIN: f64 = f64::MIN;

@@ -54,6 +54,7 @@ struct Argument {
 }
 
 impl Argument {
+    // What the ghost fields say is asked once here, so that the three closures that make one prove nothing.
     fn new(w: f64, y: f64, factor: f64) -> Argument
         requires y_is { y ≡ abs_of w }
         requires factor_is { factor ≡ smoothened_exponential_of_negative_square y }
@@ -133,6 +134,7 @@ fn close_cdfs(set: RuleSet, w: Eight, y: Eight, near: Sixteenth) -> Eight
     w.zip3(y, f, |w, y, factor| Argument::new(w, y, factor).cdf(set))
 }
 
+// Of sizes in no one sixteenth. `cdfs` has them from its test, and hands them in.
 fn outer_cdfs(set: RuleSet, w: Eight, y: Eight) -> Eight
     requires { Each abs_of w y }
     ensures { Each (half_erfc set) w result }

@@ -1,6 +1,7 @@
 // The rounding leaf: the one place that packs a float from whole numbers, and the one that takes a
 // float apart into them. An exponent e counts from 2^−2404, which is below the product of any two
-// floats, so that none is negative.
+// floats, so that none is negative. A number without digits is tested by == 0, as the format says it: a method would
+// say no more.
 ghost use Rattle.std.specs.Prelude.{◌≡◌, ◌+◌, ◌-◌, ◌*◌, ◌/◌, ◌%◌, ◌^◌, ◌<◌, ◌≤◌, false, T};
 ghost use Prim.Native.Nat.{compare};
 ghost use Rattle.std.specs.Float.Ieee.{nearest};

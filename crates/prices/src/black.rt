@@ -241,7 +241,7 @@ pub fn is_positive_normal(x: f64) -> bool
     x >= MIN_POSITIVE && x <= MAX
 }
 
-// Not so for document 01's 1 and 5.
+// Not so for document 01's 1 and 5. By comparisons too: std's is_finite is another text of the same.
 pub fn is_finite(x: f64) -> bool
     ensures { result ≡ is_finite x }
 {

@@ -130,6 +130,7 @@ impl Steps for ByErrors {
         certain_sum(s, t + product_error(a, b), range_doubt(a) | range_doubt(b))
     }
 
+    // With the tail that it has in common with fma as one function the price took 3 to 4 % longer.
     fn fma_ordered(self, a: f64, b: f64, c: f64) -> Fused {
         let p = a * b;
         let s = p + c;

@@ -26,7 +26,7 @@ impl Numbered for Branch {
     }
 }
 
-// How the loop ended, if there was one: by its step test or by its limit.
+// How the loop ended, if there was one: by its step test or by its limit. None is a case here too, as of `Branch`.
 #[derive(Clone, Copy, Debug, PartialEq, Eq)]
 pub enum Ending {
     NoLoop = 0,

@@ -99,7 +99,8 @@ fn agrees(r: &[u8; RECORD_BYTES], a: ImpliedVolatility) -> bool
 
 // ---- the book: lent bytes, and beside them the count of the records in use, as in document 01 and in C
 
-// Solves, files the solution in slot `used` and answers used + 1. A refusal leaves the book as it was.
+// Solves, files the solution in slot `used` and answers used + 1. A refusal leaves the book as it was. That the slot
+// is a whole one, `file` has tested, and nobody else asks.
 fn file_in_slot(
     set: RuleSet,
     quote: Quote,

@@ -4,7 +4,8 @@ ghost use Rattle.solver.specs.LittleEndian.{bytes_of, float_bytes, overwritten, 
 
 use elementary::methods::{bits_of, float_of};
 
-// A number's lowest bytes from byte `at` on, the lowest first: of any width, where std's are of eight.
+// A number's lowest bytes from byte `at` on, the lowest first. Not by std's eight: any width may be asked for, and
+// what lies beyond eight bytes is 0.
 pub fn put_number_at(out: &mut [u8], at: usize, width: usize, n: u64)
     requires { at + width ≤ length out.old }
     ensures { out.new ≡ overwritten at (bytes_of width n) out.old }

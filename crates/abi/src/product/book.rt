@@ -75,7 +75,7 @@ pub extern "C" fn gintubalos_recheck(book: &[u8], used: u64, k: u64, outcome: &m
     export_checking(recheck(RULE_SET_0, book, used, k), outcome)
 }
 
-// The byte at which record k's own part begins, and 0 in `number`; or 0, and 23 there.
+// The byte at which record k's own part begins, and 0 in `number`; or 0, and 23 there: C has no Result.
 #[unsafe(no_mangle)]
 pub extern "C" fn gintubalos_read(book: &[u8], used: u64, k: u64, number: &mut u8) -> u64
     ensures value { result ≡ place_of (read_of book.now used k) k }
