@@ -57,9 +57,8 @@ pub(crate) enum Function {
     BidAsk,
 }
 
-// Those that are counted: all but `BidAsk`. By hand, as the names below: a macro that wrote them would be the
-// repository's own, which the gate refuses.
-pub(crate) const ALL: [Function; 41] = [
+// By hand, as the names below: a macro that wrote them would be the repository's own, which the gate refuses.
+pub(crate) const ALL: [Function; 42] = [
     Function::ErfcAsPublished,
     Function::BitsOf,
     Function::Abs,
@@ -101,6 +100,7 @@ pub(crate) const ALL: [Function; 41] = [
     Function::File,
     Function::Recheck,
     Function::Read,
+    Function::BidAsk,
 ];
 
 impl Function {
