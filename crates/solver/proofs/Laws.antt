@@ -8,7 +8,6 @@ pub mod Forms
 pub mod Loops
 pub mod Place
 pub mod LoopInvariant
-pub mod Checks
 pub mod BySet
 pub mod SolveCases
 pub mod Ranges

@@ -1,4 +1,4 @@
--- What the bid and ask call is once its checks are looked at: a refusal, or both ends; and what passed checks say of each end. Assumes nothing.
+-- What passed checks of the bid and ask call say of each end. Assumes nothing.
 use mathlib.Core.Path.{◌≡◌, refl}
 use mathlib.Core.Bool.{Bool, true, false, cond}
 use mathlib.Core.List.{List}
@@ -10,42 +10,10 @@ use Rattle.elementary.specs.declared.rule_set.RuleSet.{RuleSet}
 use Rattle.solver.specs.declared.quote.QuoteRange.{QuoteRange}
 use Rattle.solver.specs.declared.refusal.Refusal.{Refusal}
 use Rattle.solver.specs.declared.refusal.Refusal.TheVariants.{TrailTooShort}
-use Rattle.solver.specs.Answers.{Solution, RangeSolution, range_number_in}
-use Rattle.solver.specs.Solve.{Check, and_then, by_check, passed_up, price_check, market_check, input_check, SolveResult, solve_of, solve_with_trail}
-use Rattle.solver.specs.Trail.{trail_after}
+use Rattle.solver.specs.Answers.{RangeSolution, range_number_in}
+use Rattle.solver.specs.Solve.{Check, and_then, by_check, passed_up, price_check, market_check, input_check, solve_of, solve_with_trail}
 use Rattle.solver.specs.BidAsk.{RangeResult, quote_at, order_check, range_check, trail_check, range_check_with_trails, solve_range, solve_range_with_trails}
-use Rattle.solver.proofs.Laws.Checks.{both_pass, and_passed}
 use Rattle.solver.proofs.Laws.Loops.{above_0}
-
-module _ (set : RuleSet) (r : QuoteRange) (n : ℕ) where
-  -- an end's answer and the bytes of its trail, by its run
-  abbrev pub EndIs : SolveResult → List ℕ → Solution → List ℕ → Type 0
-  EndIs w old answer trail = (answer ≡ w.answer) × (trail ≡ trail_after w.records old)
-
-  module _ (low high : List ℕ) where
-    -- the answer, and the bytes of both trails
-    abbrev Leaves : RangeSolution → List ℕ → List ℕ → Type 0
-    Leaves answer low' high' =
-        (answer ≡ (solve_range_with_trails set r n low high).answer) × ((low' ≡ (solve_range_with_trails set r n low high).low) × (high' ≡ (solve_range_with_trails set r n low high).high))
-
-    pub refused_with_trails : (k : Refusal) → range_check_with_trails r n (length low) (length high) ≡ Err k → Leaves (Err k) low high
-    unfolding solve_range_with_trails
-    refused_with_trails k e = rw e (refl, (refl, refl))
-
-    pub ends_with_trails : range_check_with_trails r n (length low) (length high) ≡ Ok tt → (a b : Solution) (low' high' : List ℕ)
-        → EndIs (solve_with_trail set (quote_at r r.low) n (length low)) low a low' → EndIs (solve_with_trail set (quote_at r r.high) n (length high)) high b high'
-        → Leaves (Ok (record { low = a; high = b })) low' high'
-    unfolding solve_range_with_trails
-    ends_with_trails e a b low' high' p q = rw (e, p.0, p.1, q.0, q.1) (refl, (refl, refl))
-
-  pub refused : (k : Refusal) → range_check r ≡ Err k → Err k ≡ solve_range set r n
-  unfolding solve_range
-  refused k e = rw e
-
-  pub ends : range_check r ≡ Ok tt → (a b : Solution) → a ≡ (solve_of set (quote_at r r.low) n).answer → b ≡ (solve_of set (quote_at r r.high) n).answer
-      → Ok (record { low = a; high = b }) ≡ solve_range set r n
-  unfolding solve_range
-  ends e a b p q = rw (e, p, q)
 
 -- ---- where a call answers, its checks pass
 
@@ -62,6 +30,11 @@ unfolding solve_range
 passes_without set r n = passes_if (λ (w : RangeSolution). w) (range_check r) _ _ (λ k. refl)
 
 -- ---- what passed checks say of the single calls
+
+-- no check refuses: not the first, and none of the others
+both_pass : (c d : Check) → and_then c d ≡ Ok tt → (c ≡ Ok tt) × (d ≡ Ok tt)
+both_pass (Ok tt) d e = (refl, e)
+both_pass (Err r) d e = cc
 
 pub range_passes : (r : QuoteRange) → range_check r ≡ Ok tt → (input_check (quote_at r r.low) ≡ Ok tt) × (input_check (quote_at r r.high) ≡ Ok tt)
 range_passes r e =
@@ -86,6 +59,11 @@ trails_pass r n low high e =
     (range.0, (long_enough n low trails.0, long_enough n high trails.1))
 
 -- ---- long enough trails change nothing
+
+-- what passes adds nothing
+and_passed : (c : Check) → and_then c (Ok tt) ≡ c
+and_passed (Ok tt) = refl
+and_passed (Err r) = refl
 
 pub check_as_without : (r : QuoteRange) (n low high : ℕ) → ltb low (48 * n) ≡ false → ltb high (48 * n) ≡ false → range_check_with_trails r n low high ≡ range_check r
 check_as_without r n low high a b = rw (a, b) (and_passed (range_check r))
