@@ -1,6 +1,7 @@
 //! The functions on the bits of floats and on bytes, as the archive has them, in the caller's floating-point environment,
 //! which has to be the default one: slices as pointer and length, what an answer has besides its value packed into one word.
-//! A value is NaN where it is refused. A kind is 1 or 2, and refused with 24 where it is neither.
+//! A value is NaN where it is refused. A rule set is 0 or 1, and refused with 32 where it is neither; a kind is 1 or 2, and
+//! then refused with 24 where it is neither.
 //!
 //! ```
 //! use gintubalos::bits;
@@ -10,13 +11,14 @@
 
 mod archive {
     extern "C" {
-        pub fn gintubalos_implied_volatility_from_a_transformed_rational_guess_with_trail(
+        pub fn gintubalos_solve_with_trail(
             price: u64,
             forward: u64,
             strike: u64,
             expiry: u64,
             option_type: u8,
             max_iteration: i32,
+            rule_set: u32,
             trail: *mut u8,
             trail_len: usize,
             outcome: &mut u64,
@@ -27,15 +29,17 @@ mod archive {
             strike: u64,
             expiry: u64,
             option_type: u8,
+            rule_set: u32,
             outcome: &mut u64,
         ) -> u64;
-        pub fn gintubalos_implied_volatility_from_a_transformed_rational_guess_with_limited_iterations(
+        pub fn gintubalos_solve_without_trail(
             price: u64,
             forward: u64,
             strike: u64,
             expiry: u64,
             option_type: u8,
             max_iteration: i32,
+            rule_set: u32,
             outcome: &mut u64,
         ) -> u64;
         pub fn gintubalos_target(
@@ -44,6 +48,7 @@ mod archive {
             strike: u64,
             expiry: u64,
             option_type: u8,
+            rule_set: u32,
             number: &mut u8,
         ) -> u64;
         pub fn gintubalos_bid_ask(
@@ -54,6 +59,7 @@ mod archive {
             expiry: u64,
             option_type: u8,
             limit: i32,
+            rule_set: u32,
             low_trail: *mut u8,
             low_trail_len: usize,
             high_trail: *mut u8,
@@ -71,6 +77,7 @@ mod archive {
             expiry: u64,
             option_type: u8,
             limit: i32,
+            rule_set: u32,
             low_volatility: &mut u64,
             low_outcome: &mut u64,
             high_volatility: &mut u64,
@@ -91,12 +98,20 @@ mod archive {
             expiry: u64,
             option_type: u8,
             limit: i32,
+            rule_set: u32,
             book: *mut u8,
             book_len: usize,
             used: u64,
             outcome: &mut u64,
         ) -> u64;
-        pub fn gintubalos_recheck(book: *const u8, book_len: usize, used: u64, k: u64, outcome: &mut u64) -> u8;
+        pub fn gintubalos_recheck(
+            book: *const u8,
+            book_len: usize,
+            used: u64,
+            k: u64,
+            rule_set: u32,
+            outcome: &mut u64,
+        ) -> u8;
         pub fn gintubalos_read(book: *const u8, book_len: usize, used: u64, k: u64, number: &mut u8) -> u64;
         pub fn gintubalos_line(index: u64, bytes: *const u8, len: usize, out: *mut u8, out_len: usize) -> usize;
     }
@@ -136,24 +151,26 @@ impl From<u64> for Outcome {
 /// The volatility's bits, a NaN's where it is refused, and the outcome's word. The steps' records go to the trail.
 #[allow(clippy::too_many_arguments)]
 #[inline]
-pub fn implied_volatility_from_a_transformed_rational_guess_with_trail(
+pub fn solve_with_trail(
     price: u64,
     forward: u64,
     strike: u64,
     expiry: u64,
     option_type: u8,
     max_iteration: i32,
+    rule_set: u32,
     trail: &mut [u8],
 ) -> (u64, u64) {
     let mut outcome = 0;
     let volatility = unsafe {
-        archive::gintubalos_implied_volatility_from_a_transformed_rational_guess_with_trail(
+        archive::gintubalos_solve_with_trail(
             price,
             forward,
             strike,
             expiry,
             option_type,
             max_iteration,
+            rule_set,
             trail.as_mut_ptr(),
             trail.len(),
             &mut outcome,
@@ -170,6 +187,7 @@ pub fn implied_volatility_from_a_transformed_rational_guess(
     strike: u64,
     expiry: u64,
     option_type: u8,
+    rule_set: u32,
 ) -> (u64, u64) {
     let mut outcome = 0;
     let volatility = unsafe {
@@ -179,6 +197,7 @@ pub fn implied_volatility_from_a_transformed_rational_guess(
             strike,
             expiry,
             option_type,
+            rule_set,
             &mut outcome,
         )
     };
@@ -187,23 +206,25 @@ pub fn implied_volatility_from_a_transformed_rational_guess(
 
 /// The same with any limit and without a trail.
 #[inline]
-pub fn implied_volatility_from_a_transformed_rational_guess_with_limited_iterations(
+pub fn solve_without_trail(
     price: u64,
     forward: u64,
     strike: u64,
     expiry: u64,
     option_type: u8,
     max_iteration: i32,
+    rule_set: u32,
 ) -> (u64, u64) {
     let mut outcome = 0;
     let volatility = unsafe {
-        archive::gintubalos_implied_volatility_from_a_transformed_rational_guess_with_limited_iterations(
+        archive::gintubalos_solve_without_trail(
             price,
             forward,
             strike,
             expiry,
             option_type,
             max_iteration,
+            rule_set,
             &mut outcome,
         )
     };
@@ -213,9 +234,10 @@ pub fn implied_volatility_from_a_transformed_rational_guess_with_limited_iterati
 /// The bits of the price that the loop seeks, and 0; a NaN's and 0 where the answer comes without a loop; a NaN's and the
 /// number where it is refused.
 #[inline]
-pub fn target(price: u64, forward: u64, strike: u64, expiry: u64, option_type: u8) -> (u64, u8) {
+pub fn target(price: u64, forward: u64, strike: u64, expiry: u64, option_type: u8, rule_set: u32) -> (u64, u8) {
     let mut number = 0;
-    let target = unsafe { archive::gintubalos_target(price, forward, strike, expiry, option_type, &mut number) };
+    let target =
+        unsafe { archive::gintubalos_target(price, forward, strike, expiry, option_type, rule_set, &mut number) };
     (target, number)
 }
 
@@ -232,6 +254,7 @@ pub fn bid_ask(
     expiry: u64,
     option_type: u8,
     limit: i32,
+    rule_set: u32,
     low_trail: &mut [u8],
     high_trail: &mut [u8],
 ) -> (u8, [(u64, u64); 2]) {
@@ -246,6 +269,7 @@ pub fn bid_ask(
             expiry,
             option_type,
             limit,
+            rule_set,
             low_trail.as_mut_ptr(),
             low_trail.len(),
             high_trail.as_mut_ptr(),
@@ -269,6 +293,7 @@ pub fn bid_ask_without_trails(
     expiry: u64,
     option_type: u8,
     limit: i32,
+    rule_set: u32,
 ) -> (u8, [(u64, u64); 2]) {
     let mut ends = [(0, 0); 2];
     let [low_end, high_end] = &mut ends;
@@ -281,6 +306,7 @@ pub fn bid_ask_without_trails(
             expiry,
             option_type,
             limit,
+            rule_set,
             &mut low_end.0,
             &mut low_end.1,
             &mut high_end.0,
@@ -308,6 +334,7 @@ pub fn file(
     expiry: u64,
     option_type: u8,
     limit: i32,
+    rule_set: u32,
     book: &mut [u8],
     used: u64,
 ) -> (u64, u64) {
@@ -320,6 +347,7 @@ pub fn file(
             expiry,
             option_type,
             limit,
+            rule_set,
             book.as_mut_ptr(),
             book.len(),
             used,
@@ -331,9 +359,9 @@ pub fn file(
 
 /// 1 where record k agrees with what its input answers now, 0 where it differs or is refused, and the outcome's word.
 #[inline]
-pub fn recheck(book: &[u8], used: u64, k: u64) -> (u8, u64) {
+pub fn recheck(book: &[u8], used: u64, k: u64, rule_set: u32) -> (u8, u64) {
     let mut outcome = 0;
-    let agrees = unsafe { archive::gintubalos_recheck(book.as_ptr(), book.len(), used, k, &mut outcome) };
+    let agrees = unsafe { archive::gintubalos_recheck(book.as_ptr(), book.len(), used, k, rule_set, &mut outcome) };
     (agrees, outcome)
 }
 
