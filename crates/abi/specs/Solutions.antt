@@ -9,9 +9,10 @@ use Rattle.prices.specs.Inputs.{kind_of}
 use Rattle.solver.specs.declared.quote.Quote.{Quote}
 use Rattle.solver.specs.declared.quote.QuoteRange.{QuoteRange}
 use Rattle.solver.specs.declared.refusal.Refusal.{Refusal}
-use Rattle.solver.specs.declared.refusal.Refusal.TheVariants.{OutsideTheLayout}
+use Rattle.solver.specs.declared.refusal.Refusal.TheVariants.{OutsideTheLayout, UnknownRuleSet as UnknownNumber}
 use Rattle.solver.specs.Answers.{at_once, Solution, RangeSolution, Filing, Checking, Target, number_in, branch_in, ending_in, steps_in, filing_number, filing_steps, checking_number, checking_agrees, checking_steps}
-use Rattle.elementary.specs.RuleSets.{rule_set_0}
+use Rattle.elementary.specs.declared.rule_set.RuleSet.{RuleSet}
+use Rattle.elementary.specs.declared.rule_set.UnknownRuleSet.{UnknownRuleSet}
 use Rattle.solver.specs.Solve.{SolveResult, solve_of, solve_with_trail, target_of, quote_of, steps_of}
 use Rattle.solver.specs.BidAsk.{RangeResult, range_of, solve_range, solve_range_with_trails}
 use Rattle.solver.specs.Book.{FileResult, file_of}
@@ -36,7 +37,8 @@ checking_outcome a = outcome_from (checking_number a) 0 0 (checking_steps a)
 abbrev pub agrees_byte : Checking → ℕ
 agrees_byte a = cond (checking_agrees a) 1 0
 
--- ---- a quote from bits and a kind's byte; one that says no kind is refused before all else, with document 01's number for a kind outside the layout
+-- ---- a quote from bits and a kind's byte, under a rule set's number. A number that says no rule set is refused with 32, before all else; then a byte that says
+-- no kind with document 01's number for a kind outside the layout.
 
 -- what a caller asks, or that the byte says no kind
 abbrev pub ask : {A : Type 0} → ℕ → (OptionType → A) → Result A UnknownKind
@@ -47,24 +49,28 @@ abbrev pub asked_by : ℕ → ℕ → ℕ → ℕ → ℕ → Result Quote Unkno
 asked_by price forward strike expiry kind = ask kind (λ k. quote_of (of_bits binary64 price) (of_bits binary64 forward) (of_bits binary64 strike) (of_bits binary64 expiry) k)
 
 -- solve with a trail of so many bytes
-abbrev pub solve_with_trail_for : Result Quote UnknownKind → ℤ → ℕ → SolveResult
-solve_with_trail_for (Ok q) limit bytes = solve_with_trail rule_set_0 q (steps_of limit) bytes
-solve_with_trail_for (Err unknown) limit bytes = record { records = []; answer = Err (at_once OutsideTheLayout) }
+abbrev pub solve_with_trail_for : Result RuleSet UnknownRuleSet → Result Quote UnknownKind → ℤ → ℕ → SolveResult
+solve_with_trail_for (Ok set) (Ok q) limit bytes = solve_with_trail set q (steps_of limit) bytes
+solve_with_trail_for (Ok set) (Err unknown) limit bytes = record { records = []; answer = Err (at_once OutsideTheLayout) }
+solve_with_trail_for (Err unknown) asked limit bytes = record { records = []; answer = Err (at_once UnknownNumber) }
 
 -- solve without a trail, for so many steps
-abbrev pub solve_for : Result Quote UnknownKind → ℕ → Solution
-solve_for (Ok q) n = (solve_of rule_set_0 q n).answer
-solve_for (Err unknown) n = Err (at_once OutsideTheLayout)
+abbrev pub solve_for : Result RuleSet UnknownRuleSet → Result Quote UnknownKind → ℕ → Solution
+solve_for (Ok set) (Ok q) n = (solve_of set q n).answer
+solve_for (Ok set) (Err unknown) n = Err (at_once OutsideTheLayout)
+solve_for (Err unknown) asked n = Err (at_once UnknownNumber)
 
 -- the target of its loop
-abbrev pub target_for : Result Quote UnknownKind → Target
-target_for (Ok q) = target_of rule_set_0 q
-target_for (Err unknown) = Err OutsideTheLayout
+abbrev pub target_for : Result RuleSet UnknownRuleSet → Result Quote UnknownKind → Target
+target_for (Ok set) (Ok q) = target_of set q
+target_for (Ok set) (Err unknown) = Err OutsideTheLayout
+target_for (Err unknown) asked = Err UnknownNumber
 
 -- file, into slot `used` of the book
-abbrev pub file_for : Result Quote UnknownKind → ℤ → List ℕ → ℕ → FileResult
-file_for (Ok q) limit book used = file_of q limit book used rule_set_0
-file_for (Err unknown) limit book used = record { answer = Err (at_once OutsideTheLayout); book = book }
+abbrev pub file_for : Result RuleSet UnknownRuleSet → Result Quote UnknownKind → ℤ → List ℕ → ℕ → FileResult
+file_for (Ok set) (Ok q) limit book used = file_of q limit book used set
+file_for (Ok set) (Err unknown) limit book used = record { answer = Err (at_once OutsideTheLayout); book = book }
+file_for (Err unknown) asked limit book used = record { answer = Err (at_once UnknownNumber); book = book }
 
 -- ---- a low and a high price, likewise
 
@@ -74,14 +80,16 @@ asked_range_by low high forward strike expiry kind =
     ask kind (λ k. range_of (of_bits binary64 low) (of_bits binary64 high) (of_bits binary64 forward) (of_bits binary64 strike) (of_bits binary64 expiry) k)
 
 -- both ends with trails of these bytes
-abbrev pub solve_range_with_trails_for : Result QuoteRange UnknownKind → ℤ → List ℕ → List ℕ → RangeResult
-solve_range_with_trails_for (Ok r) limit low high = solve_range_with_trails rule_set_0 r (steps_of limit) low high
-solve_range_with_trails_for (Err unknown) limit low high = record { answer = Err OutsideTheLayout; low = low; high = high }
+abbrev pub solve_range_with_trails_for : Result RuleSet UnknownRuleSet → Result QuoteRange UnknownKind → ℤ → List ℕ → List ℕ → RangeResult
+solve_range_with_trails_for (Ok set) (Ok r) limit low high = solve_range_with_trails set r (steps_of limit) low high
+solve_range_with_trails_for (Ok set) (Err unknown) limit low high = record { answer = Err OutsideTheLayout; low = low; high = high }
+solve_range_with_trails_for (Err unknown) asked limit low high = record { answer = Err UnknownNumber; low = low; high = high }
 
 -- without trails
-abbrev pub solve_range_for : Result QuoteRange UnknownKind → ℤ → RangeSolution
-solve_range_for (Ok r) limit = solve_range rule_set_0 r (steps_of limit)
-solve_range_for (Err unknown) limit = Err OutsideTheLayout
+abbrev pub solve_range_for : Result RuleSet UnknownRuleSet → Result QuoteRange UnknownKind → ℤ → RangeSolution
+solve_range_for (Ok set) (Ok r) limit = solve_range set r (steps_of limit)
+solve_range_for (Ok set) (Err unknown) limit = Err OutsideTheLayout
+solve_range_for (Err unknown) asked limit = Err UnknownNumber
 
 -- ---- read
 

@@ -29,5 +29,6 @@ pub mod FmaOne
 pub mod Halving
 pub mod Finite
 pub mod Inverse
+pub mod Caps
 -- Eight numbers side by side.
 pub mod Eight

@@ -6,3 +6,4 @@ pub mod Refusals
 pub mod Regions
 pub mod Exponentials
 pub mod Recursion
+pub mod Caps

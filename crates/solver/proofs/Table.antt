@@ -14,7 +14,7 @@ use Rattle.solver.specs.declared.answers.Branch.TheVariants.{NoLoop}
 use Rattle.solver.specs.declared.answers.Ending.TheVariants.{NoLoop as Unlooped}
 use Rattle.solver.specs.Answers.{Solution}
 use Rattle.solver.specs.Guess.{normalised_start, mapped_start}
-use Rattle.solver.specs.Book.{book_record_bytes, solve_record}
+use Rattle.solver.specs.Book.{book_record_bytes, filed_quote, solve_record}
 use Rattle.solver.specs.Listing.{decimal_by, hex_by, answer_at, line_of}
 use Rattle.solver.specs.Solve.{accepted_start, market_check, start_of, solution_of, result_from, solve_of, solve_with_trail}
 use Rattle.solver.specs.Table.{Gives, Table}
@@ -23,7 +23,7 @@ gives : (a : Solution) (v : Float) → a ≡ solution_of v NoLoop Unlooped 0 →
 gives a v e = rw e (record { number = refl; value = refl; branch = refl; ending = refl; steps = refl })
 
 pub rows : Table
-unfolding line_of answer_at solve_record book_record_bytes decimal_by hex_by to_bits solve_of solve_with_trail result_from start_of market_check accepted_start normalised_start mapped_start erfc_of erfcx_of interpolation_of asymptotic_of sqrt_of round_root isqrt root_by in_units ln_of ln_inner ln_at ln_sum place_of significand_of exp_of exp_inner exp_sum scaled floor_of max_of abs_of add sub mul div neg of_bits of_int to_signed round units size lt le eq ne
+unfolding line_of answer_at solve_record filed_quote book_record_bytes decimal_by hex_by to_bits solve_of solve_with_trail result_from start_of market_check accepted_start normalised_start mapped_start erfc_of erfcx_of interpolation_of asymptotic_of sqrt_of round_root isqrt root_by in_units ln_of ln_inner ln_at ln_sum place_of significand_of exp_of exp_inner exp_sum scaled floor_of max_of abs_of add sub mul div neg of_bits of_int to_signed round units size lt le eq ne
 rows = record {
   P1 = gives _ _ refl;
   P2 = gives _ _ refl;

@@ -3,7 +3,7 @@ use Rattle.std.specs.Prelude.{Bool, false, ℕ, Float, Result, Ok, Err, Option, 
 use Rattle.std.specs.Float.{nan}
 use Rattle.prices.specs.Answers.{number as pricing_number, number_by}
 use Rattle.solver.specs.declared.refusal.Refusal.{Refusal}
-use Rattle.solver.specs.declared.refusal.Refusal.TheVariants.{Price, Pricing, TrailTooShort, BookFull, NoSuchRecord, OutsideTheLayout, LowAboveHigh}
+use Rattle.solver.specs.declared.refusal.Refusal.TheVariants.{Price, Pricing, TrailTooShort, BookFull, NoSuchRecord, OutsideTheLayout, LowAboveHigh, UnknownRuleSet}
 use Rattle.solver.specs.declared.refusal.Failure.{Failure}
 use Rattle.solver.specs.declared.answers.Branch.{Branch}
 use Rattle.solver.specs.declared.answers.Branch.TheVariants.{NoLoop, Lower, LowerMiddle, UpperMiddle, Upper, UpperRest}
@@ -21,6 +21,7 @@ number BookFull = 22
 number NoSuchRecord = 23
 number OutsideTheLayout = 24
 number LowAboveHigh = 31
+number UnknownRuleSet = 32
 
 -- a branch's
 abbrev pub branch_number : Branch → ℕ

@@ -5,10 +5,13 @@ use Rattle.prices.specs.declared.inputs.UnknownKind.{UnknownKind}
 use Rattle.prices.specs.Inputs.{kind_byte, kind_of}
 use Rattle.solver.specs.declared.quote.Quote.{Quote}
 use Rattle.solver.specs.declared.refusal.Refusal.{Refusal}
-use Rattle.solver.specs.declared.refusal.Refusal.TheVariants.{BookFull, NoSuchRecord, OutsideTheLayout}
+use Rattle.solver.specs.declared.refusal.Refusal.TheVariants.{BookFull, NoSuchRecord, OutsideTheLayout, UnknownRuleSet as UnknownNumber}
 use Rattle.solver.specs.declared.answers.ImpliedVolatility.{ImpliedVolatility}
+use Rattle.solver.specs.declared.refusal.Failure.{Failure}
 use Rattle.solver.specs.Answers.{branch_number, ending_number, at_once, Solution, Filing, Checking}
 use Rattle.elementary.specs.declared.rule_set.RuleSet.{RuleSet}
+use Rattle.elementary.specs.declared.rule_set.UnknownRuleSet.{UnknownRuleSet}
+use Rattle.elementary.specs.RuleSets.{rule_set_of}
 use Rattle.solver.specs.Solve.{by_check, input_check, solve_of, quote_of, steps_of}
 use Rattle.solver.specs.LittleEndian.{bytes_of, float_bytes, part, number_at, float_at, overwritten}
 
@@ -42,6 +45,10 @@ abbrev pub by_kind : {A : Type 0} → Result OptionType UnknownKind → (OptionT
 by_kind (Ok kind) answer none = answer kind
 by_kind (Err unknown) answer none = none
 
+-- of the limit that a record was filed with
+abbrev pub filed_steps : List ℕ → ℕ
+filed_steps r = steps_from (number_at 40 4 r)
+
 -- every byte is 0
 abbrev pub all_zero : List ℕ → Bool
 all_zero [] = true
@@ -55,11 +62,18 @@ in_layout r = leb (get_or r 49 0) 5 && leb (get_or r 50 0) 2 && all_zero (part 5
 abbrev pub quote_in : List ℕ → OptionType → Quote
 quote_in r kind = quote_of (float_at 0 r) (float_at 8 r) (float_at 16 r) (float_at 24 r) kind
 
--- the answer of a record's own input and limit: 24, then solve's own numbers. Byte 48 is its kind.
+-- the quote that a record was filed for, or 24; byte 48 is its kind
+unfoldable pub filed_quote : List ℕ → Result Quote Refusal
+filed_quote r = by_kind (kind_of (get_or r 48 0)) (λ kind. cond (in_layout r) (Ok (quote_in r kind)) (Err OutsideTheLayout)) (Err OutsideTheLayout)
+
+-- what is answered of that quote; a refusal passes up
+abbrev pub with_quote : {A : Type 0} → Result Quote Refusal → (Quote → Result A Failure) → Result A Failure
+with_quote (Ok q) answer = answer q
+with_quote (Err refusal) answer = Err (at_once refusal)
+
+-- the answer of a record's own input and limit: 24, then solve's own numbers
 unfoldable pub solve_record : RuleSet → List ℕ → Solution
-solve_record set r =
-    let again : OptionType → Solution = λ kind. (solve_of set (quote_in r kind) (steps_from (number_at 40 4 r))).answer in
-    by_kind (kind_of (get_or r 48 0)) (λ kind. cond (in_layout r) (again kind) (Err (at_once OutsideTheLayout))) (Err (at_once OutsideTheLayout))
+solve_record set r = with_quote (filed_quote r) (λ q. (solve_of set q (filed_steps r)).answer)
 
 -- byte for byte
 abbrev pub same_bytes : List ℕ → List ℕ → Bool
@@ -76,6 +90,15 @@ agrees r a = same_bytes (part 32 8 r) (float_bytes a.volatility) && same_bytes (
 abbrev pub checking_of : List ℕ → Solution → Checking
 checking_of r (Ok a) = Ok (agrees r a)
 checking_of r (Err failure) = Err failure
+
+-- what is answered under a rule set, or 32
+abbrev pub with_rules : {A : Type 0} → Result RuleSet UnknownRuleSet → (RuleSet → Result A Failure) → Result A Failure
+with_rules (Ok set) answer = answer set
+with_rules (Err unknown) answer = Err (at_once UnknownNumber)
+
+-- what recheck says of a record under the rule set of a number: 24, 32, 1 to 4, then 6 or 7
+unfoldable pub check_record : ℕ → List ℕ → Checking
+check_record number r = with_quote (filed_quote r) (λ q. with_rules (rule_set_of number) (λ set. checking_of r (solve_of set q (filed_steps r)).answer))
 
 -- ---- the book
 
@@ -95,12 +118,9 @@ record_at k book = part (64 * k) 64 book
 unfoldable pub read_of : List ℕ → ℕ → ℕ → Result (List ℕ) Refusal
 read_of book used k = cond (record_exists book used k) (Ok (record_at k book)) (Err NoSuchRecord)
 
--- recheck: 23, 24, 1 to 4, then 6 or 7
-unfoldable pub recheck_of : RuleSet → List ℕ → ℕ → ℕ → Checking
-recheck_of set book used k =
-    let r = record_at k book in
-    let again = checking_of r (solve_record set r) in
-    cond (record_exists book used k) again (Err (at_once NoSuchRecord))
+-- recheck: 23, then what it says of record k
+unfoldable pub recheck_of : ℕ → List ℕ → ℕ → ℕ → Checking
+recheck_of number book used k = let checked = check_record number (record_at k book) in cond (record_exists book used k) checked (Err (at_once NoSuchRecord))
 
 -- file: 1 to 4, 23, 22, then 6 or 7. The record takes slot `used`; a refusal leaves the book as it was.
 pub record FileResult : Type 0 where

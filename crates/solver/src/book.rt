@@ -3,7 +3,7 @@ ghost use Rattle.std.specs.Prelude.{◌≡◌, ◌+◌, ◌*◌, ◌≤◌, leng
 ghost use Rattle.std.specs.Int.{w32, cast_signed};
 ghost use Rattle.solver.specs.Solve.{solve_of, steps_of};
 ghost use Rattle.solver.specs.LittleEndian.{part, number_at};
-ghost use Rattle.solver.specs.Book.{book_record_bytes, quote_in, all_zero, in_layout, record_exists, solve_record, agrees as agrees_of, checking_of, read_of, recheck_of, file_answer, file_of};
+ghost use Rattle.solver.specs.Book.{book_record_bytes, quote_in, all_zero, in_layout, filed_steps, filed_quote, record_exists, solve_record, agrees as agrees_of, check_record, read_of, recheck_of, file_answer, file_of};
 
 use crate::answers::{Branch, Ending, ImpliedVolatility};
 use crate::little_endian::{float_at, number_at, put_float};
@@ -46,6 +46,13 @@ fn limit_in(r: &[u8; RECORD_BYTES]) -> i32
     i32::from_le_bytes([r[40], r[41], r[42], r[43]])
 }
 
+// How many steps it allows.
+fn filed_steps(r: &[u8; RECORD_BYTES]) -> u32
+    ensures { result ≡ filed_steps r.now }
+{
+    steps_of(limit_in(r))
+}
+
 // Whether the spare bytes, 51 to 63, are zero.
 fn is_spare_zero(r: &[u8; RECORD_BYTES]) -> bool
     ensures { result ≡ all_zero (part 51 13 r.now) }
@@ -73,6 +80,17 @@ fn quote_in(r: &[u8; RECORD_BYTES], option_type: OptionType) -> Quote
     }
 }
 
+// What a record was filed for, or 24.
+fn filed_quote(r: &[u8; RECORD_BYTES]) -> Result<Quote, Refusal>
+    ensures { result ≡ filed_quote r.now }
+{
+    let option_type = OptionType::try_from(r[48])?;
+    if !in_layout(r) {
+        return Err(Refusal::OutsideTheLayout);
+    }
+    Ok(quote_in(r, option_type))
+}
+
 // Solves a record again: 24, then what solve refuses.
 pub(crate) fn solve_record(
     set: RuleSet,
@@ -80,11 +98,7 @@ pub(crate) fn solve_record(
 ) -> Result<ImpliedVolatility, Failure>
     ensures { result ≡ solve_record set r.now }
 {
-    let option_type = OptionType::try_from(r[48])?;
-    if !in_layout(r) {
-        return Err(Failure::from(Refusal::OutsideTheLayout));
-    }
-    solve(set, quote_in(r, option_type), steps_of(limit_in(r)))
+    solve(set, filed_quote(r)?, filed_steps(r))
 }
 
 // Whether bytes 32 to 39, 44 to 47, 49 and 50 are this answer's.
@@ -159,11 +173,15 @@ fn record(book: &[u8], used: u64, k: u64) -> Result<&[u8; RECORD_BYTES], Refusal
     Ok(&book.as_chunks::<RECORD_BYTES>().0[k as usize])
 }
 
-// Solves a record again and says whether the answer is the filed one.
-fn check_record(set: RuleSet, r: &[u8; RECORD_BYTES]) -> Result<bool, Failure>
-    ensures { result ≡ checking_of r.now (solve_record set r.now) }
+// Solves a record again, under the rule set of this number, and says whether the answer is the filed one: 24, 32, then
+// what solve refuses.
+fn check_record(rule_set: u32, r: &[u8; RECORD_BYTES]) -> Result<bool, Failure>
+    ensures { result ≡ check_record rule_set r.now }
 {
-    Ok(agrees(r, solve_record(set, r)?))
+    let quote = filed_quote(r)?;
+    let set = RuleSet::try_from(rule_set)?;
+    let a = solve(set, quote, filed_steps(r))?;
+    Ok(agrees(r, a))
 }
 
 // Record k's own part of the book, or 23.
@@ -173,9 +191,10 @@ pub fn read(book: &[u8], used: u64, k: u64) -> Result<&[u8], Refusal>
     Ok(record(book, used, k)?)
 }
 
-// Solves record k again: whether what is filed agrees, or a refusal: 23, 24, of the input, then 6 or 7.
-pub fn recheck(set: RuleSet, book: &[u8], used: u64, k: u64) -> Result<bool, Failure>
-    ensures { result ≡ recheck_of set book.now used k }
+// Solves record k again: whether what is filed agrees, or a refusal: 23, 24, 32, of the input, then 6 or 7. The rule set
+// comes as its number, since 32 is no earlier.
+pub fn recheck(rule_set: u32, book: &[u8], used: u64, k: u64) -> Result<bool, Failure>
+    ensures { result ≡ recheck_of rule_set book.now used k }
 {
-    check_record(set, record(book, used, k)?)
+    check_record(rule_set, record(book, used, k)?)
 }

@@ -1,8 +1,9 @@
 // What this layer refuses, by document 01's numbers and document 02's, and with the completed steps.
 ghost use Rattle.std.specs.Prelude.{◌≡◌};
 ghost use Rattle.solver.specs.Answers.{number as number_of_refusal};
-ghost use Rattle.solver.specs.declared.refusal.Refusal.TheVariants.{Pricing, OutsideTheLayout};
+ghost use Rattle.solver.specs.declared.refusal.Refusal.TheVariants.{Pricing, OutsideTheLayout, UnknownRuleSet};
 
+use elementary::rule_set::UnknownRuleSet;
 use prices::inputs::UnknownKind;
 use prices::refusal::Numbered;
 
@@ -17,6 +18,8 @@ pub enum Refusal {
     NoSuchRecord,
     OutsideTheLayout,
     LowAboveHigh,
+    // No rule set has the number that is given.
+    UnknownRuleSet,
 }
 
 impl Numbered for Refusal {
@@ -31,6 +34,7 @@ impl Numbered for Refusal {
             Refusal::NoSuchRecord => 23,
             Refusal::OutsideTheLayout => 24,
             Refusal::LowAboveHigh => 31,
+            Refusal::UnknownRuleSet => 32,
         }
     }
 }
@@ -52,6 +56,14 @@ impl From<UnknownKind> for Refusal {
     }
 }
 
+impl From<UnknownRuleSet> for Refusal {
+    ghost from_gives = { λ _ r. r ≡ UnknownRuleSet };
+
+    fn from(_number: UnknownRuleSet) -> Refusal {
+        Refusal::UnknownRuleSet
+    }
+}
+
 // A refusal, with the completed steps where a loop met it.
 #[derive(Clone, Copy, Debug, PartialEq, Eq)]
 pub struct Failure {
@@ -64,6 +76,14 @@ impl From<UnknownKind> for Failure {
 
     fn from(byte: UnknownKind) -> Failure {
         Failure::from(Refusal::from(byte))
+    }
+}
+
+impl From<UnknownRuleSet> for Failure {
+    ghost from_gives = { λ _ r. r ≡ record { refusal = UnknownRuleSet; steps = 0 } };
+
+    fn from(number: UnknownRuleSet) -> Failure {
+        Failure::from(Refusal::from(number))
     }
 }
 

@@ -3,12 +3,13 @@
 ghost use Rattle.std.specs.Prelude.{◌≡◌};
 ghost use Rattle.std.specs.Float.{binary64};
 ghost use Rattle.std.specs.Float.Ieee.{to_bits};
+ghost use Rattle.elementary.specs.RuleSets.{rule_set_of};
 ghost use Rattle.solver.specs.Answers.{volatility_in, range_number_in, low_in, high_in};
 ghost use Rattle.abi.specs.Solutions.{outcome_of, asked_range_by, solve_range_with_trails_for, solve_range_for};
 
 use crate::product::solve::export_solution;
 use elementary::methods::float_of;
-use elementary::rule_set::RULE_SET_0;
+use elementary::rule_set::{RuleSet, UnknownRuleSet};
 use prices::inputs::{OptionType, UnknownKind};
 use prices::refusal::Numbered;
 use solver::answers::Ends;
@@ -72,19 +73,20 @@ fn export_range(
 // ---- with trails
 
 fn solve_range_with_trails_for(
+    set: Result<RuleSet, UnknownRuleSet>,
     asked: Result<QuoteRange, UnknownKind>,
     limit: i32,
     low_trail: &mut [u8],
     high_trail: &mut [u8],
 ) -> Result<Ends, Refusal>
-    ensures value { result ≡ (solve_range_with_trails_for asked limit low_trail.old high_trail.old).answer }
-    ensures low_trail_after { low_trail.new ≡ (solve_range_with_trails_for asked limit low_trail.old high_trail.old).low }
-    ensures high_trail_after { high_trail.new ≡ (solve_range_with_trails_for asked limit low_trail.old high_trail.old).high }
+    ensures value { result ≡ (solve_range_with_trails_for set asked limit low_trail.old high_trail.old).answer }
+    ensures low_trail_after { low_trail.new ≡ (solve_range_with_trails_for set asked limit low_trail.old high_trail.old).low }
+    ensures high_trail_after { high_trail.new ≡ (solve_range_with_trails_for set asked limit low_trail.old high_trail.old).high }
 {
-    solve_range_with_trails(RULE_SET_0, asked?, steps_of(limit), low_trail, high_trail)
+    solve_range_with_trails(set?, asked?, steps_of(limit), low_trail, high_trail)
 }
 
-// 24 for a kind, 1, 31, 2, 3, 4 or 21; then both trails stay.
+// 32, 24 for a kind, 1, 31, 2, 3, 4 or 21; then both trails stay.
 #[unsafe(no_mangle)]
 pub extern "C" fn gintubalos_bid_ask(
     low: u64,
@@ -94,6 +96,7 @@ pub extern "C" fn gintubalos_bid_ask(
     expiry: u64,
     kind: u8,
     limit: i32,
+    rule_set: u32,
     low_trail: &mut [u8],
     high_trail: &mut [u8],
     low_volatility: &mut u64,
@@ -101,16 +104,17 @@ pub extern "C" fn gintubalos_bid_ask(
     high_volatility: &mut u64,
     high_outcome: &mut u64,
 ) -> u8
-    ensures value { result ≡ range_number_in (solve_range_with_trails_for (asked_range_by low high forward strike expiry kind) limit low_trail.old high_trail.old).answer }
-    ensures low_trail_after { low_trail.new ≡ (solve_range_with_trails_for (asked_range_by low high forward strike expiry kind) limit low_trail.old high_trail.old).low }
-    ensures high_trail_after { high_trail.new ≡ (solve_range_with_trails_for (asked_range_by low high forward strike expiry kind) limit low_trail.old high_trail.old).high }
-    ensures low_volatility_after { low_volatility.new ≡ to_bits binary64 (volatility_in (low_in (solve_range_with_trails_for (asked_range_by low high forward strike expiry kind) limit low_trail.old high_trail.old).answer)) }
-    ensures low_outcome_after { low_outcome.new ≡ outcome_of (low_in (solve_range_with_trails_for (asked_range_by low high forward strike expiry kind) limit low_trail.old high_trail.old).answer) }
-    ensures high_volatility_after { high_volatility.new ≡ to_bits binary64 (volatility_in (high_in (solve_range_with_trails_for (asked_range_by low high forward strike expiry kind) limit low_trail.old high_trail.old).answer)) }
-    ensures high_outcome_after { high_outcome.new ≡ outcome_of (high_in (solve_range_with_trails_for (asked_range_by low high forward strike expiry kind) limit low_trail.old high_trail.old).answer) }
+    ensures value { result ≡ range_number_in (solve_range_with_trails_for (rule_set_of rule_set) (asked_range_by low high forward strike expiry kind) limit low_trail.old high_trail.old).answer }
+    ensures low_trail_after { low_trail.new ≡ (solve_range_with_trails_for (rule_set_of rule_set) (asked_range_by low high forward strike expiry kind) limit low_trail.old high_trail.old).low }
+    ensures high_trail_after { high_trail.new ≡ (solve_range_with_trails_for (rule_set_of rule_set) (asked_range_by low high forward strike expiry kind) limit low_trail.old high_trail.old).high }
+    ensures low_volatility_after { low_volatility.new ≡ to_bits binary64 (volatility_in (low_in (solve_range_with_trails_for (rule_set_of rule_set) (asked_range_by low high forward strike expiry kind) limit low_trail.old high_trail.old).answer)) }
+    ensures low_outcome_after { low_outcome.new ≡ outcome_of (low_in (solve_range_with_trails_for (rule_set_of rule_set) (asked_range_by low high forward strike expiry kind) limit low_trail.old high_trail.old).answer) }
+    ensures high_volatility_after { high_volatility.new ≡ to_bits binary64 (volatility_in (high_in (solve_range_with_trails_for (rule_set_of rule_set) (asked_range_by low high forward strike expiry kind) limit low_trail.old high_trail.old).answer)) }
+    ensures high_outcome_after { high_outcome.new ≡ outcome_of (high_in (solve_range_with_trails_for (rule_set_of rule_set) (asked_range_by low high forward strike expiry kind) limit low_trail.old high_trail.old).answer) }
 {
     let asked = asked_range_by(low, high, forward, strike, expiry, kind);
-    let answer = solve_range_with_trails_for(asked, limit, low_trail, high_trail);
+    let set = RuleSet::try_from(rule_set);
+    let answer = solve_range_with_trails_for(set, asked, limit, low_trail, high_trail);
     export_range(
         answer,
         low_volatility,
@@ -122,10 +126,14 @@ pub extern "C" fn gintubalos_bid_ask(
 
 // ---- without trails
 
-fn solve_range_for(asked: Result<QuoteRange, UnknownKind>, limit: i32) -> Result<Ends, Refusal>
-    ensures { result ≡ solve_range_for asked limit }
+fn solve_range_for(
+    set: Result<RuleSet, UnknownRuleSet>,
+    asked: Result<QuoteRange, UnknownKind>,
+    limit: i32,
+) -> Result<Ends, Refusal>
+    ensures { result ≡ solve_range_for set asked limit }
 {
-    solve_range(RULE_SET_0, asked?, steps_of(limit))
+    solve_range(set?, asked?, steps_of(limit))
 }
 
 #[unsafe(no_mangle)]
@@ -137,20 +145,22 @@ pub extern "C" fn gintubalos_bid_ask_without_trails(
     expiry: u64,
     kind: u8,
     limit: i32,
+    rule_set: u32,
     low_volatility: &mut u64,
     low_outcome: &mut u64,
     high_volatility: &mut u64,
     high_outcome: &mut u64,
 ) -> u8
-    ensures value { result ≡ range_number_in (solve_range_for (asked_range_by low high forward strike expiry kind) limit) }
-    ensures low_volatility_after { low_volatility.new ≡ to_bits binary64 (volatility_in (low_in (solve_range_for (asked_range_by low high forward strike expiry kind) limit))) }
-    ensures low_outcome_after { low_outcome.new ≡ outcome_of (low_in (solve_range_for (asked_range_by low high forward strike expiry kind) limit)) }
-    ensures high_volatility_after { high_volatility.new ≡ to_bits binary64 (volatility_in (high_in (solve_range_for (asked_range_by low high forward strike expiry kind) limit))) }
-    ensures high_outcome_after { high_outcome.new ≡ outcome_of (high_in (solve_range_for (asked_range_by low high forward strike expiry kind) limit)) }
+    ensures value { result ≡ range_number_in (solve_range_for (rule_set_of rule_set) (asked_range_by low high forward strike expiry kind) limit) }
+    ensures low_volatility_after { low_volatility.new ≡ to_bits binary64 (volatility_in (low_in (solve_range_for (rule_set_of rule_set) (asked_range_by low high forward strike expiry kind) limit))) }
+    ensures low_outcome_after { low_outcome.new ≡ outcome_of (low_in (solve_range_for (rule_set_of rule_set) (asked_range_by low high forward strike expiry kind) limit)) }
+    ensures high_volatility_after { high_volatility.new ≡ to_bits binary64 (volatility_in (high_in (solve_range_for (rule_set_of rule_set) (asked_range_by low high forward strike expiry kind) limit))) }
+    ensures high_outcome_after { high_outcome.new ≡ outcome_of (high_in (solve_range_for (rule_set_of rule_set) (asked_range_by low high forward strike expiry kind) limit)) }
 {
-    let range = asked_range_by(low, high, forward, strike, expiry, kind);
+    let asked = asked_range_by(low, high, forward, strike, expiry, kind);
+    let set = RuleSet::try_from(rule_set);
     export_range(
-        solve_range_for(range, limit),
+        solve_range_for(set, asked, limit),
         low_volatility,
         low_outcome,
         high_volatility,

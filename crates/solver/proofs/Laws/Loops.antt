@@ -21,7 +21,7 @@ use Rattle.std.specs.Prelude.{Ok, Err, is_ok}
 use Rattle.prices.specs.Answers.{number as pricing_number}
 use Rattle.prices.proofs.Laws.Refusals.{refused_above_0}
 use Rattle.solver.specs.declared.refusal.Refusal.{Refusal}
-use Rattle.solver.specs.declared.refusal.Refusal.TheVariants.{Price, Pricing, TrailTooShort, BookFull, NoSuchRecord, OutsideTheLayout, LowAboveHigh}
+use Rattle.solver.specs.declared.refusal.Refusal.TheVariants.{Price, Pricing, TrailTooShort, BookFull, NoSuchRecord, OutsideTheLayout, LowAboveHigh, UnknownRuleSet}
 use Rattle.solver.specs.declared.answers.Branch.{Branch}
 use Rattle.solver.specs.declared.answers.Branch.TheVariants.{Lower, LowerMiddle, UpperMiddle, Upper, UpperRest}
 use Rattle.solver.specs.Loop.{Ending, by_test, by_limit, by_refusal, Run, run, advance, stop}
@@ -212,6 +212,7 @@ above_0 BookFull e = omega arith
 above_0 NoSuchRecord e = omega arith
 above_0 OutsideTheLayout e = omega arith
 above_0 LowAboveHigh e = omega arith
+above_0 UnknownRuleSet e = omega arith
 
 zero_is_ok : (a : Solution) → number_in a ≡ 0 → is_ok a ≡ true
 zero_is_ok (Ok a) z = refl

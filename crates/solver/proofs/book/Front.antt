@@ -7,7 +7,7 @@ use lib.ListN.{take, drop, get_or}
 use Rattle.std.proofs.lemmas.List.{drop-take, take-take, get_or-take}
 use Rattle.elementary.specs.declared.rule_set.RuleSet.{RuleSet}
 use Rattle.solver.specs.LittleEndian.{part}
-use Rattle.solver.specs.Book.{solve_record}
+use Rattle.solver.specs.Book.{filed_quote, solve_record}
 
 module _ (n : ℕ) (bytes : List ℕ) where
   part_front : (at size : ℕ) → at + size ≤ n → part at size (take n bytes) ≡ part at size bytes
@@ -17,6 +17,6 @@ module _ (n : ℕ) (bytes : List ℕ) where
   byte_front i h = get_or-take n bytes i 0 h
 
   pub solve_record_front : (set : RuleSet) → 64 ≤ n → solve_record set (take n bytes) ≡ solve_record set bytes
-  unfolding solve_record
+  unfolding solve_record filed_quote
   solve_record_front set h =
       rw (byte_front 48 (omega arith), byte_front 49 (omega arith), byte_front 50 (omega arith), part_front 51 13 (omega arith), part_front 40 4 (omega arith), part_front 0 8 (omega arith), part_front 8 8 (omega arith), part_front 16 8 (omega arith), part_front 24 8 (omega arith))
