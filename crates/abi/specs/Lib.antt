@@ -1,3 +1,5 @@
 -- What the exported functions add to the layers' definitions.
 pub mod Bytes
 pub mod Solutions
+-- Promises: statements alone, no proof.
+pub mod Promises

@@ -1,7 +1,11 @@
--- The code's rule set 0 is the definition's. Assumes nothing.
-use mathlib.Core.Path.{◌≡◌, refl}
-use Rattle.elementary.specs.declared.rule_set.TheConstants.{RULE_SET_0}
-use Rattle.elementary.specs.RuleSets.{rule_set_0}
+-- What a rule set's number says. Assumes nothing.
+use mathlib.Core.Path.{◌≡◌}
+use Prim.Native.Nat.{ℕ, ◌<◌}
+use native.Mathlib.Omega.{arith}
+use borrow.Author.Tests.{ne_eqb}
+use Rattle.std.specs.Prelude.{Err}
+use Rattle.elementary.specs.RuleSets.{rule_set_of}
 
-pub rule_set_0_is : RULE_SET_0 ≡ rule_set_0
-rule_set_0_is = refl
+-- no rule set has a number above 1
+pub unknown_above_1 : (number : ℕ) → 1 < number → rule_set_of number ≡ Err (record {})
+unknown_above_1 number h = rw (ne_eqb number 0 (λ e. omega arith), ne_eqb number 1 (λ e. omega arith))

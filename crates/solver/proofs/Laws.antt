@@ -9,6 +9,7 @@ pub mod Loops
 pub mod Place
 pub mod LoopInvariant
 pub mod BySet
+pub mod Caps
 pub mod SolveCases
 pub mod Ranges
 -- Lists and bytes.

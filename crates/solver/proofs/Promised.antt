@@ -1,35 +1,45 @@
 -- The proofs of the promises of specs/Promises, each under the promise's own name. A run is `result_from` its start, so each sentence is a law of Loops.
 -- Assumes nothing.
 use mathlib.Core.Path.{◌≡◌, refl, sym, ap, ◌∙◌}
-use mathlib.Core.Bool.{Bool, false}
+use mathlib.Core.Bool.{Bool, true, false, cond}
 use mathlib.Core.List.{List, [], ◌∷◌, Memᴰ as OneOf}
-use Prim.Native.Nat.{ℕ, ◌*◌}
+use Prim.Native.Nat.{ℕ, ◌<◌, ◌*◌}
 use lib.Dec.{ltb}
 use lib.IntN.{ℤ}
-use lib.Ieee.{Float}
-use lib.ListN.{length}
+use lib.Ieee.{Float, lt}
+use lib.ListN.{length, get_or}
 use borrow.Author.Tests.{lt-ltb, le-ltb}
-use Rattle.std.specs.Prelude.{Ok, Err}
+use Rattle.std.specs.Prelude.{Result, Ok, Err, is_ok}
 use Rattle.solver.specs.declared.quote.Quote.{Quote}
 use Rattle.solver.specs.declared.quote.QuoteRange.{QuoteRange}
 use Rattle.prices.specs.declared.refusal.Refusal.TheVariants.{Forward, Strike, Expiry}
 use Rattle.solver.specs.declared.refusal.Refusal.{Refusal}
-use Rattle.solver.specs.declared.refusal.Refusal.TheVariants.{Price, Pricing, TrailTooShort, LowAboveHigh}
+use Rattle.solver.specs.declared.refusal.Refusal.TheVariants.{Price, Pricing, TrailTooShort, OutsideTheLayout, LowAboveHigh, UnknownRuleSet}
 use Rattle.elementary.specs.declared.rule_set.RuleSet.{RuleSet}
+use Rattle.elementary.specs.RuleSets.{rule_set_0, rule_set_1}
+use Rattle.elementary.proofs.RuleSets.{unknown_above_1}
+use Rattle.prices.specs.declared.inputs.OptionType.{OptionType}
+use Rattle.prices.specs.declared.inputs.OptionType.TheVariants.{Call, Put}
+use Rattle.prices.specs.declared.inputs.UnknownKind.{UnknownKind}
+use Rattle.prices.specs.Inputs.{kind_of}
 use Rattle.solver.specs.Trail.{trail_after}
 use Rattle.solver.specs.Guess.{Start}
-use Rattle.solver.specs.Answers.{number, number_in, range_number_in, low_in, high_in}
+use Rattle.solver.specs.Answers.{at_once, checking_number, number, number_in, range_number_in, low_in, high_in}
 use Rattle.solver.specs.BidAsk.{RangeResult, quote_at, range_check, range_check_with_trails, solve_range, solve_range_with_trails}
-use Rattle.solver.specs.Solve.{Check, market_check, input_check, start_of, SolveResult, result_from, solve_of, solve_with_trail, steps_of}
+use Rattle.solver.specs.Book.{by_kind, in_layout, quote_in, filed_quote, with_quote, check_record, record_at, recheck_of}
+use Rattle.solver.specs.Solve.{cap_of, accepted_start, Check, market_check, input_check, start_of, SolveResult, result_from, solve_of, solve_with_trail, steps_of}
 use Rattle.solver.specs.Promises.Demand3.{Trail, none, of_bytes, LongEnough, run_of, begin_of, OneRun, Sentences, Demand3}
 use Rattle.solver.specs.Promises.Answers.{Numbers, SolveNumbers, LineLength}
 use Rattle.solver.specs.Promises.BidAsk.{call_with, RefusedWith, CheckedInOrder, AsSingle, AsSingleWithTrail, BidAskOrder, BidAskEnds, BidAskWithoutTrails}
+use Rattle.solver.specs.Promises.RuleSets.{AboveMaximumFrom, TextbookCaps, StudentsCall, RecheckedInOrder, RecheckOrder}
 use Rattle.solver.specs.Table.{Table}
 use Rattle.solver.proofs.Laws.Numbers.{Checked}
 use Rattle.solver.proofs.Laws.Forms.{StartForm, accepted_form, start_form}
 use Rattle.solver.proofs.Laws.Loops.{longer_run, run_steps, one_run, answer_half, run_numbers, later_number}
 use Rattle.solver.proofs.Laws.Ranges.{passes_with_trails, passes_without, range_passes, trails_pass, check_as_without, answer_as_without}
+use Rattle.solver.proofs.Laws.Caps.{start_alike}
 use Rattle.solver.proofs.Laws.Lines as lines
+use Rattle.solver.proofs.Examples.{examples}
 use Rattle.solver.proofs.Table.{rows}
 
 -- ---- a run is `result_from` its start
@@ -164,6 +174,51 @@ module _ (set : RuleSet) (r : QuoteRange) (n : ℤ) where
         let p = trails_pass r (steps_of n) (length low) (length high) e in
         rw (call_is_ends e) (record { end = as_single r.high (of_bytes (length high)) (range_passes r p.0).1 p.1.1; bytes = refl })
 
+-- ---- rule sets
+
+-- a price from the cap on
+from_the_cap : (set : RuleSet) (q : Quote) (cap : Float) → cap_of set q.option_type q.forward q.strike ≡ cap → AboveMaximumFrom set q cap
+unfolding solve_of result_from start_of accepted_start
+from_the_cap set q cap c e i m n = rw (e, i, c, m)
+
+call_capped : (q : Quote) → q.option_type ≡ Call → AboveMaximumFrom rule_set_1 q q.forward
+call_capped q k = from_the_cap rule_set_1 q q.forward (rw k)
+
+put_capped : (q : Quote) → q.option_type ≡ Put → AboveMaximumFrom rule_set_1 q q.strike
+put_capped q k = from_the_cap rule_set_1 q q.strike (rw k)
+
+below_both_caps : (q : Quote) (n : ℤ) (t : Trail) → lt q.price q.forward ≡ true → lt q.price q.strike ≡ true → run_of rule_set_1 q n t ≡ run_of rule_set_0 q n t
+below_both_caps q n t f k = rw (run_is rule_set_1 q n t, run_is rule_set_0 q n t, start_alike true rule_set_0 (is_short n t) q f k)
+
+-- what refuses a record's quote is 24
+only_24 : (k : Result OptionType UnknownKind) (b : Bool) (quote : OptionType → Quote) → let filed = by_kind k (λ kind. cond b (Ok (quote kind)) (Err OutsideTheLayout)) (Err OutsideTheLayout) in is_ok filed ≡ false → filed ≡ Err OutsideTheLayout
+only_24 (Ok kind) true quote o = cc
+only_24 (Ok kind) false quote o = refl
+only_24 (Err unknown) b quote o = refl
+
+module _ (number : ℕ) (bytes : List ℕ) where
+  outside : is_ok (filed_quote bytes) ≡ false → checking_number (check_record number bytes) ≡ 24
+  unfolding check_record filed_quote
+  outside o = rw (only_24 (kind_of (get_or bytes 48 0)) (in_layout bytes) (quote_in bytes) o)
+
+  unknown : is_ok (filed_quote bytes) ≡ true → 1 < number → checking_number (check_record number bytes) ≡ 32
+  unfolding check_record
+  unknown o h = rw (unknown_above_1 number h) (go (filed_quote bytes) o)
+    where
+      go : (filed : Result Quote Refusal) → is_ok filed ≡ true → checking_number (with_quote {A = Bool} filed (λ q. Err (at_once UnknownRuleSet))) ≡ 32
+      go (Ok q) o = refl
+      go (Err refusal) o = cc
+
+module _ (number : ℕ) (book : List ℕ) (used k : ℕ) where
+  rechecked_in_order : RecheckedInOrder number book used k
+  unfolding recheck_of check_record
+  rechecked_in_order = record {
+    no_record = λ e. rw e;
+    outside_the_layout = λ e o. rw e (outside number (record_at k book) o);
+    unknown = λ e o h. rw e (unknown number (record_at k book) o h);
+    known = λ set q e o s. rw (e, o, s);
+  }
+
 -- ---- the promises
 
 pub demand_3 : Demand3
@@ -191,3 +246,12 @@ bid_ask_ends = record {
 
 pub bid_ask_without_trails : BidAskWithoutTrails
 bid_ask_without_trails = without_trails
+
+pub textbook_caps : TextbookCaps
+textbook_caps = record { call = call_capped; put = put_capped; below_both = below_both_caps }
+
+pub students_call : StudentsCall
+students_call = examples.students_call
+
+pub recheck_order : RecheckOrder
+recheck_order = rechecked_in_order

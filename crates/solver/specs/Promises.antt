@@ -2,3 +2,4 @@
 pub mod Demand3
 pub mod Answers
 pub mod BidAsk
+pub mod RuleSets

@@ -4,7 +4,7 @@ use mathlib.Core.Bool.{Bool}
 use lib.Ieee.{Float}
 use Rattle.elementary.specs.declared.rule_set.RuleSet.{RuleSet}
 use Rattle.elementary.specs.Cody.{erfc_abs, erfc_of}
-use Rattle.elementary.specs.NormalDistribution.{Ends, bisection_ends, cdf_of, lowest, highest, ends_of, inverse_of, inverse_f_upper_map_of}
+use Rattle.elementary.specs.NormalDistribution.{bisection_ends, cdf_of, lowest, highest, ends_of, inverse_of, inverse_f_upper_map_of}
 
 -- a rule set with this cap
 abbrev pub capped : Bool → RuleSet → RuleSet

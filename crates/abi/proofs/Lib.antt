@@ -1,0 +1,2 @@
+-- The promises of specs/Promises, each under its name.
+pub mod Promised
