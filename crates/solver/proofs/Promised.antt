@@ -31,13 +31,13 @@ use Rattle.solver.specs.Solve.{cap_of, accepted_start, Check, market_check, inpu
 use Rattle.solver.specs.Promises.Demand3.{Trail, none, of_bytes, LongEnough, run_of, begin_of, OneRun, Sentences, Demand3}
 use Rattle.solver.specs.Promises.Answers.{Numbers, SolveNumbers, LineLength}
 use Rattle.solver.specs.Promises.BidAsk.{call_with, RefusedWith, CheckedInOrder, AsSingle, AsSingleWithTrail, BidAskOrder, BidAskEnds, BidAskWithoutTrails}
-use Rattle.solver.specs.Promises.RuleSets.{AboveMaximumFrom, TextbookCaps, StudentsCall, RecheckedInOrder, RecheckOrder}
+use Rattle.solver.specs.Promises.RuleSets.{ReachesItsCap, CappedAt, TextbookCaps, StudentsCall, RecheckedInOrder, RecheckOrder}
 use Rattle.solver.specs.Table.{Table}
 use Rattle.solver.proofs.Laws.Numbers.{Checked}
 use Rattle.solver.proofs.Laws.Forms.{StartForm, accepted_form, start_form}
 use Rattle.solver.proofs.Laws.Loops.{longer_run, run_steps, one_run, answer_half, run_numbers, later_number}
 use Rattle.solver.proofs.Laws.Ranges.{passes_with_trails, passes_without, range_passes, trails_pass, check_as_without, answer_as_without}
-use Rattle.solver.proofs.Laws.Caps.{start_alike}
+use Rattle.solver.proofs.Laws.Caps.{start_between_alike, start_alike, uncapped_alike}
 use Rattle.solver.proofs.Laws.Lines as lines
 use Rattle.solver.proofs.Examples.{examples}
 use Rattle.solver.proofs.Table.{rows}
@@ -176,16 +176,18 @@ module _ (set : RuleSet) (r : QuoteRange) (n : ℤ) where
 
 -- ---- rule sets
 
--- a price from the cap on
-from_the_cap : (set : RuleSet) (q : Quote) (cap : Float) → cap_of set q.option_type q.forward q.strike ≡ cap → AboveMaximumFrom set q cap
-unfolding solve_of result_from start_of accepted_start
-from_the_cap set q cap c e i m n = rw (e, i, c, m)
+capped_at : (q : Quote) (cap : Float) → cap_of rule_set_1 q.option_type q.forward q.strike ≡ cap → ReachesItsCap q → CappedAt cap q
+unfolding start_of accepted_start
+capped_at q cap e h = record { from_it_on = λ c. rw (h.0, h.1, e, c); below_it = λ c. rw (h.0, h.1, e, c) (start_between_alike true rule_set_0 q) }
 
-call_capped : (q : Quote) → q.option_type ≡ Call → AboveMaximumFrom rule_set_1 q q.forward
-call_capped q k = from_the_cap rule_set_1 q q.forward (rw k)
+call_capped : (q : Quote) → q.option_type ≡ Call → ReachesItsCap q → CappedAt q.forward q
+call_capped q k = capped_at q q.forward (rw k)
 
-put_capped : (q : Quote) → q.option_type ≡ Put → AboveMaximumFrom rule_set_1 q q.strike
-put_capped q k = from_the_cap rule_set_1 q q.strike (rw k)
+put_capped : (q : Quote) → q.option_type ≡ Put → ReachesItsCap q → CappedAt q.strike q
+put_capped q k = capped_at q q.strike (rw k)
+
+elsewhere_alike : (q : Quote) (n : ℤ) (t : Trail) → (ReachesItsCap q → ⊥) → run_of rule_set_1 q n t ≡ run_of rule_set_0 q n t
+elsewhere_alike q n t h = rw (run_is rule_set_1 q n t, run_is rule_set_0 q n t, uncapped_alike true rule_set_0 (is_short n t) q h)
 
 below_both_caps : (q : Quote) (n : ℤ) (t : Trail) → lt q.price q.forward ≡ true → lt q.price q.strike ≡ true → run_of rule_set_1 q n t ≡ run_of rule_set_0 q n t
 below_both_caps q n t f k = rw (run_is rule_set_1 q n t, run_is rule_set_0 q n t, start_alike true rule_set_0 (is_short n t) q f k)
@@ -248,7 +250,7 @@ pub bid_ask_without_trails : BidAskWithoutTrails
 bid_ask_without_trails = without_trails
 
 pub textbook_caps : TextbookCaps
-textbook_caps = record { call = call_capped; put = put_capped; below_both = below_both_caps }
+textbook_caps = record { call = call_capped; put = put_capped; elsewhere = elsewhere_alike; below_both = below_both_caps }
 
 pub students_call : StudentsCall
 students_call = examples.students_call

@@ -40,17 +40,25 @@ abbrev pub cap_of : RuleSet → OptionType → Float → Float → Float
 cap_of set Call forward strike = cond set.textbook_cap forward strike
 cap_of set Put forward strike = cond set.textbook_cap strike forward
 
--- The two sentinels that are found before normalising are reported as they are; what is answered after it is divided by √expiry, an above-maximum sentinel too.
-unfoldable pub accepted_start : RuleSet → Quote → Start
-accepted_start set q =
+-- the price below which no volatility is looked for
+abbrev pub intrinsic_in : Quote → Float
+intrinsic_in q = max_of (times q.option_type (q.forward ⊖ q.strike)) +0
+
+-- from a price between these two; in the money from what it is above the intrinsic value, as the other kind's
+abbrev pub start_between : RuleSet → Quote → Start
+start_between set q =
     let kind = q.option_type in
-    let intrinsic = max_of (times kind (q.forward ⊖ q.strike)) +0 in
     let x = ln_of (q.forward ⊘ q.strike) in
     let root = sqrt_of binary64 q.forward ⊗ sqrt_of binary64 q.strike in
     let direct = over_expiry q.expiry (normalised_start set (q.price ⊘ root) x kind) in
-    let mapped = over_expiry q.expiry (normalised_start set (max_of (q.price ⊖ intrinsic) +0 ⊘ root) x (negated kind)) in
-    let guessed = cond (lt +0 (times kind x)) mapped direct in
-    cond (lt q.price intrinsic) (answered MIN) (cond (le (cap_of set kind q.forward q.strike) q.price) (answered MAX) guessed)
+    let mapped = over_expiry q.expiry (normalised_start set (max_of (q.price ⊖ intrinsic_in q) +0 ⊘ root) x (negated kind)) in
+    cond (lt +0 (times kind x)) mapped direct
+
+-- The two sentinels that are found before normalising are reported as they are; what is answered after it is divided by √expiry, an above-maximum sentinel too.
+unfoldable pub accepted_start : RuleSet → Quote → Start
+accepted_start set q =
+    let between = start_between set q in
+    cond (lt q.price (intrinsic_in q)) (answered MIN) (cond (le (cap_of set q.option_type q.forward q.strike) q.price) (answered MAX) between)
 
 -- ---- the checks of the input: each passes, or refuses
 

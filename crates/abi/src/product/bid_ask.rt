@@ -157,10 +157,10 @@ pub extern "C" fn gintubalos_bid_ask_without_trails(
     ensures high_volatility_after { high_volatility.new ≡ to_bits binary64 (volatility_in (high_in (solve_range_for (rule_set_of rule_set) (asked_range_by low high forward strike expiry kind) limit))) }
     ensures high_outcome_after { high_outcome.new ≡ outcome_of (high_in (solve_range_for (rule_set_of rule_set) (asked_range_by low high forward strike expiry kind) limit)) }
 {
-    let asked = asked_range_by(low, high, forward, strike, expiry, kind);
+    let range = asked_range_by(low, high, forward, strike, expiry, kind);
     let set = RuleSet::try_from(rule_set);
     export_range(
-        solve_range_for(set, asked, limit),
+        solve_range_for(set, range, limit),
         low_volatility,
         low_outcome,
         high_volatility,

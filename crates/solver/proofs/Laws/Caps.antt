@@ -1,8 +1,10 @@
 -- Only accepted_start looks at where a price is capped, and there only for a price from a cap on: rule sets that differ in that alone have the same runs below
 -- both caps. Assumes nothing.
-use mathlib.Core.Path.{◌≡◌, ap, fun_ext}
-use mathlib.Core.Bool.{Bool, true, false}
+use mathlib.Core.Path.{◌≡◌, refl, ap, fun_ext}
+use mathlib.Core.Bool.{Bool, true, false, cond}
 use lib.Ieee.{Float, lt, le}
+use Rattle.std.specs.Prelude.{Ok, Err}
+use Rattle.elementary.specs.Ops.{MIN}
 use Rattle.elementary.proofs.Laws.Compare.{not_le_of_lt}
 use Rattle.elementary.specs.declared.rule_set.RuleSet.{RuleSet}
 use Rattle.elementary.proofs.Laws.Caps.{capped, cdf_alike, inverse_alike, inverse_f_upper_map_alike}
@@ -10,10 +12,11 @@ use Rattle.prices.specs.declared.inputs.OptionType.{OptionType}
 use Rattle.prices.specs.declared.inputs.OptionType.TheVariants.{Call, Put}
 use Rattle.prices.proofs.Laws.Caps.{call_alike}
 use Rattle.solver.specs.declared.quote.Quote.{Quote}
+use Rattle.solver.specs.declared.refusal.Refusal.TheVariants.{TrailTooShort}
 use Rattle.solver.specs.declared.state.State.{State}
 use Rattle.solver.specs.Step.{lower_step, upper_step, general_step}
-use Rattle.solver.specs.Solve.{cap_of, accepted_start, start_of}
-use Rattle.solver.specs.Guess.{on_value, with_value, guessed_start, inverse_f_lower_map, upper_map, lower_map, lower_guess, upper_guess, lower_start, tail_start, upper_start, mapped_start, normalised_start}
+use Rattle.solver.specs.Solve.{cap_of, intrinsic_in, start_between, accepted_start, Check, by_check, input_check, start_of}
+use Rattle.solver.specs.Guess.{Start, answered, stopped, on_value, with_value, guessed_start, inverse_f_lower_map, upper_map, lower_map, lower_guess, upper_guess, lower_start, tail_start, upper_start, mapped_start, normalised_start}
 
 module _ (cap : Bool) (set : RuleSet) where
   abbrev other : RuleSet
@@ -85,6 +88,9 @@ module _ (cap : Bool) (set : RuleSet) where
 
 -- ---- a run
 
+pub start_between_alike : (textbook : Bool) (set : RuleSet) (q : Quote) → start_between (capped textbook set) q ≡ start_between set q
+start_between_alike textbook set q = rw (normalised_start_alike textbook set _ _ _, normalised_start_alike textbook set _ _ _)
+
 -- a price that is below the forward and below the strike is not from a cap on
 below_cap : (set : RuleSet) (kind : OptionType) (price forward strike : Float) → lt price forward ≡ true → lt price strike ≡ true → le (cap_of set kind forward strike) price ≡ false
 below_cap set kind price forward strike f k = go set.textbook_cap kind
@@ -95,7 +101,18 @@ below_cap set kind price forward strike f k = go set.textbook_cap kind
     go true Put = not_le_of_lt price strike k
     go false Put = not_le_of_lt price forward f
 
-pub start_alike : (cap : Bool) (set : RuleSet) (short : Bool) (q : Quote) → lt q.price q.forward ≡ true → lt q.price q.strike ≡ true → start_of (capped cap set) short q ≡ start_of set short q
+pub start_alike : (textbook : Bool) (set : RuleSet) (short : Bool) (q : Quote) → lt q.price q.forward ≡ true → lt q.price q.strike ≡ true → start_of (capped textbook set) short q ≡ start_of set short q
 unfolding start_of accepted_start
-start_alike cap set short q f k =
-    rw (below_cap (capped cap set) q.option_type q.price q.forward q.strike f k, below_cap set q.option_type q.price q.forward q.strike f k, normalised_start_alike cap set _ _ _, normalised_start_alike cap set _ _ _)
+start_alike textbook set short q f k =
+    rw (below_cap (capped textbook set) q.option_type q.price q.forward q.strike f k, below_cap set q.option_type q.price q.forward q.strike f k, start_between_alike textbook set q)
+
+-- where a check refuses, or the price is below the intrinsic value, no cap is looked at
+pub uncapped_alike : (textbook : Bool) (set : RuleSet) (short : Bool) (q : Quote) → ((input_check q ≡ Ok tt) × (lt q.price (intrinsic_in q) ≡ false) → ⊥) → start_of (capped textbook set) short q ≡ start_of set short q
+unfolding start_of accepted_start
+uncapped_alike textbook set short q h = go (input_check q) (lt q.price (intrinsic_in q)) _ _ h
+  where
+    go : (c : Check) (b : Bool) (s s' : Start) → ((c ≡ Ok tt) × (b ≡ false) → ⊥)
+        → by_check c (cond short (stopped TrailTooShort) (cond b (answered MIN) s)) stopped ≡ by_check c (cond short (stopped TrailTooShort) (cond b (answered MIN) s')) stopped
+    go (Ok passed) true s s' h = refl
+    go (Ok passed) false s s' h = absurd (h (refl, refl))
+    go (Err refusal) b s s' h = refl
