@@ -121,7 +121,7 @@ fn words() {
     assert_eq!(error.to_string(), format!("refused with 7: {} (after 1 completed step)", one.meaning()));
     assert_eq!(Refusal { number: 9, steps: 0 }.meaning(), "a number that document 01 does not have");
     assert_eq!(format!("{} {:>5}|", -Call, -Put), "Put  Call|");
-    assert_eq!(format!("{Original}; {TextbookCaps:>20}|"), "the original library's rules;   the textbook's caps|");
+    assert_eq!(format!("{Original}; {TextbookCaps:>20}|"), "the original library's rules;  the textbook's caps|");
 }
 
 #[test]
