@@ -39,7 +39,7 @@ struct Findings {
     others: Vec<(u64, Finding)>,
 }
 
-/// Solves a block's records again under the rules that they were filed under. Each is a book of its own; a last part is one without a whole slot, which gives 23.
+/// Solves a block's records again. Each is a book of its own; a last part is one without a whole slot, which gives 23.
 fn check(block: &Block, rules: RuleSet, done: &AtomicU64) -> Findings {
     let mut findings = Findings { first: block.first, records: 0, others: Vec::new() };
     for (k, record) in block.records() {

@@ -26,8 +26,8 @@ fn to_bid_ask((number, [low, high]): (u8, [(u64, u64); 2])) -> Result<BidAsk, Re
 }
 
 /// The implied volatilities of a low and of a high price of one option, each after `max_iteration` steps at most, and each
-/// what the single call with that limit and those rules gives for its price. Of the prices between them nothing is said: a computed
-/// volatility need not rise with the price.
+/// what the single call with that limit and those rules gives for its price. Of the prices between them nothing is said: a
+/// computed volatility need not rise with the price.
 ///
 /// The whole call is refused with 1 for the low price, with 1 for the high one, with 31 where the low one is above the high
 /// one, then with 2 to 4. A later 6 or 7 is one end's.

@@ -210,7 +210,8 @@ impl ExactSizeIterator for Records<'_> {}
 impl FusedIterator for Records<'_> {}
 
 /// The line that `relist` writes for the record, its line feed included: record number, volatility bits, steps, branch and
-/// ending, or "REF" and the number. Its rules are [`RuleSet::Original`]'s, whatever the record was filed under. The bytes are a record's, or a last part under 64 bytes, which gives 23.
+/// ending, or "REF" and the number. Its rules are [`RuleSet::Original`]'s, whatever the record was filed under. The bytes
+/// are a record's, or a last part under 64 bytes, which gives 23.
 ///
 /// ```
 /// let mut record = [0; 64];
