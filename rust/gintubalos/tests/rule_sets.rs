@@ -41,6 +41,11 @@ fn the_students_call() {
     let textbook = under(TextbookCaps, STUDENT, Call, 2);
     assert_eq!((textbook.volatility.to_bits(), textbook.sentinel()), (0x3FF0_61F7_B1DA_C668, None));
     assert_eq!((textbook.branch, textbook.ending, textbook.steps), (Branch::LowerMiddle, Ending::Limit, 2));
+    // The wrapper has the rule set as a number.
+    let [price, forward, strike, expiry] = STUDENT.map(f64::to_bits);
+    let wrapper =
+        |rules| bits::implied_volatility_from_a_transformed_rational_guess(price, forward, strike, expiry, 1, rules).0;
+    assert_eq!([wrapper(0), wrapper(1)], [f64::MAX.to_bits(), 0x3FF0_61F7_B1DA_C668]);
     // The Black price gives the price again.
     let again = black(200.0, 100.0, textbook.volatility, 1.0, Call).expect("a price");
     assert!((again - 120.0).abs() < 1e-12, "{again}");
