@@ -1,7 +1,7 @@
 //! The command line's words, in their order, and its options.
 
 use crate::{failure::Failure, records::is_input};
-use gintubalos::OptionType;
+use gintubalos::{OptionType, RuleSet};
 use std::{
     collections::{BTreeMap, BTreeSet, VecDeque},
     ffi::OsString,
@@ -13,7 +13,7 @@ use std::{
 
 /// Options that stand alone, and options with a value, as in `--limit 9` and `--limit=9`.
 const FLAGS: [&str; 4] = ["--all", "--bits", "--repair", "--steps"];
-const VALUES: [&str; 2] = ["--jobs", "--limit"];
+const VALUES: [&str; 3] = ["--jobs", "--limit", "--rules"];
 
 /// The words that are no options, and the options. An option begins with two hyphens, so that -1 is a number; after `--`
 /// every word is one. Of an option that is given twice the last counts.
@@ -164,6 +164,14 @@ impl Arguments {
         let word = self.word("the record's number")?;
         let word = word.to_string_lossy();
         word.parse().map_err(|_| Failure::usage(format!("{word} is no record's number: a whole number from 0 on")))
+    }
+
+    /// The end of a command that has a rule set, by default the original library's. A wrong command line asks for nothing,
+    /// so it comes before a rule set that there is not; that comes before all that the command does.
+    pub fn end_with_rules(mut self) -> Result<RuleSet, Failure> {
+        let number: Option<u32> = self.value("--rules", "no rule set's number: a whole number of 32 bits from 0 on")?;
+        self.end()?;
+        number.map_or(Ok(RuleSet::default()), |number| RuleSet::try_from(number).map_err(Failure::UnknownRules))
     }
 
     /// Nothing may be left that the command did not ask for: it would be a slip of the pen.

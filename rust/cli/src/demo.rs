@@ -1,7 +1,7 @@
 //! `demo`: the bundled book rechecked, and an example solved.
 
 use crate::{failure::Failure, rechecking, solving};
-use gintubalos::OptionType;
+use gintubalos::{OptionType, RuleSet};
 use std::io::Write;
 
 /// Records of branches 0 to 4 with both endings, filed by this program.
@@ -22,6 +22,7 @@ pub fn demo(out: &mut impl Write) -> Result<u8, Failure> {
     solving::write_solution(
         &crate::arguments::Market { price: 10.0, forward: 100.0, strike: 95.0, expiry: 1.0, kind: OptionType::Call },
         2,
+        RuleSet::Original,
         Some(solving::Table { bits: false }),
         out,
     )?;

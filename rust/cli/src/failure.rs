@@ -1,7 +1,7 @@
 //! Why a command gives no answer, and the status that says so.
 
 use crate::output::counted;
-use gintubalos::Refusal;
+use gintubalos::{Refusal, RuleSet};
 use std::{fmt, io, path::PathBuf};
 
 /// The status of a command line that is none of the program's. Like the next it is no refusal's number.
@@ -16,6 +16,8 @@ pub enum Failure {
         message: String,
     },
     Refusal(Refusal),
+    /// 32.
+    UnknownRules(Refusal),
     /// 23, since the file ends in so many bytes that are no whole record.
     Part {
         refusal: Refusal,
@@ -64,9 +66,10 @@ impl Failure {
     pub fn status(&self) -> u8 {
         match self {
             Failure::Usage { .. } => USAGE,
-            Failure::Refusal(refusal) | Failure::Part { refusal, .. } | Failure::NoRecord { refusal, .. } => {
-                refusal.number
-            }
+            Failure::Refusal(refusal)
+            | Failure::UnknownRules(refusal)
+            | Failure::Part { refusal, .. }
+            | Failure::NoRecord { refusal, .. } => refusal.number,
             Failure::File { .. } | Failure::Output { .. } | Failure::Thread { .. } | Failure::Unshown { .. } => {
                 IO_ERROR
             }
@@ -79,6 +82,10 @@ impl fmt::Display for Failure {
         match self {
             Failure::Usage { message } => write!(f, "{message}; see gintubalos --help"),
             Failure::Refusal(refusal) => write!(f, "{refusal}"),
+            Failure::UnknownRules(refusal) => {
+                let known: Vec<String> = RuleSet::ALL.iter().map(|rules| rules.number().to_string()).collect();
+                write!(f, "{refusal}: there are {}", known.join(" and "))
+            }
             Failure::Part { refusal, path, bytes } => {
                 let path = path.display();
                 let bytes = counted(*bytes, "byte");

@@ -1,7 +1,7 @@
 //! `file`, with `--repair`, and `show`: one record of a book.
 
 use crate::{
-    arguments::Arguments,
+    arguments::{Arguments, Market},
     book_file::{BookFile, RECORD},
     failure::Failure,
     output::{self, counted},
@@ -21,17 +21,19 @@ pub fn file(mut arguments: Arguments, out: &mut impl Write) -> Result<(), Failur
     let path = arguments.path_to_add()?;
     let market = arguments.market()?;
     let limit = arguments.limit()?;
-    arguments.end()?;
+    let rules = arguments.end_with_rules()?;
     // The library's book is the new slot alone, so that the file need not be read. After a part of a record there is no
     // place for one: a used count with the part in it is above the whole slots, which the library refuses with 23.
     let mut slot = [0; RECORD_BYTES];
+    let Market { price, forward, strike, expiry, kind } = market;
     let mut fill = |part: u64| {
         let (book, used) = if part == 0 { (&mut slot[..], 0) } else { (&mut [][..], 1) };
-        gintubalos::file(market.price, market.forward, market.strike, market.expiry, market.kind, limit, book, used)
-            .map_err(|refusal| match refusal.number {
+        gintubalos::file(price, forward, strike, expiry, kind, limit, rules, book, used).map_err(
+            |refusal| match refusal.number {
                 23 => Failure::Part { refusal, path: path.clone(), bytes: part },
                 _ => Failure::Refusal(refusal),
-            })
+            },
+        )
     };
     let mut book = match BookFile::to_add(&path, false)? {
         Some(book) => book,

@@ -22,17 +22,18 @@ pub fn range(mut arguments: Arguments, out: &mut impl Write) -> Result<u8, Failu
     let markets @ [market, _] = arguments.range()?;
     let limit = arguments.limit()?;
     let table = Table::asked_for(&mut arguments);
-    arguments.end()?;
+    let rules = arguments.end_with_rules()?;
     let prices @ [low, high] = markets.map(|market| market.price);
     let Market { forward, strike, expiry, kind, .. } = market;
     if table.is_some() {
-        write_question(out, "both prices", &[("low price", low), ("high price", high)], &market, limit)?;
+        write_question(out, "both prices", &[("low price", low), ("high price", high)], &market, limit, rules)?;
     }
-    let BidAsk { low: low_end, high: high_end } = bid_ask(low, high, forward, strike, expiry, kind, limit)?;
+    let BidAsk { low: low_end, high: high_end } = bid_ask(low, high, forward, strike, expiry, kind, limit, rules)?;
     let ends = [low_end, high_end];
     if let Some(table) = table {
-        let runs = bid_ask_step_by_step(low, high, forward, strike, expiry, kind, limit.min(MOST_ROWS))?;
-        write_tables(out, markets, ends, [runs.low, runs.high], &table)?;
+        let runs = bid_ask_step_by_step(low, high, forward, strike, expiry, kind, limit.min(MOST_ROWS), rules)?;
+        let targets = markets.map(|market| sought(&market, rules));
+        write_tables(out, prices, targets, ends, [runs.low, runs.high], &table)?;
     }
     write_ends(out, prices, ends)?;
     Ok(ends.into_iter().find_map(Result::err).map_or(0, |refusal| refusal.number))
@@ -41,15 +42,15 @@ pub fn range(mut arguments: Arguments, out: &mut impl Write) -> Result<u8, Failu
 /// The steps of each end, one table after the other: side by side they would not fit 80 characters.
 fn write_tables(
     out: &mut impl Write,
-    markets: [Market; 2],
+    prices: [f64; 2],
+    targets: [Option<f64>; 2],
     ends: [Answer; 2],
     runs: [Run; 2],
     table: &Table,
 ) -> io::Result<()> {
-    let targets = markets.map(|market| sought(&market));
     write_legend(out, &targets)?;
     for (i, name) in ["low", "high"].into_iter().enumerate() {
-        writeln!(out, "At the {name} price, {}:\n", output::decimal(markets[i].price))?;
+        writeln!(out, "At the {name} price, {}:\n", output::decimal(prices[i]))?;
         write_steps(out, &runs[i].trail, targets[i], completed_steps(ends[i]), table)?;
     }
     Ok(())

@@ -7,10 +7,7 @@ use crate::{
     progress::{Progress, PAUSE},
     records::{self, Block, Records},
 };
-use gintubalos::{
-    implied_volatility_from_a_transformed_rational_guess_with_limited_iterations as solve, Record, Refusal,
-    RECORD_BYTES,
-};
+use gintubalos::{solve, Record, Refusal, RuleSet, RECORD_BYTES};
 use std::{
     collections::BTreeMap,
     io::{self, Write},
@@ -43,10 +40,10 @@ struct Findings {
 }
 
 /// Solves a block's records again. Each is a book of its own; a last part is one without a whole slot, which gives 23.
-fn check(block: &Block, done: &AtomicU64) -> Findings {
+fn check(block: &Block, rules: RuleSet, done: &AtomicU64) -> Findings {
     let mut findings = Findings { first: block.first, records: 0, others: Vec::new() };
     for (k, record) in block.records() {
-        let finding = match gintubalos::recheck(record, 1, 0) {
+        let finding = match gintubalos::recheck(record, 1, 0, rules) {
             Ok(true) => None,
             Ok(false) => Some(Finding::Differs(record.try_into().expect("what is solved again is a whole record"))),
             Err(refusal) => Some(Finding::Refused(refusal.number)),
@@ -59,12 +56,12 @@ fn check(block: &Block, done: &AtomicU64) -> Findings {
 }
 
 /// Takes block after block until there is none, or nobody listens any more.
-fn work(records: &Mutex<Records>, done: &AtomicU64, sender: SyncSender<Result<Findings, Failure>>) {
+fn work(records: &Mutex<Records>, rules: RuleSet, done: &AtomicU64, sender: SyncSender<Result<Findings, Failure>>) {
     loop {
         let block = records.lock().expect("no thread panics").block();
         let findings = match block {
             Ok(None) => return,
-            Ok(Some(block)) => Ok(check(&block, done)),
+            Ok(Some(block)) => Ok(check(&block, rules, done)),
             Err(failure) => Err(failure),
         };
         let failed = findings.is_err();
@@ -88,14 +85,14 @@ struct Summary {
 
 impl Summary {
     /// Counts a block, and shows what differs: the first records of a book, or all.
-    fn count(&mut self, findings: Findings, all: bool, out: &mut impl Write) -> io::Result<()> {
+    fn count(&mut self, findings: Findings, options: &Options, out: &mut impl Write) -> io::Result<()> {
         self.records += findings.records;
         self.agree += findings.records - findings.others.len() as u64;
         for (k, finding) in findings.others {
             match finding {
                 Finding::Differs(record) => {
-                    if all || self.differ < MOST_SHOWN {
-                        write_difference(out, k, &Record::from(&record))?;
+                    if options.all || self.differ < MOST_SHOWN {
+                        write_difference(out, k, &Record::from(&record), options.rules)?;
                     }
                     if self.differ < MOST_SHOWN {
                         self.names.push(k.to_string());
@@ -162,11 +159,12 @@ fn headline(filed: f64, solved: f64) -> String {
 }
 
 /// A record that differs: what is filed beside what is solved again.
-fn write_difference(out: &mut impl Write, k: u64, record: &Record) -> io::Result<()> {
+fn write_difference(out: &mut impl Write, k: u64, record: &Record, rules: RuleSet) -> io::Result<()> {
     let (Some(kind), Some(branch), Some(ending)) = (record.kind(), record.branch(), record.ending()) else {
         unreachable!("a record outside the layout is refused");
     };
-    let solved = solve(record.price(), record.forward(), record.strike(), record.expiry(), kind, record.limit());
+    let (price, forward, strike, expiry) = (record.price(), record.forward(), record.strike(), record.expiry());
+    let solved = solve(price, forward, strike, expiry, kind, record.limit(), rules);
     let solved = solved.expect("what is refused does not differ");
     writeln!(out, "record {k} differs: {}", headline(record.volatility(), solved.volatility))?;
     let mut row = |name: &str, filed: String, solved: String| writeln!(out, "  {name:<10}  {filed:<26}  {solved}");
@@ -188,6 +186,7 @@ fn worse(a: u8, b: u8) -> u8 {
 struct Options {
     all: bool,
     jobs: NonZero<usize>,
+    rules: RuleSet,
 }
 
 fn recheck_records(
@@ -204,7 +203,7 @@ fn recheck_records(
         let (sender, receiver) = mpsc::sync_channel(4 * jobs);
         for k in 0..jobs {
             let (records, done, sender) = (&records, &done, sender.clone());
-            match thread::Builder::new().spawn_scoped(scope, move || work(records, done, sender)) {
+            match thread::Builder::new().spawn_scoped(scope, move || work(records, options.rules, done, sender)) {
                 Err(error) if k == 0 => return Err(Failure::Thread { error }),
                 // Those that there are do the work.
                 Err(_) => break,
@@ -223,7 +222,7 @@ fn recheck_records(
                         if !findings.others.is_empty() {
                             progress.clear();
                         }
-                        summary.count(findings, options.all, out)?;
+                        summary.count(findings, options, out)?;
                     }
                 }
                 Err(RecvTimeoutError::Timeout) => {}
@@ -235,9 +234,9 @@ fn recheck_records(
 }
 
 pub fn recheck(mut arguments: Arguments, out: &mut impl Write) -> Result<u8, Failure> {
-    let options = Options { all: arguments.flag("--all"), jobs: arguments.jobs()? };
+    let (all, jobs) = (arguments.flag("--all"), arguments.jobs()?);
     let paths = arguments.paths()?;
-    arguments.end()?;
+    let options = Options { all, jobs, rules: arguments.end_with_rules()? };
     let mut progress = Progress::new(paths.iter().map(|path| records::count(path)).sum());
     let mut status = 0;
     for path in &paths {
@@ -266,9 +265,9 @@ pub fn recheck(mut arguments: Arguments, out: &mut impl Write) -> Result<u8, Fai
     Ok(status)
 }
 
-/// A book in memory; the status is a recheck's.
+/// A book in memory, filed under the original library's rules; the status is a recheck's.
 pub fn recheck_bytes(book: &'static [u8], out: &mut impl Write) -> Result<u8, Failure> {
-    let options = Options { all: false, jobs: NonZero::<usize>::MIN };
+    let options = Options { all: false, jobs: NonZero::<usize>::MIN, rules: RuleSet::Original };
     let summary = recheck_records(Records::of(book), &options, &mut Progress::new(0), out)?;
     summary.write(out)?;
     Ok(summary.status())

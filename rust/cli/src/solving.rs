@@ -5,10 +5,7 @@ use crate::{
     failure::Failure,
     output,
 };
-use gintubalos::{
-    completed_steps, implied_volatility_from_a_transformed_rational_guess_step_by_step as step_by_step,
-    implied_volatility_from_a_transformed_rational_guess_with_limited_iterations as limited, target, Step,
-};
+use gintubalos::{completed_steps, solve_step_by_step, target, RuleSet, Step};
 use std::io::{self, Write};
 
 /// So many steps are shown. By demand 3 a run with a lower limit has the same first records.
@@ -30,17 +27,23 @@ pub fn solve(mut arguments: Arguments, out: &mut impl Write) -> Result<(), Failu
     let market = arguments.market()?;
     let limit = arguments.limit()?;
     let table = Table::asked_for(&mut arguments);
-    arguments.end()?;
-    write_solution(&market, limit, table, out)
+    let rules = arguments.end_with_rules()?;
+    write_solution(&market, limit, rules, table, out)
 }
 
-pub fn write_solution(market: &Market, limit: i32, table: Option<Table>, out: &mut impl Write) -> Result<(), Failure> {
+pub fn write_solution(
+    market: &Market,
+    limit: i32,
+    rules: RuleSet,
+    table: Option<Table>,
+    out: &mut impl Write,
+) -> Result<(), Failure> {
     let &Market { price, forward, strike, expiry, kind } = market;
-    let answer = limited(price, forward, strike, expiry, kind, limit);
+    let answer = gintubalos::solve(price, forward, strike, expiry, kind, limit, rules);
     if let Some(table) = table {
-        let run = step_by_step(price, forward, strike, expiry, kind, limit.min(MOST_ROWS));
-        let sought = sought(market);
-        write_question(out, "this price", &[("price", price)], market, limit)?;
+        let run = solve_step_by_step(price, forward, strike, expiry, kind, limit.min(MOST_ROWS), rules);
+        let sought = sought(market, rules);
+        write_question(out, "this price", &[("price", price)], market, limit, rules)?;
         write_legend(out, &[sought])?;
         write_steps(out, &run.trail, sought, completed_steps(answer), &table)?;
     }
@@ -50,24 +53,28 @@ pub fn write_solution(market: &Market, limit: i32, table: Option<Table>, out: &m
     Ok(())
 }
 
-/// What is asked, at one price or at two.
+/// What is asked, at one price or at two, and under which rules, if they are not the original library's.
 pub fn write_question(
     out: &mut impl Write,
     at: &str,
     prices: &[(&str, f64)],
     market: &Market,
     limit: i32,
+    rules: RuleSet,
 ) -> io::Result<()> {
-    writeln!(out, "Asked for: the volatility of a {} at {at}, with a limit of {limit}", market.kind)?;
-    writeln!(out)?;
+    write!(out, "Asked for: the volatility of a {} at {at}, with a limit of {limit}", market.kind)?;
+    if rules != RuleSet::Original {
+        write!(out, ",\nunder rule set {}: {rules}", rules.number())?;
+    }
+    writeln!(out, "\n")?;
     let others = [("forward", market.forward), ("strike", market.strike), ("expiry", market.expiry)];
     prices.iter().chain(&others).try_for_each(|(name, x)| output::float(out, name, *x))?;
     writeln!(out)
 }
 
 /// The loop's target, none where there is no loop.
-pub fn sought(market: &Market) -> Option<f64> {
-    target(market.price, market.forward, market.strike, market.expiry, market.kind).ok().flatten()
+pub fn sought(market: &Market, rules: RuleSet) -> Option<f64> {
+    target(market.price, market.forward, market.strike, market.expiry, market.kind, rules).ok().flatten()
 }
 
 /// What the table's words mean.

@@ -11,7 +11,12 @@
  * that has set MXCSR otherwise (-ffast-math does, at its start) gets other bits. gintubalos_environment_is_default says
  * whether it holds.
  *
- * A kind is 1 for a Call, 2 for a Put; any other is refused with 24 before all else.
+ * A rule set is a number. Rule set 0 is the original library's: a Call is capped at the strike, a Put at the forward; from
+ * that price on the answer is the above-maximum sentinel. Rule set 1 is the textbook's caps: a Call is capped at the
+ * forward, a Put at the strike; all else is rule set 0. Any other number is refused with 32 before all else, but at a
+ * recheck after 23 and 24. The Black price does not depend on it, and relist's line is solved under rule set 0.
+ *
+ * A kind is 1 for a Call, 2 for a Put; any other is refused with 24 after 32, at the Black price before all else.
  *
  * The numbers of a refusal, by cause:
  *    1 the price is not finite
@@ -25,6 +30,7 @@
  *   23 the record number is not below the used count, or that count is above the book's whole slots
  *   24 the record's kind, branch, ending or spare bytes are outside the layout
  *   31 the low price is above the high price
+ *   32 the rule set is unknown
  */
 #ifndef GINTUBALOS_H
 #define GINTUBALOS_H
@@ -39,6 +45,10 @@ extern "C" {
 
 #define GINTUBALOS_CALL 1
 #define GINTUBALOS_PUT 2
+
+/* The rule sets: the original library's caps, and the textbook's. */
+#define GINTUBALOS_RULE_SET_0 0u
+#define GINTUBALOS_RULE_SET_1 1u
 
 /* The bytes of a step's record in a trail and of a record in a book, and those that any line of relist fits in. */
 #define GINTUBALOS_STEP_BYTES 48
@@ -66,51 +76,56 @@ static inline int gintubalos_environment_is_default(void) {
 uint64_t gintubalos_black(uint64_t forward, uint64_t strike, uint64_t sigma, uint64_t expiry, uint8_t kind,
                           uint8_t *number);
 
-/* The volatility's bits after two steps at most, a NaN's where it is refused: 1 to 4, then 6 or 7. */
-uint64_t gintubalos_implied_volatility_from_a_transformed_rational_guess(
-    uint64_t price, uint64_t forward, uint64_t strike, uint64_t expiry, uint8_t kind, uint64_t *outcome);
+/* The volatility's bits after two steps at most, a NaN's where it is refused: 32, 24 (kind), 1 to 4, then 6 or 7. */
+uint64_t gintubalos_implied_volatility_from_a_transformed_rational_guess(uint64_t price, uint64_t forward, uint64_t strike,
+                                                                         uint64_t expiry, uint8_t kind, uint32_t rule_set,
+                                                                         uint64_t *outcome);
 
 /* The same with any limit. */
-uint64_t gintubalos_implied_volatility_from_a_transformed_rational_guess_with_limited_iterations(
-    uint64_t price, uint64_t forward, uint64_t strike, uint64_t expiry, uint8_t kind, int32_t limit, uint64_t *outcome);
+uint64_t gintubalos_solve_without_trail(uint64_t price, uint64_t forward, uint64_t strike, uint64_t expiry, uint8_t kind,
+                                        int32_t limit, uint32_t rule_set, uint64_t *outcome);
 
-/* The same with any limit and a trail: 1 to 4, 21, then 6 or 7. Record i is at byte 48 x i: s, computed price b, vega, left
- * end and right end after the move, s after; six floats, little-endian. Bytes after the last record stay. */
-uint64_t gintubalos_implied_volatility_from_a_transformed_rational_guess_with_trail(
-    uint64_t price, uint64_t forward, uint64_t strike, uint64_t expiry, uint8_t kind, int32_t limit, uint8_t *trail,
-    size_t trail_length, uint64_t *outcome);
+/* The same with any limit and a trail: 32, 24 (kind), 1 to 4, 21, then 6 or 7. Record i is at byte 48 x i: s, computed price
+ * b, vega, left end and right end after the move, s after; six floats, little-endian. Bytes after the last record stay. */
+uint64_t gintubalos_solve_with_trail(uint64_t price, uint64_t forward, uint64_t strike, uint64_t expiry, uint8_t kind,
+                                     int32_t limit, uint32_t rule_set, uint8_t *trail, size_t trail_length,
+                                     uint64_t *outcome);
 
 /* The bits of the price that the loop seeks, out of the money and normalised: what the prices b of its records come near to.
- * A NaN's where the answer comes without a loop, with 0 in `number`, and where it is refused: 1 to 4, then 6 or 7. */
+ * A NaN's where the answer comes without a loop, with 0 in `number`, and where it is refused: 32, 24 (kind), 1 to 4, then 6
+ * or 7. */
 uint64_t gintubalos_target(uint64_t price, uint64_t forward, uint64_t strike, uint64_t expiry, uint8_t kind,
-                           uint8_t *number);
+                           uint32_t rule_set, uint8_t *number);
 
 /* Bid and ask together: each end has the volatility's bits, the outcome and, in its own trail, the records that the single
  * call with a trail gives for its price. A 6 or 7 is in its own end's outcome, and the other end still runs. Neither the two
- * trails nor the four words may overlap. The answer is 0, or the number that refuses the whole call: 24 (kind), 1 for low,
- * 1 for high, 31, 2, 3, 4, 21 for the low trail, 21 for the high one. Then both trails stay, both volatilities are a NaN's
- * bits and both outcomes hold that number. */
+ * trails nor the four words may overlap. The answer is 0, or the number that refuses the whole call: 32, 24 (kind), 1 for
+ * low, 1 for high, 31, 2, 3, 4, 21 for the low trail, 21 for the high one. Then both trails stay, both volatilities are a
+ * NaN's bits and both outcomes hold that number. */
 uint8_t gintubalos_bid_ask(uint64_t low, uint64_t high, uint64_t forward, uint64_t strike, uint64_t expiry, uint8_t kind,
-                           int32_t limit, uint8_t *low_trail, size_t low_trail_length, uint8_t *high_trail,
-                           size_t high_trail_length, uint64_t *low_volatility, uint64_t *low_outcome,
+                           int32_t limit, uint32_t rule_set, uint8_t *low_trail, size_t low_trail_length,
+                           uint8_t *high_trail, size_t high_trail_length, uint64_t *low_volatility, uint64_t *low_outcome,
                            uint64_t *high_volatility, uint64_t *high_outcome);
 
 /* The same without trails. */
 uint8_t gintubalos_bid_ask_without_trails(uint64_t low, uint64_t high, uint64_t forward, uint64_t strike, uint64_t expiry,
-                                          uint8_t kind, int32_t limit, uint64_t *low_volatility, uint64_t *low_outcome,
-                                          uint64_t *high_volatility, uint64_t *high_outcome);
+                                          uint8_t kind, int32_t limit, uint32_t rule_set, uint64_t *low_volatility,
+                                          uint64_t *low_outcome, uint64_t *high_volatility, uint64_t *high_outcome);
 
 /* ---- The book. A record has 64 bytes, little-endian: at 0 price, 8 forward, 16 strike, 24 expiry, 32 volatility (floats);
- * 40 limit (int32_t); 44 steps (uint32_t); 48 kind; 49 branch; 50 ending; 51 to 63 zero. ---- */
+ * 40 limit (int32_t); 44 steps (uint32_t); 48 kind; 49 branch; 50 ending; 51 to 63 zero. A record does not name its rule
+ * set. ---- */
 
-/* Solves and writes slot `used`. The used count after it, 0 where it is refused: 1 to 4, 23, 22, then 6 or 7; the book then
- * stays. The outcome has number and steps of a refusal, else 0: branch, ending and steps are in the book. */
+/* Solves and writes slot `used`. The used count after it, 0 where it is refused: 32, 24 (kind), 1 to 4, 23, 22, then 6 or 7;
+ * the book then stays. The outcome has number and steps of a refusal, else 0: branch, ending and steps are in the book. */
 uint64_t gintubalos_file(uint64_t price, uint64_t forward, uint64_t strike, uint64_t expiry, uint8_t kind, int32_t limit,
-                         uint8_t *book, size_t book_length, uint64_t used, uint64_t *outcome);
+                         uint32_t rule_set, uint8_t *book, size_t book_length, uint64_t used, uint64_t *outcome);
 
-/* Solves record k again: 1 where volatility, steps, branch and ending agree, 0 where one differs or it is refused: 23, 24,
- * 1 to 4, then 6 or 7. The outcome has number and steps of a refusal, else 0. */
-uint8_t gintubalos_recheck(const uint8_t *book, size_t book_length, uint64_t used, uint64_t k, uint64_t *outcome);
+/* Solves record k again under the rule set that it was filed under: 1 where volatility, steps, branch and ending agree, 0
+ * where one differs or it is refused: 23, 24, 32, 1 to 4, then 6 or 7. The outcome has number and steps of a refusal, else
+ * 0. Under the other rule set a price between the two caps can differ. */
+uint8_t gintubalos_recheck(const uint8_t *book, size_t book_length, uint64_t used, uint64_t k, uint32_t rule_set,
+                           uint64_t *outcome);
 
 /* The byte at which record k's part of the book begins, and 0 in `number`; or 0, and 23 there. */
 uint64_t gintubalos_read(const uint8_t *book, size_t book_length, uint64_t used, uint64_t k, uint8_t *number);

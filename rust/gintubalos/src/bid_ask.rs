@@ -4,7 +4,7 @@ use crate::{
     bits, completed_steps,
     environment::in_default,
     solution::{limit_for, to_solution, trail_for},
-    OptionType, Refusal, Run, Solution,
+    OptionType, Refusal, RuleSet, Run, Solution,
 };
 
 /// What the two prices yield, each as the single call has it. A 6 or 7 is its own end's: the other end has its answer.
@@ -26,23 +26,24 @@ fn to_bid_ask((number, [low, high]): (u8, [(u64, u64); 2])) -> Result<BidAsk, Re
 }
 
 /// The implied volatilities of a low and of a high price of one option, each after `max_iteration` steps at most, and each
-/// what the single call with that limit gives for its price. Of the prices between them nothing is said: a computed
-/// volatility need not rise with the price.
+/// what the single call with that limit and those rules gives for its price. Of the prices between them nothing is said: a
+/// computed volatility need not rise with the price.
 ///
 /// The whole call is refused with 1 for the low price, with 1 for the high one, with 31 where the low one is above the high
 /// one, then with 2 to 4. A later 6 or 7 is one end's.
 ///
 /// ```
-/// use gintubalos::{bid_ask, OptionType};
+/// use gintubalos::{bid_ask, OptionType::Call, RuleSet};
 ///
-/// let both = bid_ask(9.5, 10.5, 100.0, 95.0, 1.0, OptionType::Call, 2)?;
+/// let both = bid_ask(9.5, 10.5, 100.0, 95.0, 1.0, Call, 2, RuleSet::Original)?;
 /// assert_eq!(both.low?.volatility.to_bits(), 0x3FC6_192C_31EA_4EC4);
 /// assert_eq!(both.high?.volatility.to_bits(), 0x3FC9_887E_D415_8FB4);
 ///
-/// let exchanged = bid_ask(10.5, 9.5, 100.0, 95.0, 1.0, OptionType::Call, 2);
+/// let exchanged = bid_ask(10.5, 9.5, 100.0, 95.0, 1.0, Call, 2, RuleSet::Original);
 /// assert_eq!(exchanged.unwrap_err().to_string(), "refused with 31: the low price is above the high price");
 /// # Ok::<(), gintubalos::Refusal>(())
 /// ```
+#[allow(clippy::too_many_arguments)]
 #[inline]
 pub fn bid_ask(
     low_price: f64,
@@ -52,11 +53,13 @@ pub fn bid_ask(
     time_to_maturity: f64,
     option_type: OptionType,
     max_iteration: i32,
+    rules: RuleSet,
 ) -> Result<BidAsk, Refusal> {
     let [low, high, forward, strike, expiry] =
         [low_price, high_price, forward_price, strike_price, time_to_maturity].map(f64::to_bits);
+    let (kind, rules) = (option_type.byte(), rules.number());
     to_bid_ask(in_default(move || {
-        bits::bid_ask_without_trails(low, high, forward, strike, expiry, option_type.byte(), max_iteration)
+        bits::bid_ask_without_trails(low, high, forward, strike, expiry, kind, max_iteration, rules)
     }))
 }
 
@@ -70,7 +73,7 @@ pub fn bid_ask(
 ///
 /// let (mut low_trail, mut high_trail) = ([0; 3 * STEP_BYTES], [0; 3 * STEP_BYTES]);
 /// let both = bid_ask_with_trails(
-///     9.5, 10.5, 100.0, 95.0, 1.0, OptionType::Call, 3, &mut low_trail, &mut high_trail,
+///     9.5, 10.5, 100.0, 95.0, 1.0, OptionType::Call, 3, RuleSet::Original, &mut low_trail, &mut high_trail,
 /// )?;
 /// // With an expiry of 1 the volatility is the last step's s after.
 /// let last = |trail, steps| gintubalos::steps(trail, steps).last().expect("a step").s_after;
@@ -88,13 +91,15 @@ pub fn bid_ask_with_trails(
     time_to_maturity: f64,
     option_type: OptionType,
     max_iteration: i32,
+    rules: RuleSet,
     low_trail: &mut [u8],
     high_trail: &mut [u8],
 ) -> Result<BidAsk, Refusal> {
     let [low, high, forward, strike, expiry] =
         [low_price, high_price, forward_price, strike_price, time_to_maturity].map(f64::to_bits);
+    let (kind, rules) = (option_type.byte(), rules.number());
     to_bid_ask(in_default(move || {
-        bits::bid_ask(low, high, forward, strike, expiry, option_type.byte(), max_iteration, low_trail, high_trail)
+        bits::bid_ask(low, high, forward, strike, expiry, kind, max_iteration, rules, low_trail, high_trail)
     }))
 }
 
@@ -111,14 +116,15 @@ pub struct BidAskRuns {
 /// call is refused with 1, 31, 2 to 4, and with 21 where there is no memory for the trails.
 ///
 /// ```
-/// use gintubalos::{bid_ask_step_by_step, OptionType};
+/// use gintubalos::{bid_ask_step_by_step, OptionType::Call, RuleSet};
 ///
-/// let runs = bid_ask_step_by_step(9.5, 10.5, 100.0, 95.0, 1.0, OptionType::Call, i32::MAX)?;
+/// let runs = bid_ask_step_by_step(9.5, 10.5, 100.0, 95.0, 1.0, Call, i32::MAX, RuleSet::Original)?;
 /// for run in [runs.low, runs.high] {
 ///     assert_eq!(run.trail.len(), run.answer?.steps as usize);
 /// }
 /// # Ok::<(), gintubalos::Refusal>(())
 /// ```
+#[allow(clippy::too_many_arguments)]
 pub fn bid_ask_step_by_step(
     low_price: f64,
     high_price: f64,
@@ -127,10 +133,19 @@ pub fn bid_ask_step_by_step(
     time_to_maturity: f64,
     option_type: OptionType,
     max_iteration: i32,
+    rules: RuleSet,
 ) -> Result<BidAskRuns, Refusal> {
     // The call without trails gives the numbers of steps; the larger one does for both.
-    let first =
-        bid_ask(low_price, high_price, forward_price, strike_price, time_to_maturity, option_type, max_iteration)?;
+    let first = bid_ask(
+        low_price,
+        high_price,
+        forward_price,
+        strike_price,
+        time_to_maturity,
+        option_type,
+        max_iteration,
+        rules,
+    )?;
     let limit = limit_for(completed_steps(first.low).max(completed_steps(first.high)), max_iteration);
     let (mut low_trail, mut high_trail) = (trail_for(limit), trail_for(limit));
     let both = bid_ask_with_trails(
@@ -141,6 +156,7 @@ pub fn bid_ask_step_by_step(
         time_to_maturity,
         option_type,
         limit,
+        rules,
         &mut low_trail,
         &mut high_trail,
     )?;

@@ -284,6 +284,7 @@ pub fn bid_ask(
 }
 
 /// The same without trails.
+#[allow(clippy::too_many_arguments)]
 #[inline]
 pub fn bid_ask_without_trails(
     low: u64,

@@ -1,6 +1,6 @@
 //! The book of 64-byte records, and relist's line.
 
-use crate::{bits, environment::in_default, Branch, Ending, OptionType, Refusal, Sentinel};
+use crate::{bits, environment::in_default, Branch, Ending, OptionType, Refusal, RuleSet, Sentinel};
 use std::iter::FusedIterator;
 
 /// The bytes of a record in a book.
@@ -10,10 +10,10 @@ pub const RECORD_BYTES: usize = 64;
 /// [`recheck`] to say.
 ///
 /// ```
-/// use gintubalos::{file, read, Branch, OptionType};
+/// use gintubalos::{file, read, Branch, OptionType, RuleSet};
 ///
 /// let mut book = [0; 64];
-/// file(10.0, 100.0, 95.0, 1.0, OptionType::Call, 2, &mut book, 0)?;
+/// file(10.0, 100.0, 95.0, 1.0, OptionType::Call, 2, RuleSet::Original, &mut book, 0)?;
 /// let record = read(&book, 1, 0)?;
 /// assert_eq!((record.price(), record.forward(), record.strike(), record.expiry()), (10.0, 100.0, 95.0, 1.0));
 /// assert_eq!((record.kind(), record.limit()), (Some(OptionType::Call), 2));
@@ -95,14 +95,14 @@ impl<'a> Record<'a> {
 
 /// Solves and writes the record to slot `used`; answers `used` + 1. Refused with 1 to 4, with 23 where `used` is above the
 /// book's whole slots, with 22 where none is free, then 6 or 7; the book then stays as it is. A part slot at the book's
-/// end always stays.
+/// end always stays. A record does not name its rule set: whoever files has to know it at a [`recheck`].
 ///
 /// ```
-/// use gintubalos::{file, OptionType::Put};
+/// use gintubalos::{file, OptionType::Put, RuleSet};
 ///
 /// let mut book = [0; 100];
-/// assert_eq!(file(10.0, 100.0, 95.0, 1.0, Put, 2, &mut book, 0), Ok(1));
-/// assert_eq!(file(10.0, 100.0, 95.0, 1.0, Put, 2, &mut book, 1).unwrap_err().number, 22);
+/// assert_eq!(file(10.0, 100.0, 95.0, 1.0, Put, 2, RuleSet::Original, &mut book, 0), Ok(1));
+/// assert_eq!(file(10.0, 100.0, 95.0, 1.0, Put, 2, RuleSet::Original, &mut book, 1).unwrap_err().number, 22);
 /// ```
 #[allow(clippy::too_many_arguments)]
 pub fn file(
@@ -112,31 +112,34 @@ pub fn file(
     time_to_maturity: f64,
     option_type: OptionType,
     max_iteration: i32,
+    rules: RuleSet,
     book: &mut [u8],
     used: u64,
 ) -> Result<u64, Refusal> {
     let [price, forward, strike, expiry] =
         [market_price, forward_price, strike_price, time_to_maturity].map(f64::to_bits);
+    let (kind, rules) = (option_type.byte(), rules.number());
     let (count, outcome) =
-        in_default(|| bits::file(price, forward, strike, expiry, option_type.byte(), max_iteration, book, used));
+        in_default(|| bits::file(price, forward, strike, expiry, kind, max_iteration, rules, book, used));
     refusal(outcome).map_or(Ok(count), Err)
 }
 
-/// Solves record `k` again, and says whether its volatility, steps, branch and ending are the same to the last bit. Refused
-/// with 23, 24, 1 to 4, then 6 or 7.
+/// Solves record `k` again under the rules that it was filed under, and says whether its volatility, steps, branch and
+/// ending are the same to the last bit. Under other rules they can differ where the price is between the two caps, and only
+/// there. Refused with 23, 24, 1 to 4, then 6 or 7.
 ///
 /// ```
-/// use gintubalos::{file, recheck, OptionType::Put};
+/// use gintubalos::{file, recheck, OptionType::Put, RuleSet};
 ///
 /// let mut book = [0; 64];
-/// file(10.0, 100.0, 95.0, 1.0, Put, 2, &mut book, 0)?;
-/// assert_eq!(recheck(&book, 1, 0), Ok(true));
+/// file(10.0, 100.0, 95.0, 1.0, Put, 2, RuleSet::Original, &mut book, 0)?;
+/// assert_eq!(recheck(&book, 1, 0, RuleSet::Original), Ok(true));
 /// book[32] ^= 1;
-/// assert_eq!(recheck(&book, 1, 0), Ok(false));
+/// assert_eq!(recheck(&book, 1, 0, RuleSet::Original), Ok(false));
 /// # Ok::<(), gintubalos::Refusal>(())
 /// ```
-pub fn recheck(book: &[u8], used: u64, k: u64) -> Result<bool, Refusal> {
-    let (agrees, outcome) = in_default(|| bits::recheck(book, used, k));
+pub fn recheck(book: &[u8], used: u64, k: u64, rules: RuleSet) -> Result<bool, Refusal> {
+    let (agrees, outcome) = in_default(|| bits::recheck(book, used, k, rules.number()));
     refusal(outcome).map_or(Ok(agrees == 1), Err)
 }
 
@@ -162,11 +165,11 @@ pub fn read(book: &[u8], used: u64, k: u64) -> Result<Record<'_>, Refusal> {
 /// The records of a book, from 0 on. Refused with 23 where `used` is above the book's whole slots.
 ///
 /// ```
-/// use gintubalos::{file, records, OptionType::Call};
+/// use gintubalos::{file, records, OptionType::Call, RuleSet};
 ///
 /// let mut book = [0; 128];
-/// file(9.0, 100.0, 95.0, 1.0, Call, 2, &mut book, 0)?;
-/// file(10.0, 100.0, 95.0, 1.0, Call, 2, &mut book, 1)?;
+/// file(9.0, 100.0, 95.0, 1.0, Call, 2, RuleSet::Original, &mut book, 0)?;
+/// file(10.0, 100.0, 95.0, 1.0, Call, 2, RuleSet::Original, &mut book, 1)?;
 /// let prices: Vec<f64> = records(&book, 2)?.map(|record| record.price()).collect();
 /// assert_eq!(prices, [9.0, 10.0]);
 /// assert_eq!(records(&book, 3).unwrap_err().number, 23);
@@ -207,7 +210,8 @@ impl ExactSizeIterator for Records<'_> {}
 impl FusedIterator for Records<'_> {}
 
 /// The line that `relist` writes for the record, its line feed included: record number, volatility bits, steps, branch and
-/// ending, or "REF" and the number. The bytes are a record's, or a last part under 64 bytes, which gives 23.
+/// ending, or "REF" and the number. Its rules are [`RuleSet::Original`]'s, whatever the record was filed under. The bytes
+/// are a record's, or a last part under 64 bytes, which gives 23.
 ///
 /// ```
 /// let mut record = [0; 64];

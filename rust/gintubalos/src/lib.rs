@@ -31,6 +31,10 @@
 //! # Ok::<(), gintubalos::Refusal>(())
 //! ```
 //!
+//! The functions that have the original's names have its rules. [`solve`](solve()) takes a [`RuleSet`], as do the other
+//! calls that solve: the original library's rules, or the textbook's caps, under which a Call is capped at the forward and
+//! a Put at the strike. relist's line has the original's rules.
+//!
 //! [`bid_ask`](bid_ask()) solves at a low and at a high price together, as a settlement sheet gives them. [`file`](file()),
 //! [`recheck`] and [`read`] keep a book of such answers in 64-byte records, and [`line`](line()) is relist's line of one.
 //! What is refused is a [`Refusal`], which has the number, its meaning in words and the completed steps.
@@ -45,12 +49,14 @@ mod kinds;
 #[cfg(feature = "probe")]
 pub mod probe;
 mod refusal;
+mod rule_set;
 mod solution;
 
 pub use bid_ask::*;
 pub use book::*;
 pub use kinds::*;
 pub use refusal::*;
+pub use rule_set::*;
 pub use solution::*;
 
 /// The original library's path for its two functions.

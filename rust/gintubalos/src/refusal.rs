@@ -13,7 +13,8 @@ use std::{error::Error, fmt};
 /// ```
 #[derive(Clone, Copy, Debug, PartialEq, Eq)]
 pub struct Refusal {
-    /// 1 to 8 from the input, 21 to 24 from the state, 31 from a low and a high price together.
+    /// 1 to 8 from the input, 21 to 24 from the state, 31 from a low and a high price together, 32 from a rule set's
+    /// number.
     pub number: u8,
     /// 0 unless 7 comes inside a loop: the records of so many steps then stand in the trail.
     pub steps: u32,
@@ -21,7 +22,7 @@ pub struct Refusal {
 
 impl Refusal {
     /// Every number that a call refuses with, from documents 01 and 02.
-    pub const NUMBERS: [u8; 13] = [1, 2, 3, 4, 5, 6, 7, 8, 21, 22, 23, 24, 31];
+    pub const NUMBERS: [u8; 14] = [1, 2, 3, 4, 5, 6, 7, 8, 21, 22, 23, 24, 31, 32];
 
     /// The number's meaning in words.
     ///
@@ -44,6 +45,7 @@ impl Refusal {
             23 => "the record number is not below the used count, or that count is above the book's whole slots",
             24 => "the record's kind, branch, ending or spare bytes are outside the layout",
             31 => "the low price is above the high price",
+            32 => "the rule set is unknown",
             _ => "a number that document 01 does not have",
         }
     }

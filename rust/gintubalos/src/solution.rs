@@ -1,6 +1,6 @@
-//! solve: the wrapper with limit 2, with any limit, and with its steps; its loop's target; and the Black price.
+//! solve: with any limit, and with its steps; its loop's target; the original library's functions, and the Black price.
 
-use crate::{bits, environment::in_default, Branch, Ending, OptionType, Refusal, Sentinel};
+use crate::{bits, environment::in_default, Branch, Ending, OptionType, Refusal, RuleSet, Sentinel};
 
 /// The bytes of a step's record in a trail.
 pub const STEP_BYTES: usize = 48;
@@ -9,7 +9,7 @@ pub const STEP_BYTES: usize = 48;
 #[derive(Clone, Copy, Debug, PartialEq)]
 pub struct Solution {
     /// The volatility. In branch 0: −f64::MAX for a price below the intrinsic value; f64::MAX, over √expiry where it is found
-    /// after normalising, for one at or above the cap; 0 for the intrinsic value itself.
+    /// after normalising, for one at or above the rule set's cap; 0 for the intrinsic value itself.
     pub volatility: f64,
     /// The branch that gave it.
     pub branch: Branch,
@@ -23,13 +23,11 @@ impl Solution {
     /// What the volatility stands for where none is meant.
     ///
     /// ```
-    /// use gintubalos::{
-    ///     implied_volatility_from_a_transformed_rational_guess_with_limited_iterations as solve, OptionType, Sentinel,
-    /// };
+    /// use gintubalos::{solve, OptionType::Call, RuleSet, Sentinel};
     ///
-    /// let below = solve(99.0, 200.0, 100.0, 1.0, OptionType::Call, 2)?;
+    /// let below = solve(99.0, 200.0, 100.0, 1.0, Call, 2, RuleSet::Original)?;
     /// assert_eq!(below.sentinel(), Some(Sentinel::BelowIntrinsic));
-    /// assert_eq!(solve(10.0, 100.0, 95.0, 1.0, OptionType::Call, 2)?.sentinel(), None);
+    /// assert_eq!(solve(10.0, 100.0, 95.0, 1.0, Call, 2, RuleSet::Original)?.sentinel(), None);
     /// # Ok::<(), gintubalos::Refusal>(())
     /// ```
     pub fn sentinel(&self) -> Option<Sentinel> {
@@ -84,8 +82,8 @@ pub(crate) fn to_solution((volatility, outcome): (u64, u64)) -> Result<Solution,
     }
 }
 
-/// The implied volatility of a price, after two steps at most: the original library's function. Refused with 1 to 4, then
-/// 6 or 7.
+/// The implied volatility of a price, after two steps at most: the original library's function, with its rules. Refused with
+/// 1 to 4, then 6 or 7.
 ///
 /// ```
 /// use gintubalos::{implied_volatility_from_a_transformed_rational_guess, OptionType};
@@ -105,25 +103,23 @@ pub fn implied_volatility_from_a_transformed_rational_guess(
 ) -> Result<f64, Refusal> {
     let [price, forward, strike, expiry] =
         [market_price, forward_price, strike_price, time_to_maturity].map(f64::to_bits);
+    let (kind, rules) = (option_type.byte(), RuleSet::Original.number());
     to_solution(in_default(move || {
-        bits::implied_volatility_from_a_transformed_rational_guess(price, forward, strike, expiry, option_type.byte())
+        bits::implied_volatility_from_a_transformed_rational_guess(price, forward, strike, expiry, kind, rules)
     }))
     .map(|solution| solution.volatility)
 }
 
-/// The implied volatility after `max_iteration` steps at most, with branch, ending and steps. A limit of 0 or less takes no
-/// step. Refused with 1 to 4, then 6 or 7.
+/// [`solve`] under [`RuleSet::Original`], by the original library's name.
 ///
 /// ```
 /// use gintubalos::{
-///     implied_volatility_from_a_transformed_rational_guess_with_limited_iterations, Branch, Ending, OptionType,
+///     implied_volatility_from_a_transformed_rational_guess_with_limited_iterations as limited, solve, OptionType::Call,
+///     RuleSet,
 /// };
 ///
-/// let solution = implied_volatility_from_a_transformed_rational_guess_with_limited_iterations(
-///     10.0, 100.0, 95.0, 1.0, OptionType::Call, 1,
-/// )?;
-/// assert_eq!((solution.branch, solution.ending, solution.steps), (Branch::LowerMiddle, Ending::Limit, 1));
-/// # Ok::<(), gintubalos::Refusal>(())
+/// let of_the_original = limited(120.0, 200.0, 100.0, 1.0, Call, 1);
+/// assert_eq!(of_the_original, solve(120.0, 200.0, 100.0, 1.0, Call, 1, RuleSet::Original));
 /// ```
 #[inline]
 pub fn implied_volatility_from_a_transformed_rational_guess_with_limited_iterations(
@@ -134,17 +130,34 @@ pub fn implied_volatility_from_a_transformed_rational_guess_with_limited_iterati
     option_type: OptionType,
     max_iteration: i32,
 ) -> Result<Solution, Refusal> {
+    solve(market_price, forward_price, strike_price, time_to_maturity, option_type, max_iteration, RuleSet::Original)
+}
+
+/// The implied volatility after `max_iteration` steps at most, with branch, ending and steps. A limit of 0 or less takes no
+/// step. Refused with 1 to 4, then 6 or 7.
+///
+/// ```
+/// use gintubalos::{solve, Branch, Ending, OptionType, RuleSet};
+///
+/// let solution = solve(10.0, 100.0, 95.0, 1.0, OptionType::Call, 1, RuleSet::Original)?;
+/// assert_eq!((solution.branch, solution.ending, solution.steps), (Branch::LowerMiddle, Ending::Limit, 1));
+/// # Ok::<(), gintubalos::Refusal>(())
+/// ```
+#[inline]
+pub fn solve(
+    market_price: f64,
+    forward_price: f64,
+    strike_price: f64,
+    time_to_maturity: f64,
+    option_type: OptionType,
+    max_iteration: i32,
+    rules: RuleSet,
+) -> Result<Solution, Refusal> {
     let [price, forward, strike, expiry] =
         [market_price, forward_price, strike_price, time_to_maturity].map(f64::to_bits);
+    let (kind, rules) = (option_type.byte(), rules.number());
     to_solution(in_default(move || {
-        bits::implied_volatility_from_a_transformed_rational_guess_with_limited_iterations(
-            price,
-            forward,
-            strike,
-            expiry,
-            option_type.byte(),
-            max_iteration,
-        )
+        bits::solve_without_trail(price, forward, strike, expiry, kind, max_iteration, rules)
     }))
 }
 
@@ -156,36 +169,30 @@ pub fn implied_volatility_from_a_transformed_rational_guess_with_limited_iterati
 /// use gintubalos::*;
 ///
 /// let mut trail = [0; 3 * STEP_BYTES];
-/// let solution = implied_volatility_from_a_transformed_rational_guess_with_trail(
-///     10.0, 100.0, 95.0, 1.0, OptionType::Call, 3, &mut trail,
-/// )?;
+/// let solution =
+///     solve_with_trail(10.0, 100.0, 95.0, 1.0, OptionType::Call, 3, RuleSet::Original, &mut trail)?;
 /// // With an expiry of 1 the volatility is the last step's s after.
 /// let last = steps(&trail, solution.steps).last().expect("a step");
 /// assert_eq!(last.s_after, solution.volatility);
 /// # Ok::<(), Refusal>(())
 /// ```
+#[allow(clippy::too_many_arguments)]
 #[inline]
-pub fn implied_volatility_from_a_transformed_rational_guess_with_trail(
+pub fn solve_with_trail(
     market_price: f64,
     forward_price: f64,
     strike_price: f64,
     time_to_maturity: f64,
     option_type: OptionType,
     max_iteration: i32,
+    rules: RuleSet,
     trail: &mut [u8],
 ) -> Result<Solution, Refusal> {
     let [price, forward, strike, expiry] =
         [market_price, forward_price, strike_price, time_to_maturity].map(f64::to_bits);
+    let (kind, rules) = (option_type.byte(), rules.number());
     to_solution(in_default(move || {
-        bits::implied_volatility_from_a_transformed_rational_guess_with_trail(
-            price,
-            forward,
-            strike,
-            expiry,
-            option_type.byte(),
-            max_iteration,
-            trail,
-        )
+        bits::solve_with_trail(price, forward, strike, expiry, kind, max_iteration, rules, trail)
     }))
 }
 
@@ -246,42 +253,35 @@ pub(crate) fn trail_for(limit: i32) -> Vec<u8> {
 /// no memory for the trail.
 ///
 /// ```
-/// use gintubalos::{implied_volatility_from_a_transformed_rational_guess_step_by_step, OptionType};
+/// use gintubalos::{solve_step_by_step, OptionType, RuleSet};
 ///
-/// let run = implied_volatility_from_a_transformed_rational_guess_step_by_step(
-///     10.0, 100.0, 95.0, 1.0, OptionType::Call, i32::MAX,
-/// );
+/// let run = solve_step_by_step(10.0, 100.0, 95.0, 1.0, OptionType::Call, i32::MAX, RuleSet::Original);
 /// assert_eq!(run.trail.len(), run.answer?.steps as usize);
 /// // Each step starts where the one before it ended.
 /// assert!(run.trail.windows(2).all(|pair| pair[0].s_after == pair[1].s));
 /// # Ok::<(), gintubalos::Refusal>(())
 /// ```
-pub fn implied_volatility_from_a_transformed_rational_guess_step_by_step(
+pub fn solve_step_by_step(
     market_price: f64,
     forward_price: f64,
     strike_price: f64,
     time_to_maturity: f64,
     option_type: OptionType,
     max_iteration: i32,
+    rules: RuleSet,
 ) -> Run {
-    // The run without a trail gives the number of steps.
-    let first = implied_volatility_from_a_transformed_rational_guess_with_limited_iterations(
-        market_price,
-        forward_price,
-        strike_price,
-        time_to_maturity,
-        option_type,
-        max_iteration,
-    );
+    // The run without a trail gives the number of steps. Under the same rules the other one has as many.
+    let first = solve(market_price, forward_price, strike_price, time_to_maturity, option_type, max_iteration, rules);
     let limit = limit_for(completed_steps(first), max_iteration);
     let mut trail = trail_for(limit);
-    let answer = implied_volatility_from_a_transformed_rational_guess_with_trail(
+    let answer = solve_with_trail(
         market_price,
         forward_price,
         strike_price,
         time_to_maturity,
         option_type,
         limit,
+        rules,
         &mut trail,
     );
     Run::new(answer, &trail)
@@ -291,14 +291,12 @@ pub fn implied_volatility_from_a_transformed_rational_guess_step_by_step(
 /// comes without a loop. Refused with 1 to 4, then 6 or 7.
 ///
 /// ```
-/// use gintubalos::{implied_volatility_from_a_transformed_rational_guess_step_by_step, target, OptionType};
+/// use gintubalos::{solve_step_by_step, target, OptionType::{Call, Put}, RuleSet};
 ///
-/// let run = implied_volatility_from_a_transformed_rational_guess_step_by_step(
-///     10.0, 100.0, 95.0, 1.0, OptionType::Call, 9,
-/// );
-/// let sought = target(10.0, 100.0, 95.0, 1.0, OptionType::Call)?.expect("a loop");
+/// let run = solve_step_by_step(10.0, 100.0, 95.0, 1.0, Call, 9, RuleSet::Original);
+/// let sought = target(10.0, 100.0, 95.0, 1.0, Call, RuleSet::Original)?.expect("a loop");
 /// assert!((run.trail[2].price - sought).abs() < 1e-16);
-/// assert_eq!(target(0.0, 100.0, 95.0, 1.0, OptionType::Put)?, None);
+/// assert_eq!(target(0.0, 100.0, 95.0, 1.0, Put, RuleSet::Original)?, None);
 /// # Ok::<(), gintubalos::Refusal>(())
 /// ```
 #[inline]
@@ -308,10 +306,11 @@ pub fn target(
     strike_price: f64,
     time_to_maturity: f64,
     option_type: OptionType,
+    rules: RuleSet,
 ) -> Result<Option<f64>, Refusal> {
     let [price, forward, strike, expiry] =
         [market_price, forward_price, strike_price, time_to_maturity].map(f64::to_bits);
-    match in_default(move || bits::target(price, forward, strike, expiry, option_type.byte())) {
+    match in_default(move || bits::target(price, forward, strike, expiry, option_type.byte(), rules.number())) {
         (target, 0) => Ok(Some(f64::from_bits(target)).filter(|target| !target.is_nan())),
         (_, number) => Err(Refusal { number, steps: 0 }),
     }

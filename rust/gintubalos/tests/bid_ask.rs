@@ -1,10 +1,10 @@
-//! Bid and ask together: document 02's order of checks, what a refusal leaves, and that each end is the single call's.
+//! Bid and ask together: document 02's order of checks, what a refusal leaves, and that each end is the single call's under
+//! each rule set.
 
 use gintubalos::{
-    bits::{self, implied_volatility_from_a_transformed_rational_guess_with_trail as solve, Outcome},
-    implied_volatility_from_a_transformed_rational_guess_step_by_step as step_by_step,
-    implied_volatility_from_a_transformed_rational_guess_with_limited_iterations as limited,
+    bits::{self, Outcome},
     OptionType::{Call, Put},
+    RuleSet::Original,
     *,
 };
 
@@ -25,38 +25,42 @@ fn seven(low_times: f64, high_times: f64) -> Range {
 }
 
 /// Each end has the words and every byte of the trail that the single call gives, and without trails the same words.
-fn words_of_single_calls(range: Range, kind: OptionType, limit: i32) -> [Outcome; 2] {
+fn words_of_single_calls(range: Range, kind: OptionType, limit: i32, rules: RuleSet) -> [Outcome; 2] {
     let [low, high, forward, strike, expiry] = range.map(f64::to_bits);
+    let (kind, rules) = (kind.byte(), rules.number());
     let fresh = vec![0xA5; STEP_BYTES * limit.max(0) as usize + 1];
     let (mut low_trail, mut high_trail) = (fresh.clone(), fresh.clone());
     let (number, ends) =
-        bits::bid_ask(low, high, forward, strike, expiry, kind.byte(), limit, &mut low_trail, &mut high_trail);
+        bits::bid_ask(low, high, forward, strike, expiry, kind, limit, rules, &mut low_trail, &mut high_trail);
     assert_eq!(number, 0, "{range:?}");
     for (price, end, trail) in [(low, ends[0], low_trail), (high, ends[1], high_trail)] {
         let mut single = fresh.clone();
-        assert_eq!(end, solve(price, forward, strike, expiry, kind.byte(), limit, &mut single), "{range:?}");
+        let words = bits::solve_with_trail(price, forward, strike, expiry, kind, limit, rules, &mut single);
+        assert_eq!(end, words, "{range:?}");
         assert_eq!(trail, single, "{range:?}");
     }
-    let untrailed = bits::bid_ask_without_trails(low, high, forward, strike, expiry, kind.byte(), limit);
+    let untrailed = bits::bid_ask_without_trails(low, high, forward, strike, expiry, kind, limit, rules);
     assert_eq!(untrailed, (0, ends), "{range:?}");
     ends.map(|(_, outcome)| outcome.into())
 }
 
 /// The same with the types of Rust.
-fn answers_of_single_calls([low, high, forward, strike, expiry]: Range, kind: OptionType, limit: i32) {
-    let single = |price| limited(price, forward, strike, expiry, kind, limit);
+fn answers_of_single_calls(range: Range, kind: OptionType, limit: i32, rules: RuleSet) {
+    let [low, high, forward, strike, expiry] = range;
+    let single = |price| solve(price, forward, strike, expiry, kind, limit, rules);
     let both = Ok(BidAsk { low: single(low), high: single(high) });
-    assert_eq!(bid_ask(low, high, forward, strike, expiry, kind, limit), both);
-    let run = |price| step_by_step(price, forward, strike, expiry, kind, limit);
+    assert_eq!(bid_ask(low, high, forward, strike, expiry, kind, limit, rules), both);
+    let run = |price| solve_step_by_step(price, forward, strike, expiry, kind, limit, rules);
     let runs = BidAskRuns { low: run(low), high: run(high) };
     let bytes = STEP_BYTES * limit.max(0) as usize;
     let (mut low_trail, mut high_trail) = (vec![0; bytes], vec![0; bytes]);
-    let trailed = bid_ask_with_trails(low, high, forward, strike, expiry, kind, limit, &mut low_trail, &mut high_trail);
+    let trailed =
+        bid_ask_with_trails(low, high, forward, strike, expiry, kind, limit, rules, &mut low_trail, &mut high_trail);
     assert_eq!(trailed, both);
     for (run, trail) in [(&runs.low, &low_trail), (&runs.high, &high_trail)] {
         assert!(steps(trail, completed_steps(run.answer)).eq(run.trail.iter().copied()));
     }
-    assert_eq!(bid_ask_step_by_step(low, high, forward, strike, expiry, kind, limit), Ok(runs));
+    assert_eq!(bid_ask_step_by_step(low, high, forward, strike, expiry, kind, limit, rules), Ok(runs));
 }
 
 #[test]
@@ -75,14 +79,19 @@ fn each_end_is_the_single_calls() {
         ([4.0, 10.0, 100.0, 95.0, 1.0], Call),
         ([10.0, 95.0, 100.0, 95.0, 1.0], Call),
         ([-f64::MAX, f64::MAX, 100.0, 200.0, 0.25], Call),
+        // Below both rule sets' caps, and between them.
+        ([99.0, 120.0, 200.0, 100.0, 1.0], Call),
+        ([110.0, 120.0, 100.0, 200.0, 1.0], Put),
         // 7 at one end, and at both.
         (seven(0.5, 1.0), Put),
         (seven(1.0, 2.0), Put),
         (seven(1.0, 1.0), Put),
     ] {
         for limit in [i32::MIN, 0, 1, 2, 20] {
-            words_of_single_calls(range, kind, limit);
-            answers_of_single_calls(range, kind, limit);
+            for rules in RuleSet::ALL.iter().copied() {
+                words_of_single_calls(range, kind, limit, rules);
+                answers_of_single_calls(range, kind, limit, rules);
+            }
         }
     }
 }
@@ -92,7 +101,7 @@ fn each_end_is_the_single_calls() {
 fn sentinels() {
     let sentinel = |answer: Result<Solution, Refusal>| answer.map(|solution| solution.sentinel());
     let ends = |low, high| {
-        let both = bid_ask(low, high, 100.0, 95.0, 1.0, Call, 2).expect("two ends");
+        let both = bid_ask(low, high, 100.0, 95.0, 1.0, Call, 2, Original).expect("two ends");
         (sentinel(both.low), sentinel(both.high))
     };
     assert_eq!(ends(4.0, 10.0), (Ok(Some(Sentinel::BelowIntrinsic)), Ok(None)));
@@ -103,11 +112,11 @@ fn sentinels() {
 #[test]
 fn seven_at_one_end() {
     let number_and_steps = |ends: [Outcome; 2]| ends.map(|end| (end.number, end.steps));
-    assert_eq!(number_and_steps(words_of_single_calls(seven(0.5, 1.0), Put, 20)), [(0, 5), (7, 2)]);
-    assert_eq!(number_and_steps(words_of_single_calls(seven(1.0, 2.0), Put, 20)), [(7, 2), (0, 3)]);
-    assert_eq!(number_and_steps(words_of_single_calls(seven(1.0, 1.0), Put, 20)), [(7, 2), (7, 2)]);
+    assert_eq!(number_and_steps(words_of_single_calls(seven(0.5, 1.0), Put, 20, Original)), [(0, 5), (7, 2)]);
+    assert_eq!(number_and_steps(words_of_single_calls(seven(1.0, 2.0), Put, 20, Original)), [(7, 2), (0, 3)]);
+    assert_eq!(number_and_steps(words_of_single_calls(seven(1.0, 1.0), Put, 20, Original)), [(7, 2), (7, 2)]);
     let [low, high, forward, strike, expiry] = seven(1.0, 2.0);
-    let runs = bid_ask_step_by_step(low, high, forward, strike, expiry, Put, 20).expect("two ends");
+    let runs = bid_ask_step_by_step(low, high, forward, strike, expiry, Put, 20, Original).expect("two ends");
     assert_eq!((runs.low.answer, runs.low.trail.len()), (Err(Refusal { number: 7, steps: 2 }), 2));
     assert_eq!(runs.high.trail.len(), 3);
 }
@@ -117,30 +126,36 @@ fn refused(number: u8) -> (u8, [(u64, u64); 2]) {
     (number, [(NAN_BITS, number.into()); 2])
 }
 
+/// The kind and the rule set with the types of Rust, none where either is a number that none has.
+fn typed(kind: u8, rules: u32) -> Option<(OptionType, RuleSet)> {
+    OptionType::from_byte(kind).zip(RuleSet::try_from(rules).ok())
+}
+
 /// A limit of 2 with trails of so many bytes: the number, and both trails stay.
-fn refused_with_trails(number: u8, range: Range, kind: u8, [low_bytes, high_bytes]: [usize; 2]) {
+fn refused_with_trails(number: u8, range: Range, (kind, rules): (u8, u32), [low_bytes, high_bytes]: [usize; 2]) {
     let (mut low_trail, mut high_trail) = (UNTOUCHED, UNTOUCHED);
     let [low_part, high_part] = [&mut low_trail[..low_bytes], &mut high_trail[..high_bytes]];
     let [low, high, forward, strike, expiry] = range.map(f64::to_bits);
-    let answer = bits::bid_ask(low, high, forward, strike, expiry, kind, 2, low_part, high_part);
+    let answer = bits::bid_ask(low, high, forward, strike, expiry, kind, 2, rules, low_part, high_part);
     assert_eq!(answer, refused(number), "{range:?}");
-    if let Some(kind) = OptionType::from_byte(kind) {
+    if let Some((kind, rules)) = typed(kind, rules) {
         let [low, high, forward, strike, expiry] = range;
-        let answer = bid_ask_with_trails(low, high, forward, strike, expiry, kind, 2, low_part, high_part);
+        let answer = bid_ask_with_trails(low, high, forward, strike, expiry, kind, 2, rules, low_part, high_part);
         assert_eq!(answer, Err(Refusal { number, steps: 0 }), "{range:?}");
     }
     assert_eq!((low_trail, high_trail), (UNTOUCHED, UNTOUCHED), "{range:?}");
 }
 
-fn refused_without_trails(number: u8, range: Range, kind: u8) {
+fn refused_without_trails(number: u8, range: Range, (kind, rules): (u8, u32)) {
     let [low, high, forward, strike, expiry] = range.map(f64::to_bits);
-    let answer = bits::bid_ask_without_trails(low, high, forward, strike, expiry, kind, 2);
+    let answer = bits::bid_ask_without_trails(low, high, forward, strike, expiry, kind, 2, rules);
     assert_eq!(answer, refused(number), "{range:?}");
-    if let Some(kind) = OptionType::from_byte(kind) {
+    if let Some((kind, rules)) = typed(kind, rules) {
         let [low, high, forward, strike, expiry] = range;
         let refusal = Refusal { number, steps: 0 };
-        assert_eq!(bid_ask(low, high, forward, strike, expiry, kind, 2), Err(refusal), "{range:?}");
-        assert_eq!(bid_ask_step_by_step(low, high, forward, strike, expiry, kind, 2), Err(refusal), "{range:?}");
+        assert_eq!(bid_ask(low, high, forward, strike, expiry, kind, 2, rules), Err(refusal), "{range:?}");
+        let runs = bid_ask_step_by_step(low, high, forward, strike, expiry, kind, 2, rules);
+        assert_eq!(runs, Err(refusal), "{range:?}");
     }
 }
 
@@ -148,24 +163,26 @@ fn refused_without_trails(number: u8, range: Range, kind: u8) {
 #[test]
 fn checks_in_order() {
     let (nan, infinity, least) = (f64::NAN, f64::INFINITY, f64::from_bits(1));
-    for (number, range, kind) in [
-        (24, [nan, -infinity, 0.0, -1.0, least], 3),
-        (1, [nan, -infinity, 0.0, -1.0, least], 1),
-        (1, [infinity, 9.5, 0.0, -1.0, least], 1),
-        (1, [-infinity, 9.5, 0.0, -1.0, least], 1),
-        (1, [10.5, -infinity, 0.0, -1.0, least], 1),
-        (1, [10.5, nan, 0.0, -1.0, least], 2),
-        (31, [10.5, 9.5, 0.0, -1.0, least], 2),
-        (31, [9.5, 9.5f64.next_down(), 0.0, -1.0, least], 1),
-        (31, [least, -0.0, 0.0, -1.0, least], 1),
+    for (number, range, kind_and_rules) in [
+        (32, [nan, -infinity, 0.0, -1.0, least], (3, 2)),
+        (32, [nan, -infinity, 0.0, -1.0, least], (0, u32::MAX)),
+        (24, [nan, -infinity, 0.0, -1.0, least], (3, 1)),
+        (1, [nan, -infinity, 0.0, -1.0, least], (1, 0)),
+        (1, [infinity, 9.5, 0.0, -1.0, least], (1, 1)),
+        (1, [-infinity, 9.5, 0.0, -1.0, least], (1, 0)),
+        (1, [10.5, -infinity, 0.0, -1.0, least], (1, 1)),
+        (1, [10.5, nan, 0.0, -1.0, least], (2, 0)),
+        (31, [10.5, 9.5, 0.0, -1.0, least], (2, 1)),
+        (31, [9.5, 9.5f64.next_down(), 0.0, -1.0, least], (1, 0)),
+        (31, [least, -0.0, 0.0, -1.0, least], (1, 1)),
         // Neither zero is above the other.
-        (2, [0.0, -0.0, infinity, -1.0, least], 1),
-        (2, [-0.0, 0.0, 0.0, -1.0, least], 2),
-        (3, [9.5, 10.5, 100.0, -1.0, least], 1),
-        (4, [9.5, 10.5, 100.0, 95.0, least], 2),
+        (2, [0.0, -0.0, infinity, -1.0, least], (1, 0)),
+        (2, [-0.0, 0.0, 0.0, -1.0, least], (2, 1)),
+        (3, [9.5, 10.5, 100.0, -1.0, least], (1, 0)),
+        (4, [9.5, 10.5, 100.0, 95.0, least], (2, 1)),
     ] {
-        refused_with_trails(number, range, kind, [95, 95]);
-        refused_without_trails(number, range, kind);
+        refused_with_trails(number, range, kind_and_rules, [95, 95]);
+        refused_without_trails(number, range, kind_and_rules);
     }
 }
 
@@ -174,13 +191,15 @@ fn checks_in_order() {
 fn short_trails() {
     for range in [[9.5, 10.5, 100.0, 95.0, 1.0], [-1.0, 1e9, 100.0, 95.0, 1.0]] {
         for bytes in [[95, 95], [95, 96], [96, 95], [0, 96], [96, 0]] {
-            refused_with_trails(21, range, 1, bytes);
+            refused_with_trails(21, range, (1, 0), bytes);
+            refused_with_trails(21, range, (1, 1), bytes);
         }
         let [low, high, forward, strike, expiry] = range;
         let (mut low_trail, mut high_trail) = (UNTOUCHED, UNTOUCHED);
-        let both = bid_ask_with_trails(low, high, forward, strike, expiry, Call, 2, &mut low_trail, &mut high_trail);
-        assert!(both.is_ok());
-        let both = bid_ask_with_trails(low, high, forward, strike, expiry, Call, -2, &mut [], &mut []);
-        assert!(both.is_ok());
+        let both = |limit, low_trail: &mut [u8], high_trail: &mut [u8]| {
+            bid_ask_with_trails(low, high, forward, strike, expiry, Call, limit, Original, low_trail, high_trail)
+        };
+        assert!(both(2, &mut low_trail, &mut high_trail).is_ok());
+        assert!(both(-2, &mut [], &mut []).is_ok());
     }
 }

@@ -34,6 +34,7 @@ fn in_c(rattle: &str) -> &'static [&'static str] {
     match rattle {
         "u64" => &["uint64_t"],
         "u8" => &["uint8_t"],
+        "u32" => &["uint32_t"],
         "i32" => &["int32_t"],
         "usize" => &["size_t"],
         "&mut u8" => &["uint8_t *"],
@@ -119,7 +120,7 @@ fn expected() -> Vec<String> {
         line("black", refused, 4),
         line("black", refused, 24),
     ]);
-    let target = bits::target(10f64.to_bits(), 100f64.to_bits(), 95f64.to_bits(), 1f64.to_bits(), 1);
+    let target = bits::target(10f64.to_bits(), 100f64.to_bits(), 95f64.to_bits(), 1f64.to_bits(), 1, 0);
     assert!((f64::from_bits(target.0) - 0.0512989176042577).abs() < 1e-15 && target.1 == 0);
     lines.extend([line("target", target.0, 0), line("target", refused, 0), line("target", refused, 24)]);
     let more = "wrapper 3FC7D1E857E3FCEB 0 2 2 2
@@ -127,6 +128,18 @@ untrailed 3FC7D1E857E3FCEB 0 2 2 2
 solve 3FC7D1E857E3FCEC 0 2 2 3
 trail 3FC7D1E857E3FCEC 0
 short 7FF8000000000000 21 0 0 0
+wrapper 7FEFFFFFFFFFFFFF 0 0 0 0
+untrailed 7FEFFFFFFFFFFFFF 0 0 0 0
+solve 7FEFFFFFFFFFFFFF 0 0 0 0
+target 0 0
+wrapper 3FF061F7B1DAC668 0 2 2 2
+untrailed 3FF061F7B1DAC668 0 2 2 2
+solve 3FF061F7B1DAC668 0 2 2 2
+target 1 0
+wrapper 7FF8000000000000 32 0 0 0
+untrailed 7FF8000000000000 32 0 0 0
+solve 7FF8000000000000 32 0 0 0
+target 0 32
 bid_ask 0
 low 3FC6192C31EA4EC4 0 2 2 2
 high 3FC9887ED4158FB4 0 2 2 2
@@ -144,6 +157,12 @@ high 7FF8000000000000 31 0 0 0
 untrailed 24
 low 7FF8000000000000 24 0 0 0
 high 7FF8000000000000 24 0 0 0
+untrailed 0
+low FFEFFFFFFFFFFFFF 0 0 0 0
+high 3FF061F7B1DAC668 0 2 2 2
+bid_ask 32
+low 7FF8000000000000 32 0 0 0
+high 7FF8000000000000 32 0 0 0
 file 0000000000000001 0 0 0 0
 file 0000000000000002 0 0 0 0
 file 0000000000000000 22 0 0 0
@@ -153,7 +172,13 @@ recheck 0000000000000001 0 0 0 0
 read 0000000000000040 0
 recheck 0000000000000000 23 0 0 0
 read 0000000000000000 23
-line 7 3FC7D1E857E3FCEB 2 2 2";
+line 7 3FC7D1E857E3FCEB 2 2 2
+file 0000000000000001 0 0 0 0
+file 0000000000000000 32 0 0 0
+recheck 0000000000000000 0 0 0 0
+recheck 0000000000000001 0 0 0 0
+recheck 0000000000000000 32 0 0 0
+line 8 7FEFFFFFFFFFFFFF 0 0 0";
     lines.extend(more.lines().map(str::to_owned));
     lines
 }

@@ -3,9 +3,9 @@
 use gintubalos::{
     implied_volatility_from_a_transformed_rational_guess as wrapper,
     implied_volatility_from_a_transformed_rational_guess_with_limited_iterations as limited,
-    implied_volatility_from_a_transformed_rational_guess_with_trail as with_trail,
     probe::*,
     OptionType::{Call, Put},
+    RuleSet::{Original, TextbookCaps},
     *,
 };
 use std::arch::asm;
@@ -54,20 +54,22 @@ fn same_bits_everywhere() {
     everywhere("solve", || bits(wrapper(10.0, 100.0, 95.0, 1.0, Call)));
     everywhere("solve without a trail", || limited(10.0, 100.0, 95.0, 1.0, Call, 9));
     everywhere("solve of a subnormal price", || limited(TINY, 100.0, 100.0, 1.0, Put, 9));
+    everywhere("solve under the textbook's caps", || solve(120.0, 200.0, 100.0, 1.0, Call, 9, TextbookCaps));
+    everywhere("target", || target(10.0, 100.0, 95.0, 1.0, Call, Original).map(|target| target.map(f64::to_bits)));
     everywhere("solve with a trail", || {
         let mut trail = [0; 9 * STEP_BYTES];
-        (with_trail(10.0, 100.0, 95.0, 1.0, Call, 9, &mut trail), trail)
+        (solve_with_trail(10.0, 100.0, 95.0, 1.0, Call, 9, Original, &mut trail), trail)
     });
-    everywhere("bid and ask", || bid_ask(9.5, 10.5, 100.0, 95.0, 1.0, Call, 9));
+    everywhere("bid and ask", || bid_ask(9.5, 10.5, 100.0, 95.0, 1.0, Call, 9, Original));
     everywhere("bid and ask with trails", || {
         let (mut low, mut high) = ([0; 9 * STEP_BYTES], [0; 9 * STEP_BYTES]);
-        (bid_ask_with_trails(9.5, 10.5, 100.0, 95.0, 1.0, Call, 9, &mut low, &mut high), low, high)
+        (bid_ask_with_trails(9.5, 10.5, 100.0, 95.0, 1.0, Call, 9, Original, &mut low, &mut high), low, high)
     });
     // Taken for zeros they would be equal.
-    everywhere("subnormal prices, low above high", || bid_ask(TWICE_TINY, TINY, 100.0, 100.0, 1.0, Put, 9));
+    everywhere("subnormal prices, low above high", || bid_ask(TWICE_TINY, TINY, 100.0, 100.0, 1.0, Put, 9, Original));
     everywhere("file, recheck and line", || {
         let mut book = [0; RECORD_BYTES];
-        let filed = file(10.0, 100.0, 95.0, 1.0, Call, 9, &mut book, 0);
-        (filed, book, recheck(&book, 1, 0), line(0, &book))
+        let filed = file(10.0, 100.0, 95.0, 1.0, Call, 9, Original, &mut book, 0);
+        (filed, book, recheck(&book, 1, 0, Original), line(0, &book))
     });
 }

@@ -2,11 +2,10 @@
 
 use gintubalos::probe::{ln, normalised_black_call, normalised_vega};
 use gintubalos::OptionType::{Call, Put};
+use gintubalos::RuleSet::{Original, TextbookCaps};
 use gintubalos::{
     implied_volatility_from_a_transformed_rational_guess as wrapper,
-    implied_volatility_from_a_transformed_rational_guess_step_by_step as step_by_step,
-    implied_volatility_from_a_transformed_rational_guess_with_limited_iterations as limited,
-    implied_volatility_from_a_transformed_rational_guess_with_trail as with_trail, *,
+    implied_volatility_from_a_transformed_rational_guess_with_limited_iterations as limited, *,
 };
 use std::error::Error;
 
@@ -39,9 +38,13 @@ fn plain(solution: Solution) -> (u64, u8, u8, u32) {
 fn every_way_to_solve() {
     for ([price, forward, strike, expiry], kind, limit, expected) in ROWS {
         assert_eq!(limited(price, forward, strike, expiry, kind, limit).map(plain), Ok(expected));
+        assert_eq!(solve(price, forward, strike, expiry, kind, limit, Original).map(plain), Ok(expected));
         let mut trail = vec![0; STEP_BYTES * limit as usize];
-        assert_eq!(with_trail(price, forward, strike, expiry, kind, limit, &mut trail).map(plain), Ok(expected));
-        let run = step_by_step(price, forward, strike, expiry, kind, limit);
+        assert_eq!(
+            solve_with_trail(price, forward, strike, expiry, kind, limit, Original, &mut trail).map(plain),
+            Ok(expected)
+        );
+        let run = solve_step_by_step(price, forward, strike, expiry, kind, limit, Original);
         assert_eq!(run.answer.map(plain), Ok(expected));
         assert!(run.trail.iter().copied().eq(steps(&trail, expected.3)));
         if limit == 2 {
@@ -53,7 +56,7 @@ fn every_way_to_solve() {
 /// A record's six floats are in the order of document 01, and the loop goes on from each s after.
 #[test]
 fn trail_records() {
-    let run = step_by_step(10.0, 100.0, 95.0, 1.0, Call, 100);
+    let run = solve_step_by_step(10.0, 100.0, 95.0, 1.0, Call, 100, Original);
     assert_eq!(run.trail.len(), 3);
     assert_eq!(run.trail.last().map(|step| step.s_after), run.answer.map(|solution| solution.volatility).ok());
     for pair in run.trail.windows(2) {
@@ -74,11 +77,11 @@ fn refused_inside_a_loop() {
     let [price, forward, strike, expiry] = SEVEN.map(f64::from_bits);
     let refusal = Refusal { number: 7, steps: 3 };
     assert_eq!(limited(price, forward, strike, expiry, Call, 20), Err(refusal));
-    let run = step_by_step(price, forward, strike, expiry, Call, 20);
+    let run = solve_step_by_step(price, forward, strike, expiry, Call, 20, Original);
     assert_eq!((run.answer, run.trail.len()), (Err(refusal), 3));
     assert!(refusal.to_string().ends_with("(after 3 completed steps)"));
     let mut book = [0xA5; 64];
-    assert_eq!(file(price, forward, strike, expiry, Call, 20, &mut book, 0), Err(refusal));
+    assert_eq!(file(price, forward, strike, expiry, Call, 20, Original, &mut book, 0), Err(refusal));
     assert_eq!(book, [0xA5; 64]);
     // With fewer steps it does not come so far.
     assert_eq!(limited(price, forward, strike, expiry, Call, 3).map(|solution| solution.steps), Ok(3));
@@ -95,13 +98,16 @@ fn refusals_in_order() {
         (4, [1.0, 1.0, 1.0, least]),
     ] {
         assert_eq!(number(limited(price, forward, strike, expiry, Put, 9)), Err(number_of));
-        assert_eq!(number(with_trail(price, forward, strike, expiry, Put, 9, &mut [])), Err(number_of));
-        assert_eq!(number(step_by_step(price, forward, strike, expiry, Put, 9).answer), Err(number_of));
+        assert_eq!(number(solve_with_trail(price, forward, strike, expiry, Put, 9, Original, &mut [])), Err(number_of));
+        assert_eq!(number(solve_step_by_step(price, forward, strike, expiry, Put, 9, Original).answer), Err(number_of));
         assert_eq!(wrapper(price, forward, strike, expiry, Put).unwrap_err().number, number_of);
     }
     // Only a lent trail can be too short.
-    assert_eq!(number(with_trail(1.0, 1.0, 1.0, 1.0, Put, 1, &mut [0; 47])), Err(21));
-    assert_eq!(number(with_trail(0.5, 1.0, 1.0, 1.0, Put, i32::MIN, &mut [])).map(|solution| solution.steps), Ok(0));
+    assert_eq!(number(solve_with_trail(1.0, 1.0, 1.0, 1.0, Put, 1, Original, &mut [0; 47])), Err(21));
+    assert_eq!(
+        number(solve_with_trail(0.5, 1.0, 1.0, 1.0, Put, i32::MIN, Original, &mut [])).map(|solution| solution.steps),
+        Ok(0)
+    );
 }
 
 #[test]
@@ -115,16 +121,17 @@ fn words() {
     assert_eq!(error.to_string(), format!("refused with 7: {} (after 1 completed step)", one.meaning()));
     assert_eq!(Refusal { number: 9, steps: 0 }.meaning(), "a number that document 01 does not have");
     assert_eq!(format!("{} {:>5}|", -Call, -Put), "Put  Call|");
+    assert_eq!(format!("{Original}; {TextbookCaps:>20}|"), "the original library's rules;  the textbook's caps|");
 }
 
 #[test]
 fn books() {
     let mut book = [0xA5; 9 * RECORD_BYTES + 63];
     for (k, ([price, forward, strike, expiry], kind, limit, _)) in (0..).zip(ROWS) {
-        assert_eq!(file(price, forward, strike, expiry, kind, limit, &mut book, k), Ok(k + 1));
+        assert_eq!(file(price, forward, strike, expiry, kind, limit, Original, &mut book, k), Ok(k + 1));
     }
-    assert_eq!(file(1.0, 1.0, 1.0, 1.0, Put, 2, &mut book, 9).unwrap_err().number, 22);
-    assert_eq!(file(1.0, 1.0, 1.0, 1.0, Put, 2, &mut book, 10).unwrap_err().number, 23);
+    assert_eq!(file(1.0, 1.0, 1.0, 1.0, Put, 2, Original, &mut book, 9).unwrap_err().number, 22);
+    assert_eq!(file(1.0, 1.0, 1.0, 1.0, Put, 2, Original, &mut book, 10).unwrap_err().number, 23);
     let records_of = records(&book, 9).expect("nine slots");
     assert_eq!(records_of.len(), 9);
     for (k, (record, (floats, kind, limit, (volatility, branch, ending, steps)))) in records_of.zip(ROWS).enumerate() {
@@ -134,7 +141,7 @@ fn books() {
         assert_eq!((record.branch(), record.ending()), (Branch::from_byte(branch), Ending::from_byte(ending)));
         assert_eq!(read(&book, 9, k as u64), Ok(record));
         assert_eq!(record.bytes()[..], book[64 * k..64 * k + 64]);
-        assert_eq!(recheck(&book, 9, k as u64), Ok(true));
+        assert_eq!(recheck(&book, 9, k as u64, Original), Ok(true));
         assert_eq!(line(k as u64, record.bytes()), format!("{k} {volatility:016X} {steps} {branch} {ending}\n"));
     }
     assert_eq!(records(&book, 10).unwrap_err().number, 23);
@@ -144,6 +151,6 @@ fn books() {
     book[48..51].fill(9);
     let record = read(&book, 1, 0).expect("a slot");
     assert_eq!((record.kind(), record.branch(), record.ending()), (None, None, None));
-    assert_eq!(recheck(&book, 1, 0).unwrap_err().number, 24);
+    assert_eq!(recheck(&book, 1, 0, Original).unwrap_err().number, 24);
     assert_eq!(line(7, record.bytes()), "7 REF 24\n");
 }

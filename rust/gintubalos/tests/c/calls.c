@@ -62,25 +62,47 @@ static void solves(void) {
     uint8_t trail[3 * GINTUBALOS_STEP_BYTES];
     uint64_t outcome, value, after;
     uint8_t number;
-    value = gintubalos_target(price, forward, strike, expiry, GINTUBALOS_CALL, &number);
+    value = gintubalos_target(price, forward, strike, expiry, GINTUBALOS_CALL, GINTUBALOS_RULE_SET_0, &number);
     say("target", value, number);
-    value = gintubalos_target(bits(0), forward, strike, expiry, GINTUBALOS_PUT, &number);
+    value = gintubalos_target(bits(0), forward, strike, expiry, GINTUBALOS_PUT, GINTUBALOS_RULE_SET_0, &number);
     say("target", value, number);
-    value = gintubalos_target(price, forward, strike, expiry, 3, &number);
+    value = gintubalos_target(price, forward, strike, expiry, 3, GINTUBALOS_RULE_SET_0, &number);
     say("target", value, number);
-    value = gintubalos_implied_volatility_from_a_transformed_rational_guess(price, forward, strike, expiry,
-                                                                           GINTUBALOS_CALL, &outcome);
+    value = gintubalos_implied_volatility_from_a_transformed_rational_guess(
+        price, forward, strike, expiry, GINTUBALOS_CALL, GINTUBALOS_RULE_SET_0, &outcome);
     say_outcome("wrapper", value, outcome);
-    value = gintubalos_implied_volatility_from_a_transformed_rational_guess_with_limited_iterations(price, forward, strike, expiry, GINTUBALOS_CALL, 2, &outcome);
+    value = gintubalos_solve_without_trail(price, forward, strike, expiry, GINTUBALOS_CALL, 2, GINTUBALOS_RULE_SET_0,
+                                           &outcome);
     say_outcome("untrailed", value, outcome);
-    value = gintubalos_implied_volatility_from_a_transformed_rational_guess_with_trail(
-        price, forward, strike, expiry, GINTUBALOS_CALL, 3, trail, sizeof trail, &outcome);
+    value = gintubalos_solve_with_trail(price, forward, strike, expiry, GINTUBALOS_CALL, 3, GINTUBALOS_RULE_SET_0, trail,
+                                        sizeof trail, &outcome);
     say_outcome("solve", value, outcome);
     memcpy(&after, trail + sizeof trail - 8, 8);
     say("trail", after, 0);
-    value = gintubalos_implied_volatility_from_a_transformed_rational_guess_with_trail(
-        price, forward, strike, expiry, GINTUBALOS_CALL, 3, trail, sizeof trail - 1, &outcome);
+    value = gintubalos_solve_with_trail(price, forward, strike, expiry, GINTUBALOS_CALL, 3, GINTUBALOS_RULE_SET_0, trail,
+                                        sizeof trail - 1, &outcome);
     say_outcome("short", value, outcome);
+}
+
+/* The student's Call under the original library's caps, the textbook's, and a rule set that there is not. */
+static void rule_sets(void) {
+    const uint64_t price = bits(120), forward = bits(200), strike = bits(100), expiry = bits(1);
+    const uint32_t rule_sets[] = {GINTUBALOS_RULE_SET_0, GINTUBALOS_RULE_SET_1, 2};
+    uint8_t trail[2 * GINTUBALOS_STEP_BYTES], number;
+    uint64_t outcome, value;
+    for (int i = 0; i < 3; i++) {
+        const uint32_t rule_set = rule_sets[i];
+        value = gintubalos_implied_volatility_from_a_transformed_rational_guess(price, forward, strike, expiry,
+                                                                               GINTUBALOS_CALL, rule_set, &outcome);
+        say_outcome("wrapper", value, outcome);
+        value = gintubalos_solve_without_trail(price, forward, strike, expiry, GINTUBALOS_CALL, 2, rule_set, &outcome);
+        say_outcome("untrailed", value, outcome);
+        value = gintubalos_solve_with_trail(price, forward, strike, expiry, GINTUBALOS_CALL, 2, rule_set, trail,
+                                            sizeof trail, &outcome);
+        say_outcome("solve", value, outcome);
+        value = gintubalos_target(price, forward, strike, expiry, GINTUBALOS_CALL, rule_set, &number);
+        printf("target %d %u\n", value < (uint64_t)0x7FF << 52, number);
+    }
 }
 
 static void say_ends(const char *name, unsigned number, const uint64_t ends[4]) {
@@ -95,42 +117,67 @@ static void ranges(void) {
     uint8_t trails[2][2 * GINTUBALOS_STEP_BYTES], number;
     uint64_t ends[4], after;
     for (size_t i = 0; i < 2; i++) {
-        number = gintubalos_bid_ask(low, high, forward, strike, expiry, GINTUBALOS_CALL, 2, trails[0], sizeof trails[0],
-                                    trails[1], sizeof trails[1] - i, &ends[0], &ends[1], &ends[2], &ends[3]);
+        number = gintubalos_bid_ask(low, high, forward, strike, expiry, GINTUBALOS_CALL, 2, GINTUBALOS_RULE_SET_0, trails[0],
+                                    sizeof trails[0], trails[1], sizeof trails[1] - i, &ends[0], &ends[1], &ends[2],
+                                    &ends[3]);
         say_ends("bid_ask", number, ends);
     }
     for (int i = 0; i < 2; i++) {
         memcpy(&after, trails[i] + sizeof trails[i] - 8, 8);
         say("trail", after, 0);
     }
-    number = gintubalos_bid_ask_without_trails(low, high, forward, strike, expiry, GINTUBALOS_CALL, 2, &ends[0], &ends[1],
-                                               &ends[2], &ends[3]);
+    number = gintubalos_bid_ask_without_trails(low, high, forward, strike, expiry, GINTUBALOS_CALL, 2,
+                                               GINTUBALOS_RULE_SET_0, &ends[0], &ends[1], &ends[2], &ends[3]);
     say_ends("untrailed", number, ends);
-    number = gintubalos_bid_ask_without_trails(high, low, forward, strike, expiry, GINTUBALOS_CALL, 2, &ends[0], &ends[1],
-                                               &ends[2], &ends[3]);
+    number = gintubalos_bid_ask_without_trails(high, low, forward, strike, expiry, GINTUBALOS_CALL, 2,
+                                               GINTUBALOS_RULE_SET_0, &ends[0], &ends[1], &ends[2], &ends[3]);
     say_ends("untrailed", number, ends);
-    number = gintubalos_bid_ask_without_trails(high, low, forward, strike, expiry, 3, 2, &ends[0], &ends[1], &ends[2],
-                                               &ends[3]);
+    number = gintubalos_bid_ask_without_trails(high, low, forward, strike, expiry, 3, 2, GINTUBALOS_RULE_SET_0, &ends[0],
+                                               &ends[1], &ends[2], &ends[3]);
     say_ends("untrailed", number, ends);
+    number = gintubalos_bid_ask_without_trails(bits(99), bits(120), bits(200), bits(100), expiry, GINTUBALOS_CALL, 2,
+                                               GINTUBALOS_RULE_SET_1, &ends[0], &ends[1], &ends[2], &ends[3]);
+    say_ends("untrailed", number, ends);
+    number = gintubalos_bid_ask(high, low, forward, strike, expiry, 3, 2, 2, trails[0], 0, trails[1], 0, &ends[0], &ends[1],
+                                &ends[2], &ends[3]);
+    say_ends("bid_ask", number, ends);
 }
 
 static void book(void) {
     uint8_t records[2 * GINTUBALOS_RECORD_BYTES] = {0}, line[GINTUBALOS_LINE_BYTES], number;
     uint64_t outcome, value, used = 0;
     for (int i = 0; i < 3; i++) {
-        value = gintubalos_file(bits(10), bits(100), bits(95), bits(1), GINTUBALOS_CALL, 2, records, sizeof records, used,
-                                &outcome);
+        value = gintubalos_file(bits(10), bits(100), bits(95), bits(1), GINTUBALOS_CALL, 2, GINTUBALOS_RULE_SET_0, records,
+                                sizeof records, used, &outcome);
         say_outcome("file", value, outcome);
         used += GINTUBALOS_NUMBER(outcome) == 0;
     }
     records[32] ^= 1;
     for (uint64_t k = 0; k < 3; k++) {
-        value = gintubalos_recheck(records, sizeof records, used, k, &outcome);
+        value = gintubalos_recheck(records, sizeof records, used, k, GINTUBALOS_RULE_SET_0, &outcome);
         say_outcome("recheck", value, outcome);
         value = gintubalos_read(records, sizeof records, used, k, &number);
         say("read", value, number);
     }
     size_t length = gintubalos_line(7, records, GINTUBALOS_RECORD_BYTES, line, sizeof line);
+    printf("line %.*s", (int)length, (const char *)line);
+}
+
+/* The student's Call, filed under the textbook's caps: its rechecks, relist's line, and what is not filed. */
+static void filed_by_the_textbook(void) {
+    const uint64_t price = bits(120), forward = bits(200), strike = bits(100), expiry = bits(1);
+    uint8_t record[GINTUBALOS_RECORD_BYTES], line[GINTUBALOS_LINE_BYTES];
+    uint64_t outcome, value;
+    for (uint32_t rule_set = GINTUBALOS_RULE_SET_1; rule_set < 3; rule_set++) {
+        value = gintubalos_file(price, forward, strike, expiry, GINTUBALOS_CALL, 2, rule_set, record, sizeof record, 0,
+                                &outcome);
+        say_outcome("file", value, outcome);
+    }
+    for (uint32_t rule_set = 0; rule_set < 3; rule_set++) {
+        value = gintubalos_recheck(record, sizeof record, 1, 0, rule_set, &outcome);
+        say_outcome("recheck", value, outcome);
+    }
+    size_t length = gintubalos_line(8, record, sizeof record, line, sizeof line);
     printf("line %.*s", (int)length, (const char *)line);
 }
 
@@ -153,7 +200,9 @@ int main(void) {
     unary();
     prices();
     solves();
+    rule_sets();
     ranges();
     book();
+    filed_by_the_textbook();
     return 0;
 }
