@@ -4,7 +4,7 @@ ghost use Rattle.std.specs.Prelude.{◌≡◌, ◌*◌};
 
 use crate::list::Line;
 use elementary::methods::bits_of;
-use elementary::rule_set::RULE_SET_0;
+use elementary::rule_set::{RuleSet, UnknownRuleSet};
 use prices::inputs::{OptionType, UnknownKind};
 use prices::refusal::Numbered;
 use solver::answers::{Ends, ImpliedVolatility};
@@ -120,6 +120,11 @@ fn word_of(answer: Result<ImpliedVolatility, Failure>, asked: Asked, trail: &[u8
     }
 }
 
+// The rule set of a number; one of more than 32 bits has none.
+fn rule_set_of(number: u64) -> Result<RuleSet, UnknownRuleSet> {
+    RuleSet::try_from(u32::try_from(number).map_err(|_| UnknownRuleSet)?)
+}
+
 fn quote_in(line: Line) -> Result<Quote, UnknownKind> {
     let option_type = option_type_in(line.arguments[4])?;
     let [price, forward, strike, expiry, ..] = line.floats();
@@ -134,11 +139,12 @@ fn quote_in(line: Line) -> Result<Quote, UnknownKind> {
 
 fn solve_line(line: Line, trail: &mut [u8]) -> Result<ImpliedVolatility, Failure> {
     let limit = steps_of(limit_of(line.arguments[5]));
-    solve_with_trail(RULE_SET_0, quote_in(line)?, limit, trail)
+    let set = rule_set_of(line.arguments[8])?;
+    solve_with_trail(set, quote_in(line)?, limit, trail)
 }
 
-// Price, forward, strike, expiry, kind, limit, the trail's bytes, and which word. The trail has 165 in
-// each byte before. 0 where the line asks for a longer trail than there is.
+// Price, forward, strike, expiry, kind, limit, the trail's bytes, which word, and the rule set. The trail
+// has 165 in each byte before. 0 where the line asks for a longer trail than there is.
 pub(crate) fn solve(line: Line) -> Answer {
     let mut trail = [165u8; 960];
     let Some(part) = trail.get_mut(..line.arguments[6] as usize) else {
@@ -152,11 +158,12 @@ pub(crate) fn solve(line: Line) -> Answer {
 
 fn file_line(line: Line, book: &mut [u8]) -> Result<u64, Failure> {
     let limit = limit_of(line.arguments[5]);
-    solver::book::file(RULE_SET_0, quote_in(line)?, limit, book, line.arguments[6])
+    let set = rule_set_of(line.arguments[8])?;
+    solver::book::file(set, quote_in(line)?, limit, book, line.arguments[6])
 }
 
-// Price, forward, strike, expiry, kind, limit, the used count, and which word: 0 the count after it, else
-// one of the book, which has three slots and a part, with 90 in each byte before.
+// Price, forward, strike, expiry, kind, limit, the used count, which word, and the rule set. Word 0 is the
+// count after it, any other one of the book, which has three slots and a part, with 90 in each byte before.
 pub(crate) fn file(line: Line) -> Answer {
     let mut book = [90u8; 200];
     let answer = file_line(line, &mut book);
@@ -167,11 +174,13 @@ pub(crate) fn file(line: Line) -> Answer {
     }
 }
 
-// The eight words of a record, and the record's number in a book that has this one alone.
+// The eight words of a record, and the record's number in a book that has this one alone, with 2^32 times
+// the rule set.
 pub(crate) fn recheck(line: Line) -> Answer {
     let [a, b, c, d, e, f, g, h, number] = line.arguments;
     let book = [a, b, c, d, e, f, g, h].map(|word| word.to_le_bytes());
-    match solver::book::recheck(RULE_SET_0, book.as_flattened(), 1, number) {
+    let rule_set = (number >> 32) as u32;
+    match solver::book::recheck(rule_set, book.as_flattened(), 1, number & 4294967295) {
         Ok(agrees) => Ok(agrees as u64),
         Err(failure) => refused_with(failure.refusal, 0),
     }
@@ -209,7 +218,8 @@ fn range_in(line: Line) -> Result<QuoteRange, UnknownKind> {
 
 fn bid_ask_line(line: Line, low_trail: &mut [u8], high_trail: &mut [u8]) -> Result<Ends, Refusal> {
     let limit = steps_of(limit_of(line.arguments[6]));
-    solve_range_with_trails(RULE_SET_0, range_in(line)?, limit, low_trail, high_trail)
+    let set = rule_set_of(line.arguments[7] >> 32)?;
+    solve_range_with_trails(set, range_in(line)?, limit, low_trail, high_trail)
 }
 
 // With the parts of the trails that the line says; nothing where it asks for more than there is.
@@ -220,7 +230,7 @@ fn bid_ask_in(
 ) -> Option<Result<Ends, Refusal>> {
     let lengths = line.arguments[7];
     let low = low_trail.get_mut(..(lengths % 65536) as usize)?;
-    let high = high_trail.get_mut(..(lengths / 65536) as usize)?;
+    let high = high_trail.get_mut(..(lengths / 65536 % 65536) as usize)?;
     Some(bid_ask_line(line, low, high))
 }
 
@@ -239,8 +249,9 @@ fn word_of_end(which: u64) -> Asked {
     Asked::from(if which < 4 { which % 2 } else { which / 2 })
 }
 
-// Low, high, forward, strike, expiry, kind, limit, the bytes of the low trail and 65536 times those of the
-// high one, and which word. Before, the low trail has 165 in each byte and the high one 90.
+// Low, high, forward, strike, expiry, kind, limit, the bytes of the low trail with 65536 times those of the
+// high one and 2^32 times the rule set, and which word. Before, the low trail has 165 in each byte and the
+// high one 90.
 pub(crate) fn bid_ask(line: Line) -> Answer {
     let mut low_trail = [165u8; 960];
     let mut high_trail = [90u8; 960];
