@@ -14,25 +14,24 @@ use rust_over_rules::book::{self, market_and_limit, record, Refusal, RECORD};
 use rust_over_rules::solver::solve;
 use std::hint::black_box;
 
-/// Whether a run of this limit is one to compare: a limit of many millions is only where the step test or a refusal cuts
-/// it short.
+/// Whether a run of this limit is one to compare under any rule set: a limit of many millions is only where the step test or
+/// a refusal cuts it short under each, so that a call which takes one for another still ends.
 pub fn is_bounded(question: Question, limit: i32) -> bool {
-    limit <= 200
-        || question.market().map_or(true, |market| {
-            solve(question.rule_set, market, 200, None).answer.map_or(true, |found| found.ending != 2)
-        })
+    limit <= 200 || KNOWN.into_iter().all(|rule_set| ends_by_itself(question.under(rule_set)))
 }
 
-/// What a record asks for under a rule set.
-fn question_of(bytes: &[u8; RECORD], rule_set: u32) -> Question {
-    let floats = [0, 8, 16, 24].map(|at| u64::from_le_bytes(std::array::from_fn(|i| bytes[at + i])));
-    Question::of(floats, bytes[48]).under(rule_set)
+fn ends_by_itself(question: Question) -> bool {
+    let run = |market| solve(question.rule_set, market, 200, None);
+    question.market().map_or(true, |market| run(market).answer.map_or(true, |found| found.ending != 2))
 }
 
-/// Under either rule set.
+/// What a record asks for, under rule set 0.
+fn question_of(bytes: &[u8; RECORD]) -> Question {
+    Question::of([0, 8, 16, 24].map(|at| u64::from_le_bytes(std::array::from_fn(|i| bytes[at + i]))), bytes[48])
+}
+
 fn is_bounded_record(bytes: &[u8; RECORD]) -> bool {
-    let is_bounded = |limit| KNOWN.into_iter().all(|rule_set| is_bounded(question_of(bytes, rule_set), limit));
-    market_and_limit(bytes).map_or(true, |(_, limit)| is_bounded(limit))
+    market_and_limit(bytes).map_or(true, |(_, limit)| is_bounded(question_of(bytes), limit))
 }
 
 fn hex(bytes: &[u8]) -> String {
@@ -98,7 +97,7 @@ fn causes_at_recheck(old: &[u8], used: u64, k: u64, rule_set: u32) -> Vec<&'stat
     let is_there = k < used && used <= slots(old);
     let record = is_there.then(|| &old[RECORD * k as usize..]).and_then(|bytes| bytes.first_chunk::<RECORD>());
     // Of the kind's byte, 24 is said below with the other bytes.
-    let question = record.map_or(Question::new([1.0; 4], 1), |bytes| question_of(bytes, 0)).under(rule_set);
+    let question = record.map_or(Question::new([1.0; 4], 1), question_of).under(rule_set);
     let causes = of_question(question).into_iter().filter(|cause| *cause != "24");
     let layout = match record {
         None => Some("23"),
