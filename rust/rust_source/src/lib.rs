@@ -1,5 +1,5 @@
 //! For the build scripts of `rust_over_rules` and `rust_over_std`: reads the Rust of the source folder and writes it to
-//! OUT_DIR/source.rs, for `rust_over_rules` once more for each further rule set.
+//! OUT_DIR/source.rs, once for each rule set.
 //!
 //! Nothing of the source stands in this repository. GINTUBALOS_RUST_SOURCE is the folder that has `src/lets_be_rational`;
 //! its default is `../shared/docs/src`, seen from the repository's root. Where it isn't there, absent.rs is written in its
@@ -29,7 +29,7 @@ const DEFAULT: &str = "../../../shared/docs/src";
 
 /// Methods of f64 that document 01 has rules for, and the trait methods that they go to. An inherent method wins over a
 /// trait's of the same name, so the names differ.
-const METHODS: [(&str, &str); 16] = [
+const METHODS: [(&str, &str); 15] = [
     (".exp()", ".rule_exp()"),
     (".ln()", ".rule_ln()"),
     (".sqrt()", ".rule_sqrt()"),
@@ -46,17 +46,17 @@ const METHODS: [(&str, &str); 16] = [
     (".expect(\"We should expect correct parameters\")", ".rule_expect(6)"),
     (".expect(\"Asymptotic expansion failed\")", ".rule_expect(7)"),
     (".expect(\"Small t expansion failed\")", ".rule_expect(8)"),
-    // The cdf and its inverse, over the erfc of the same rule set.
-    ("Normal::standard()", "Normal::over(super::cody::optimized::erfc)"),
 ];
 
-/// What makes every function and constant visible, and the two registry crates ours.
-const NAMES: [(&str, &str); 5] = [
+/// What makes every function and constant visible, and the two registry crates ours: the cdf and its inverse are over the
+/// erfc of the same rule set.
+const NAMES: [(&str, &str); 6] = [
     ("\nfn ", "\npub fn "),
     ("\nconst ", "\npub const "),
     ("pub(crate) ", "pub "),
     ("use statrs::", "use crate::statrs::"),
     ("use num_traits::", "use crate::num_traits::"),
+    ("Normal::standard()", "Normal::over(super::cody::optimized::erfc)"),
 ];
 
 /// What keeps s before a step, and what records the completed step.
@@ -112,8 +112,8 @@ struct File {
     path: &'static str,
     module: &'static str,
     /// How often each pattern of METHODS and of NAMES stands in the file, and the name of the whole source in a path.
-    methods: [usize; 16],
-    names: [usize; 5],
+    methods: [usize; 15],
+    names: [usize; 6],
     paths: usize,
 }
 
@@ -121,55 +121,55 @@ const FILES: [File; 6] = [
     File {
         path: "src/lets_be_rational/black.rs",
         module: "black",
-        methods: [11, 0, 0, 0, 4, 4, 0, 42, 1, 0, 0, 0, 0, 1, 1, 0],
-        names: [2, 5, 2, 1, 0],
+        methods: [11, 0, 0, 0, 4, 4, 0, 42, 1, 0, 0, 0, 0, 1, 1],
+        names: [2, 5, 2, 1, 0, 0],
         paths: 1,
     },
     File {
         path: "src/lets_be_rational/cody/optimized.rs",
         module: "optimized",
-        methods: [5, 0, 0, 2, 2, 0, 0, 0, 0, 0, 0, 0, 0, 0, 0, 0],
-        names: [7, 10, 0, 0, 0],
+        methods: [5, 0, 0, 2, 2, 0, 0, 0, 0, 0, 0, 0, 0, 0, 0],
+        names: [7, 10, 0, 0, 0, 0],
         paths: 0,
     },
     File {
         path: "src/lets_be_rational/intrinsic.rs",
         module: "intrinsic",
-        methods: [1, 0, 0, 0, 0, 2, 0, 0, 0, 0, 0, 0, 0, 0, 0, 0],
-        names: [0, 2, 1, 0, 0],
+        methods: [1, 0, 0, 0, 0, 2, 0, 0, 0, 0, 0, 0, 0, 0, 0],
+        names: [0, 2, 1, 0, 0, 0],
         paths: 0,
     },
     File {
         path: "src/lets_be_rational/normal_distribution.rs",
         module: "normal_distribution",
-        methods: [0, 0, 0, 0, 0, 0, 0, 0, 0, 0, 0, 0, 0, 0, 0, 3],
-        names: [0, 0, 0, 1, 0],
+        methods: [0; 15],
+        names: [0, 0, 0, 1, 0, 3],
         paths: 0,
     },
     File {
         path: "src/lets_be_rational/rational_cubic.rs",
         module: "rational_cubic",
-        methods: [0, 0, 1, 0, 3, 1, 3, 2, 0, 0, 0, 5, 0, 0, 0, 0],
-        names: [2, 2, 0, 0, 1],
+        methods: [0, 0, 1, 0, 3, 1, 3, 2, 0, 0, 0, 5, 0, 0, 0],
+        names: [2, 2, 0, 0, 1, 0],
         paths: 0,
     },
     File {
         path: SOLVER,
         module: "so_rational",
-        methods: [7, 4, 5, 0, 9, 6, 0, 0, 0, 9, 1, 0, 4, 0, 0, 0],
-        names: [6, 9, 3, 0, 0],
+        methods: [7, 4, 5, 0, 9, 6, 0, 0, 0, 9, 1, 0, 4, 0, 0],
+        names: [6, 9, 3, 0, 0, 0],
         paths: 1,
     },
 ];
 
 const INPUTS: File =
-    File { path: "src/inputs.rs", module: "inputs", methods: [0; 16], names: [0, 0, 0, 0, 1], paths: 0 };
+    File { path: "src/inputs.rs", module: "inputs", methods: [0; 15], names: [0, 0, 0, 0, 1, 0], paths: 0 };
 
 const MOD: File = File {
     path: "src/lets_be_rational/mod.rs",
     module: "lets_be_rational",
-    methods: [0, 1, 3, 0, 0, 2, 0, 0, 0, 0, 0, 0, 0, 0, 0, 0],
-    names: [0, 1, 3, 1, 0],
+    methods: [0, 1, 3, 0, 0, 2, 0, 0, 0, 0, 0, 0, 0, 0, 0],
+    names: [0, 1, 3, 1, 0, 0],
     paths: 3,
 };
 
@@ -255,6 +255,11 @@ fn module(name: &str, text: &str, over: Over) -> String {
 
 /// The whole source under a rule set.
 fn tree(root: &Path, over: Over, rule_set: &RuleSet) -> String {
+    for (path, piece, ..) in rule_set.changes {
+        if FILES.iter().chain([&MOD]).all(|file| file.path != *path) {
+            fail(&format!("{path}: no such file, so `{piece}` is not changed"));
+        }
+    }
     let mut inner = String::new();
     for file in &FILES {
         let text = module(file.module, &transform(root, file, over, rule_set), over);
@@ -268,26 +273,18 @@ fn tree(root: &Path, over: Over, rule_set: &RuleSet) -> String {
     module(rule_set.module, &(outer + "\n" + &inner), over)
 }
 
-/// The rule sets that are written: over std's functions there is nothing but the Rust as it is.
-fn rule_sets(over: Over) -> &'static [RuleSet] {
-    if over == Over::Std {
-        &RULE_SETS[..1]
-    } else {
-        &RULE_SETS
-    }
-}
-
 /// The kinds, which all rule sets share, and the source under each.
 fn source(root: &Path, over: Over) -> String {
     let inputs = module(INPUTS.module, &transform(root, &INPUTS, over, &RULE_SETS[0]), over);
-    rule_sets(over).iter().fold(inputs, |all, rule_set| all + &tree(root, over, rule_set))
+    RULE_SETS.iter().fold(inputs, |all, rule_set| all + &tree(root, over, rule_set))
 }
 
 /// What stands in for it where the source folder isn't at hand.
-fn absent(over: Over) -> String {
+fn absent() -> String {
     let first = include_str!("absent.rs").to_string();
-    let further = rule_sets(over)[1..].iter();
-    further.fold(first, |all, rule_set| all + &format!("\npub use {} as {};\n", MOD.module, rule_set.module))
+    RULE_SETS[1..]
+        .iter()
+        .fold(first, |all, rule_set| all + &format!("\npub use {} as {};\n", MOD.module, rule_set.module))
 }
 
 /// FNV-1a of the source as it is read: says in a run's output which text ours is compared with.
@@ -317,7 +314,7 @@ pub fn write(over: Over) {
             "cargo:warning=no Rust source: set {VARIABLE} to the folder that has {}; nothing can be compared",
             MOD.path
         );
-        absent(over)
+        absent()
     };
     let out = folder("OUT_DIR").join("source.rs");
     fs::write(&out, text).unwrap_or_else(|e| fail(&format!("{}: {e}", out.display())));
