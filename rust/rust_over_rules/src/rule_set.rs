@@ -34,9 +34,14 @@ impl RuleSet {
     }
 
     pub(crate) fn solve(self) -> Solve {
+        use crate::{lets_be_rational::so_rational as first, rule_set_1::so_rational as textbook};
         match self {
-            RuleSet::FirstDelivery => lets_be_rational::so_rational::implied_volatility_from_a_transformed_rational_guess_with_limited_iterations,
-            RuleSet::CapsByTheTextbook => rule_set_1::so_rational::implied_volatility_from_a_transformed_rational_guess_with_limited_iterations,
+            RuleSet::FirstDelivery => {
+                first::implied_volatility_from_a_transformed_rational_guess_with_limited_iterations
+            }
+            RuleSet::CapsByTheTextbook => {
+                textbook::implied_volatility_from_a_transformed_rational_guess_with_limited_iterations
+            }
         }
     }
 
