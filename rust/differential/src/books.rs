@@ -122,17 +122,19 @@ const PLACES: [[&str; 2]; 2] = [
     ["between the caps, differs", "between the caps, agrees"],
 ];
 
-/// Compares the recheck of a record as the question's rule set files it.
-fn recheck_filed(tally: &mut Tally, question: Question, limit: i32, rule_set: u32) {
-    let Some(bytes) = filed(question, limit) else { return };
-    let Ok(agrees) = recheck(tally, &bytes, 1, 0, rule_set) else { return };
+/// Compares the recheck of a record as the question's rule set files it, and says whether there is one.
+fn recheck_filed(tally: &mut Tally, question: Question, limit: i32, rule_set: u32) -> bool {
+    let Some(bytes) = filed(question, limit) else { return false };
+    let answer = recheck(tally, &bytes, 1, 0, rule_set);
     let place = match caps::place(question) {
-        Some(caps::Place::BelowBoth) => 0,
-        Some(caps::Place::Between) => 1,
-        _ => return,
+        Some(caps::Place::BelowBoth) => Some(0),
+        Some(caps::Place::Between) => Some(1),
+        _ => None,
     };
-    let case = FILED[question.rule_set as usize][rule_set as usize];
-    tally.meet(case, PLACES[place][usize::from(agrees)]);
+    if let (Ok(agrees), Some(place)) = (answer, place) {
+        tally.meet(FILED[question.rule_set as usize][rule_set as usize], PLACES[place][usize::from(agrees)]);
+    }
+    true
 }
 
 /// Prints how often such records agree, and gives what was to be met and was not: a record of a price below both caps agrees
@@ -295,7 +297,9 @@ pub fn recheck_random(words: &mut Words, tally: &mut Tally) {
         let question = question.under(question.rule_set % 2);
         let limit = bounded_limit(words, question).min(200);
         let rule_set = rule_sets::known(words.any());
-        return recheck_filed(tally, question, limit, rule_set);
+        if recheck_filed(tally, question, limit, rule_set) {
+            return;
+        }
     }
     let book = any_book(words, any_record);
     let (used, k) = used_and_k(words, &book);
@@ -369,7 +373,7 @@ pub fn refused_filings(tally: &mut Tally) {
 pub fn other_rechecks(tally: &mut Tally) {
     for question in fixed_questions().into_iter().chain(caps::fixed_questions()) {
         for (filed, asked) in [(0, 0), (0, 1), (1, 0), (1, 1)] {
-            [-1, 2, 5].into_iter().for_each(|limit| recheck_filed(tally, question.under(filed), limit, asked));
+            [-1, 2, 5].into_iter().for_each(|limit| _ = recheck_filed(tally, question.under(filed), limit, asked));
         }
         for rule_set in UNKNOWN {
             let bytes = record_of(question, 2);
