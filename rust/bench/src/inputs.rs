@@ -30,9 +30,14 @@ impl Market {
 
     /// The branch that our solve takes, 0 also where it refuses.
     fn branch(&self) -> u8 {
+        self.branch_under(0)
+    }
+
+    fn branch_under(&self, rule_set: u32) -> u8 {
         let [price, forward, strike, expiry] = self.bits();
-        let (_, outcome) =
-            bits::implied_volatility_from_a_transformed_rational_guess(price, forward, strike, expiry, self.kind);
+        let (_, outcome) = bits::implied_volatility_from_a_transformed_rational_guess(
+            price, forward, strike, expiry, self.kind, rule_set,
+        );
         bits::Outcome::from(outcome).branch
     }
 }
@@ -154,6 +159,23 @@ pub fn quotes(count: usize) -> Vec<Market> {
         if let Ok(price) = black(forward, strike, sigma, expiry, kind) {
             found.push(Market { floats: [price, forward, strike, expiry], kind: kind.byte() });
         }
+    }
+    found
+}
+
+/// Prices in the money that are at least the lesser one of forward and strike, and below the greater one: rule set 0 caps
+/// them all, and rule set 1 comes to a loop.
+pub fn between_the_caps(count: usize) -> Vec<Market> {
+    let mut words = Words::new(1, "between the caps", 0);
+    let mut found = Vec::new();
+    while found.len() < count {
+        let x = -words.uniform(0.7, 3.0);
+        let [s_l, _, s_h] = borders(x);
+        let s = words.uniform(0.5 * s_l, 1.2 * s_h);
+        found.extend(market(&mut words, x, s).filter(|m| {
+            let [price, forward, strike, _] = m.floats;
+            price >= forward.min(strike) && price < forward.max(strike) && m.branch_under(1) != 0
+        }));
     }
     found
 }

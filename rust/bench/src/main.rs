@@ -26,13 +26,14 @@ const TRAIL: Trail = [0; 48 * LIMIT as usize];
 const COUNT: usize = 2048;
 const RECORDS: usize = 40_000;
 
-/// A function of the source folder in both of its builds, with the kind's byte turned into theirs.
+/// A function of the source folder in both of its builds, with the kind's byte turned into theirs, under a rule set: the
+/// module that has its source.
 macro_rules! rust_solve {
-    ($name:ident, $side:ident) => {
+    ($name:ident, $side:ident, $rule_set:ident) => {
         fn $name(floats: [f64; 4], kind: u8, limit: i32) -> f64 {
             let [price, forward, strike, expiry] = floats;
             let kind = if kind == 1 { $side::OptionType::Call } else { $side::OptionType::Put };
-            use $side::lets_be_rational::so_rational as solver;
+            use $side::$rule_set::so_rational as solver;
             solver::implied_volatility_from_a_transformed_rational_guess_with_limited_iterations(
                 price, forward, strike, expiry, kind, limit,
             )
@@ -40,27 +41,24 @@ macro_rules! rust_solve {
     };
 }
 
-rust_solve!(rules_solve, rust_over_rules);
-rust_solve!(std_solve, rust_over_std);
+rust_solve!(rules_solve, rust_over_rules, lets_be_rational);
+rust_solve!(std_solve, rust_over_std, lets_be_rational);
+rust_solve!(rules_solve_under_1, rust_over_rules, rule_set_1);
+rust_solve!(std_solve_under_1, rust_over_std, rule_set_1);
 
-/// Our solve, without a trail and with one, and our price of a call.
+/// Our solve, without a trail and with one, and our price of a call. Nothing but its own row is under rule set 1.
 fn our_solve(market: &Market) -> u64 {
+    our_solve_under(0, market)
+}
+
+fn our_solve_under(rule_set: u32, market: &Market) -> u64 {
     let [price, forward, strike, expiry] = market.bits();
-    bits::implied_volatility_from_a_transformed_rational_guess(price, forward, strike, expiry, market.kind).0
+    bits::implied_volatility_from_a_transformed_rational_guess(price, forward, strike, expiry, market.kind, rule_set).0
 }
 
 fn our_solve_with_trail(market: &Market, trail: &mut [u8]) -> u64 {
     let [price, forward, strike, expiry] = market.bits();
-    bits::implied_volatility_from_a_transformed_rational_guess_with_trail(
-        price,
-        forward,
-        strike,
-        expiry,
-        market.kind,
-        LIMIT,
-        trail,
-    )
-    .0
+    bits::solve_with_trail(price, forward, strike, expiry, market.kind, LIMIT, 0, trail).0
 }
 
 /// Both volatilities of a pair in one word.
@@ -70,14 +68,14 @@ fn both([low, high]: [u64; 2]) -> u64 {
 
 fn our_bid_ask([low, high]: &[Market; 2]) -> u64 {
     let [price, forward, strike, expiry] = low.bits();
-    let (_, ends) = bits::bid_ask_without_trails(price, high.bits()[0], forward, strike, expiry, low.kind, LIMIT);
+    let (_, ends) = bits::bid_ask_without_trails(price, high.bits()[0], forward, strike, expiry, low.kind, LIMIT, 0);
     both(ends.map(|(volatility, _)| volatility))
 }
 
 fn our_bid_ask_with_trails([low, high]: &[Market; 2], [low_trail, high_trail]: &mut [Trail; 2]) -> u64 {
     let [price, forward, strike, expiry] = low.bits();
     let high = high.bits()[0];
-    let (_, ends) = bits::bid_ask(price, high, forward, strike, expiry, low.kind, LIMIT, low_trail, high_trail);
+    let (_, ends) = bits::bid_ask(price, high, forward, strike, expiry, low.kind, LIMIT, 0, low_trail, high_trail);
     both(ends.map(|(volatility, _)| volatility))
 }
 
@@ -147,6 +145,17 @@ impl Bench {
         self.row(&plain, &markets, our_solve, over_rules, over_std);
         let mut trail = TRAIL;
         self.row(&with_trail, &markets, |m| our_solve_with_trail(m, &mut trail), over_rules, over_std);
+    }
+
+    /// Under rule set 1 a loop is reached where rule set 0 says above maximum: in the money, between the two caps.
+    fn between_the_caps(&self) {
+        self.row(
+            "solve under rule set 1, between the caps",
+            &inputs::between_the_caps(COUNT),
+            |m| our_solve_under(1, m),
+            |m| rules_solve_under_1(m.floats, m.kind, LIMIT),
+            |m| std_solve_under_1(m.floats, m.kind, LIMIT),
+        );
     }
 
     /// Two prices of an option, one per cent apart, in one call, in two of ours, and in two of the Rust.
@@ -330,6 +339,7 @@ fn main() {
     println!("\n| ns per call | ours | Rust over 01 | ratio | Rust over std | ratio |");
     println!("|---|---:|---:|---:|---:|---:|");
     CLASSES.iter().for_each(|class| bench.solves(class));
+    bench.between_the_caps();
     REGIONS.iter().for_each(|region| bench.prices(region));
     bench.elementary();
     bench.bid_ask();

@@ -2,14 +2,18 @@
 //! every byte of both trails; and how often each case was met that is to show a fault.
 
 use crate::{
-    pairs::{combinations, fixed_pairs, is_bounded_pair, Call},
+    caps::{place, Place},
+    causes::{self, is_refused, is_unknown},
+    pairs::{combinations, fixed_pairs, is_bounded_pair, pairs_by_the_caps, with_causes, Call},
+    rule_sets::UNKNOWN,
     solves::{answer, first_difference, pattern, refused, room, text, BID_ASK, BID_ASK_WITHOUT_TRAILS, LIMITS},
     tally::Tally,
 };
 use gintubalos::bits as ours;
+use random_words::Words;
 use rust_over_rules::{
     bid_ask::bid_ask,
-    book::{write_trail, STEP},
+    book::{kind_of, write_trail, STEP},
     solver::is_long_enough,
 };
 
@@ -24,15 +28,15 @@ fn trails_before(call: Call) -> [Vec<u8>; 2] {
 
 fn ours(call: Call, [low_trail, high_trail]: &mut [Vec<u8>; 2]) -> Answer {
     let [low, high, forward, strike, expiry] = call.pair.floats;
-    let (kind, limit) = (call.pair.kind, call.limit);
+    let (kind, limit, rule_set) = (call.pair.kind, call.limit, call.pair.rule_set);
     match call.trails {
-        Some(_) => ours::bid_ask(low, high, forward, strike, expiry, kind, limit, low_trail, high_trail),
-        None => ours::bid_ask_without_trails(low, high, forward, strike, expiry, kind, limit),
+        Some(_) => ours::bid_ask(low, high, forward, strike, expiry, kind, limit, rule_set, low_trail, high_trail),
+        None => ours::bid_ask_without_trails(low, high, forward, strike, expiry, kind, limit, rule_set),
     }
 }
 
 fn rust(call: Call, trails: &mut [Vec<u8>; 2]) -> Answer {
-    match call.pair.range().and_then(|range| bid_ask(range, call.limit, call.trails)) {
+    match call.pair.range().and_then(|range| bid_ask(call.pair.rule_set, range, call.limit, call.trails)) {
         Ok(runs) => {
             if call.trails.is_some() {
                 runs.iter().zip(trails).for_each(|(run, trail)| write_trail(&run.steps, trail));
@@ -66,21 +70,21 @@ pub fn compare(tally: &mut Tally, call: Call) {
 
 // ---- the cases
 
-/// What refuses a call, in the order of the checks. The archive's own is the first.
-const CHECKS: [&str; 9] =
-    ["24", "1 for low", "1 for high", "31", "2", "3", "4", "21 for the low trail", "21 for the high trail"];
+/// What refuses a call, in the order of the checks. 24 is the archive's own.
+const CHECKS: [&str; 10] =
+    ["32", "24", "1 for low", "1 for high", "31", "2", "3", "4", "21 for the low trail", "21 for the high trail"];
 
 fn checks(with_trails: bool) -> &'static [&'static str] {
-    &CHECKS[..if with_trails { 9 } else { 7 }]
+    &CHECKS[..if with_trails { 10 } else { 8 }]
 }
 
 /// All that would refuse the call if it were looked for alone, in the same order.
-fn causes(call: Call) -> Vec<&'static str> {
+fn causes_of(call: Call) -> Vec<&'static str> {
     let [low, high, forward, strike, expiry] = call.pair.floats.map(f64::from_bits);
-    let is_refused = |x: f64| !x.is_normal() || x < 0.0;
     let [low_trail, high_trail] = call.trails.map_or([usize::MAX; 2], |trails| trails);
     let found = [
-        call.pair.range().is_err(),
+        is_unknown(call.pair.rule_set),
+        kind_of(call.pair.kind).is_none(),
         !low.is_finite(),
         !high.is_finite(),
         low > high,
@@ -90,7 +94,7 @@ fn causes(call: Call) -> Vec<&'static str> {
         !is_long_enough(low_trail, call.limit),
         !is_long_enough(high_trail, call.limit),
     ];
-    CHECKS.into_iter().zip(found).filter(|(_, found)| *found).map(|(name, _)| name).collect()
+    causes::found(CHECKS, found)
 }
 
 /// What an end's answer is.
@@ -129,6 +133,9 @@ struct Compared {
     spare: Option<(i64, i64)>,
     causes: Vec<&'static str>,
     ends: [End; 2],
+    rule_set: u32,
+    /// Where each price lies by the two caps.
+    places: [Option<Place>; 2],
 }
 
 impl Compared {
@@ -136,11 +143,25 @@ impl Compared {
         let [low, high, ..] = call.pair.floats.map(f64::from_bits);
         let need = STEP as i64 * i64::from(call.limit.max(0));
         let spare = call.trails.map(|[low, high]| (low as i64 - need, high as i64 - need));
-        Compared { low, high, limit: call.limit, spare, causes: causes(call), ends: ends.map(End::new) }
+        Compared {
+            low,
+            high,
+            limit: call.limit,
+            spare,
+            causes: causes_of(call),
+            ends: ends.map(End::new),
+            rule_set: call.pair.rule_set,
+            places: call.pair.ends().map(place),
+        }
     }
 
     fn has_prices(&self, low: f64, high: f64) -> bool {
         [self.low, self.high].map(f64::to_bits) == [low, high].map(f64::to_bits)
+    }
+
+    /// Whether this is the rule set, and the prices lie there.
+    fn has_places(&self, rule_set: u32, low: Place, high: Place) -> bool {
+        self.rule_set == rule_set && self.places == [Some(low), Some(high)]
     }
 
     /// Whether one end meets this, 7 without a step or after some, and the other end no 7.
@@ -152,7 +173,7 @@ impl Compared {
 type Case = (&'static str, fn(&Compared) -> bool);
 
 /// Of calls that are answered.
-const ANSWERED: [Case; 14] = [
+const ANSWERED: [Case; 22] = [
     ("equal prices", |call| call.has_prices(call.low, call.low)),
     ("neighbours by one float", |call| call.low < call.high && call.low.next_up() == call.high),
     ("-0 and +0", |call| call.has_prices(-0.0, 0.0)),
@@ -167,6 +188,14 @@ const ANSWERED: [Case; 14] = [
     ("limit i32::MIN", |call| call.limit == i32::MIN),
     ("limit below 0, not i32::MIN", |call| call.limit < 0 && call.limit != i32::MIN),
     ("limit 0", |call| call.limit == 0),
+    ("rule set 0, both below both caps", |call| call.has_places(0, Place::BelowBoth, Place::BelowBoth)),
+    ("rule set 0, low below both caps, high between", |call| call.has_places(0, Place::BelowBoth, Place::Between)),
+    ("rule set 0, both between the caps", |call| call.has_places(0, Place::Between, Place::Between)),
+    ("rule set 0, low between the caps, high above both", |call| call.has_places(0, Place::Between, Place::AboveBoth)),
+    ("rule set 1, both below both caps", |call| call.has_places(1, Place::BelowBoth, Place::BelowBoth)),
+    ("rule set 1, low below both caps, high between", |call| call.has_places(1, Place::BelowBoth, Place::Between)),
+    ("rule set 1, both between the caps", |call| call.has_places(1, Place::Between, Place::Between)),
+    ("rule set 1, low between the caps, high above both", |call| call.has_places(1, Place::Between, Place::AboveBoth)),
 ];
 
 /// Of calls that nothing refuses, or 21 alone.
@@ -193,51 +222,45 @@ fn by_trails(with_trails: bool) -> &'static [Case] {
 }
 
 fn count_cases(tally: &mut Tally, call: &Compared) {
-    let mut add = |case| *tally.met.entry(case).or_default() += 1;
-    if let [first, later @ ..] = &call.causes[..] {
-        add((first, ""));
-        later.iter().for_each(|later| add((first, later)));
-    }
+    tally.meet_causes(&call.causes);
+    let mut add = |name| tally.meet(name, "");
     if call.causes.is_empty() {
-        ANSWERED.iter().filter(|(_, is_met)| is_met(call)).for_each(|(name, _)| add((name, "")));
+        ANSWERED.iter().filter(|(_, is_met)| is_met(call)).for_each(|(name, _)| add(name));
     }
     if call.causes.iter().all(|cause| cause.starts_with("21")) {
         let cases = by_trails(call.spare.is_some());
-        cases.iter().filter(|(_, is_met)| is_met(call)).for_each(|(name, _)| add((name, "")));
+        cases.iter().filter(|(_, is_met)| is_met(call)).for_each(|(name, _)| add(name));
     }
 }
 
 /// Prints how many calls met each case, and gives the cases that none met.
 pub fn report(tally: &Tally, with_trails: bool) -> Vec<String> {
-    let count = |case, and| tally.met.get(&(case, and)).copied().unwrap_or(0);
-    let mut missing = Vec::new();
-    println!("calls by the check that refuses them, and how many of them a later check would refuse, too:");
-    for (i, first) in checks(with_trails).iter().enumerate() {
-        let later = &checks(with_trails)[i + 1..];
-        let counts: Vec<String> = later.iter().map(|later| format!(", {later}: {}", count(first, later))).collect();
-        println!("  {first}: {}{}", count(first, ""), counts.concat());
-        missing.extend([""].iter().chain(later).filter(|later| count(first, later) == 0).map(|later| match *later {
-            "" => first.to_string(),
-            later => format!("{first} before {later}"),
-        }));
-    }
+    let mut missing = tally.report_checks(checks(with_trails), |_, _| true);
     println!("calls that no check refuses, or 21 alone:");
     for (name, _) in ANSWERED.iter().chain(by_trails(with_trails)) {
-        println!("  {name}: {}", count(name, ""));
-        missing.extend((count(name, "") == 0).then(|| name.to_string()));
+        let count = tally.count_of(name, "");
+        println!("  {name}: {count}");
+        missing.extend((count == 0).then(|| name.to_string()));
     }
     missing
 }
 
 // ---- fixed calls
 
-pub fn edges(tally: &mut Tally) {
+pub fn edges(tally: &mut Tally, rule_set: u32) {
     combinations(|pair| {
+        let pair = pair.under(rule_set);
         for (limit, trails) in [(2, [96, 96]), (2, [95, 96]), (2, [96, 95]), (0, [0, 0]), (i32::MAX, [48, 48])] {
             compare(tally, Call { pair, limit, trails: Some(trails) });
         }
     });
+    for pair in pairs_by_the_caps() {
+        for limit in LIMITS {
+            compare(tally, Call { pair: pair.under(rule_set), limit, trails: Some([room(limit); 2]) });
+        }
+    }
     for pair in fixed_pairs() {
+        let pair = pair.under(rule_set);
         for limit in LIMITS {
             compare(tally, Call { pair, limit, trails: Some([room(limit); 2]) });
         }
@@ -251,20 +274,41 @@ pub fn edges(tally: &mut Tally) {
 }
 
 /// A limit of many millions is only where both runs end for another cause.
-pub fn edges_without_trails(tally: &mut Tally) {
-    combinations(|pair| compare(tally, Call { pair, limit: 2, trails: None }));
-    for pair in fixed_pairs() {
+pub fn edges_without_trails(tally: &mut Tally, rule_set: u32) {
+    combinations(|pair| compare(tally, Call { pair: pair.under(rule_set), limit: 2, trails: None }));
+    for pair in fixed_pairs().into_iter().chain(pairs_by_the_caps()) {
+        let pair = pair.under(rule_set);
         for limit in LIMITS.into_iter().filter(|limit| is_bounded_pair(pair, *limit)) {
             compare(tally, Call { pair, limit, trails: None });
         }
     }
 }
 
+/// Every set of causes, and under unknown rule sets what would be answered under a known one.
+fn refused_edges(mut each: impl FnMut(Call)) {
+    let mut words = Words::new(1, "refused calls of bid and ask", 0);
+    for set in 0..1 << CHECKS.len() {
+        (0..8).for_each(|_| each(with_causes(&mut words, |cause| set >> cause & 1 == 1)));
+    }
+    for rule_set in UNKNOWN {
+        for pair in pairs_by_the_caps() {
+            each(Call { pair: pair.under(rule_set), limit: 2, trails: Some([96, 96]) });
+        }
+    }
+}
+
+pub fn refused_calls(tally: &mut Tally) {
+    refused_edges(|call| compare(tally, call));
+}
+
+pub fn refused_calls_without_trails(tally: &mut Tally) {
+    refused_edges(|call| compare(tally, Call { trails: None, ..call }));
+}
+
 #[cfg(test)]
 mod tests {
     use super::*;
-    use crate::pairs::random_call;
-    use random_words::Words;
+    use crate::{pairs::random_call, rule_sets::KNOWN};
 
     /// What refuses a call in the reference is the first of its causes.
     #[test]
@@ -276,7 +320,7 @@ mod tests {
         for _ in 0..100_000 {
             let call = random_call(&mut words);
             let (number, _) = rust(call, &mut trails_before(call));
-            let first = causes(call).first().map_or("0", |cause| cause);
+            let first = causes_of(call).first().map_or("0", |cause| cause);
             assert_eq!(first.split(' ').next(), Some(number.to_string().as_str()), "{}", call.text());
         }
     }
@@ -288,8 +332,12 @@ mod tests {
             return;
         }
         let [mut with, mut without] = [Tally::default(), Tally::default()];
-        edges(&mut with);
-        edges_without_trails(&mut without);
+        for rule_set in KNOWN {
+            edges(&mut with, rule_set);
+            edges_without_trails(&mut without, rule_set);
+        }
+        refused_calls(&mut with);
+        refused_calls_without_trails(&mut without);
         assert!(report(&with, true).is_empty());
         assert!(report(&without, false).is_empty());
     }

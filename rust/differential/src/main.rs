@@ -1,13 +1,15 @@
 //! Compares the proved functions with the Rust, bit for bit.
 //!
 //! The last line of a run is `N compared, M differences`. Exit status: 0 no difference; 1 a difference, the first ones in
-//! the lines above, or a branch, an ending or a refusal of solve or a case of bid and ask that no input met; 2 bad usage; 3
-//! the Rust's source wasn't at hand when this was built, and nothing was compared.
+//! the lines above, or a case of a call that was to be met (a branch, an ending, a price by a cap, two causes of a refusal) and
+//! that no input met; 2 bad usage; 3 the Rust's source wasn't at hand when this was built, and nothing was compared.
 
 mod accuracy;
 mod bid_ask;
 mod books;
 mod borders;
+mod caps;
+mod causes;
 mod compare;
 mod edges;
 mod functions;
@@ -16,6 +18,7 @@ mod markets;
 mod pairs;
 mod prices;
 mod records;
+mod rule_sets;
 mod samples;
 mod search;
 mod sevens;
@@ -24,7 +27,7 @@ mod tally;
 
 use compare::Run;
 use functions::{Function, FUNCTIONS};
-use solves::{Part, BID_ASK, BID_ASK_WITHOUT_TRAILS, PARTS, SOLVE};
+use solves::{Part, PARTS};
 use std::{env, process::exit, thread};
 use tally::Tally;
 
@@ -34,7 +37,7 @@ const USAGE: &str = "usage: differential [--quick] [--function NAME] [--inputs N
 
   --quick          fewer random inputs: under a minute, for the gate
   --function NAME  this function alone
-  --inputs N       random inputs of each function (default 10000000; of solve 2000000, of bid_ask 1000000)
+  --inputs N       random inputs of each function (default 10000000; of solve_with_trail 2000000, of other calls fewer)
   --seed N         other random inputs (default 1)
   --threads N      default: as many as the machine has processors
   --search         looks for refusals of `black` and solve at the asymptotic expansion's borders
@@ -113,19 +116,6 @@ impl Options {
     }
 }
 
-/// Prints what the inputs of solve and of bid and ask met, and gives what they were to meet and did not.
-fn report(part: &Part, tally: &Tally) -> Vec<String> {
-    match part.name {
-        SOLVE => {
-            tally.print_solves();
-            tally.missing()
-        }
-        BID_ASK => bid_ask::report(tally, true),
-        BID_ASK_WITHOUT_TRAILS => bid_ask::report(tally, false),
-        _ => Vec::new(),
-    }
-}
-
 fn main() {
     let options = options();
     let Some(source) = rust_over_rules::SOURCE else {
@@ -161,7 +151,7 @@ fn main() {
     for part in parts {
         let tally = part.run(&options.run(if options.quick { part.quick } else { part.inputs }));
         add(&tally);
-        missing.extend(report(part, &tally).into_iter().map(|what| (part.name, what)));
+        missing.extend((part.report)(&tally).into_iter().map(|what| (part.name, what)));
     }
     missing.iter().for_each(|(name, what)| println!("no input of {name} met this: {what}"));
     println!("{comparisons} compared, {differences} differences");

@@ -3,46 +3,69 @@
 
 use crate::{
     borders::VOLATILITY,
+    causes::some_set,
     edges::{neighbour, SIGN},
     prices::{beside, forward_and_strike, kind, log_uniform, market_on, special},
+    rule_sets,
 };
 use random_words::Words;
 use rust_over_rules::elementary::{exp, ln, sqrt};
 use rust_over_rules::prices::{black, normalised_black_call, normalised_vega};
-use rust_over_rules::{book::kind_of, solver::Market};
+use rust_over_rules::{book::kind_of, rule_set::RuleSet, solver::Market};
 
-/// What solve is asked, as it crosses to the archive: price, forward, strike and expiry as bits, and the kind's byte.
+/// What solve is asked, as it crosses to the archive: price, forward, strike and expiry as bits, the kind's byte, and the
+/// rule set's number.
 #[derive(Clone, Copy)]
 pub struct Question {
     pub floats: [u64; 4],
     pub kind: u8,
+    pub rule_set: u32,
 }
 
 impl Question {
-    pub fn new(floats: [f64; 4], kind: u8) -> Question {
-        Question { floats: floats.map(f64::to_bits), kind }
+    /// Under rule set 0.
+    pub fn of(floats: [u64; 4], kind: u8) -> Question {
+        Question { floats, kind, rule_set: 0 }
     }
 
-    /// As `rust_over_rules` takes it; a kind that is none has 24.
+    pub fn new(floats: [f64; 4], kind: u8) -> Question {
+        Question::of(floats.map(f64::to_bits), kind)
+    }
+
+    pub fn under(self, rule_set: u32) -> Question {
+        Question { rule_set, ..self }
+    }
+
+    /// As `rust_over_rules` takes it; a kind that is none has 24, but an unknown rule set 32 before.
     pub fn market(&self) -> Result<Market, u8> {
         let [price, forward, strike, expiry] = self.floats.map(f64::from_bits);
+        RuleSet::of(self.rule_set)?;
         Ok(Market { price, forward, strike, expiry, kind: kind_of(self.kind).ok_or(24)? })
     }
 
     pub fn text(&self) -> String {
-        text(&self.floats, self.kind)
+        text(&self.floats, self.kind, self.rule_set)
     }
 }
 
-/// The floats in hexadecimal digits, and the kind's byte.
-pub fn text(floats: &[u64], kind: u8) -> String {
+/// The floats in hexadecimal digits, the kind's byte, and the rule set.
+pub fn text(floats: &[u64], kind: u8, rule_set: u32) -> String {
     let words: Vec<String> = floats.iter().map(|x| format!("{x:016X}")).collect();
-    format!("{}, {kind}", words.join(", "))
+    format!("{}, {kind}, rule set {rule_set}", words.join(", "))
 }
 
-/// Out of the money mostly: the caps answer most prices in the money before a guess.
+/// The kind that is worth nothing at once.
+fn out_of_the_money(forward: f64, strike: f64) -> u8 {
+    if forward < strike {
+        1
+    } else {
+        2
+    }
+}
+
+/// Out of the money mostly: rule set 0's caps answer most prices in the money before a guess.
 fn some_kind(words: &mut Words, forward: f64, strike: f64) -> u8 {
-    let out_of_the_money = if forward < strike { 1 } else { 2 };
+    let out_of_the_money = out_of_the_money(forward, strike);
     if words.below(4) == 0 {
         3 - out_of_the_money
     } else {
@@ -90,8 +113,7 @@ impl Terms {
     }
 
     pub fn at(&self, price: u64) -> Question {
-        let floats = [price, self.forward.to_bits(), self.strike.to_bits(), self.expiry.to_bits()];
-        Question { floats, kind: self.kind }
+        Question::of([price, self.forward.to_bits(), self.strike.to_bits(), self.expiry.to_bits()], self.kind)
     }
 
     /// The price of a volatility over the expiry; 0 where that has none.
@@ -113,6 +135,10 @@ impl Terms {
 /// A price of a volatility that lies in a branch's own interval, or beside its ends.
 pub fn in_a_branch(words: &mut Words) -> Question {
     let terms = Terms::any(words);
+    in_a_branch_of(words, terms)
+}
+
+fn in_a_branch_of(words: &mut Words, terms: Terms) -> Question {
     let [s_l, s_c, s_h] = terms.borders();
     let part = words.unit();
     let s = match words.below(8) {
@@ -136,6 +162,21 @@ fn beside_a_border(words: &mut Words) -> Question {
     let price = words.choice(&[low, low + cap, low + 0.5 * cap, terms.forward, terms.strike, cap, 0.0]);
     let steps = words.between(-4, 4);
     terms.at(neighbour(price.to_bits(), steps))
+}
+
+/// In the money, where the two caps part: a price of a volatility in a branch, which mostly lies between them; any price
+/// between them; and one beside a cap. Some are out of the money.
+fn by_the_caps(words: &mut Words) -> Question {
+    let terms = Terms::any(words);
+    let out_of_the_money = out_of_the_money(terms.forward, terms.strike);
+    let kind = if words.below(8) == 0 { out_of_the_money } else { 3 - out_of_the_money };
+    let terms = Terms { kind, ..terms };
+    let (low, high) = (terms.cap(), terms.forward.max(terms.strike));
+    match words.below(8) {
+        0 => terms.at((low + (high - low) * words.unit()).to_bits()),
+        1 => terms.at(neighbour(words.choice(&[low, high]).to_bits(), words.between(-1, 1))),
+        _ => in_a_branch_of(words, terms),
+    }
 }
 
 /// A part of the cap above the intrinsic value: any, a tiny one, or nearly all of it.
@@ -186,10 +227,24 @@ fn with_refusals(words: &mut Words) -> Question {
     question
 }
 
+/// Under either rule set and sometimes under an unknown one: what `random_question` has, prices by the caps, and questions
+/// of which most have two causes of a refusal.
+pub fn any_question(words: &mut Words) -> Question {
+    match words.below(16) {
+        0..=2 => by_the_caps(words).under(rule_sets::any(words)),
+        3 => {
+            let question = in_a_branch(words);
+            some_set(words, question)
+        }
+        _ => random_question(words).under(rule_sets::any(words)),
+    }
+}
+
+/// Under rule set 0.
 pub fn random_question(words: &mut Words) -> Question {
     match words.below(32) {
-        0 => Question { floats: std::array::from_fn(|_| words.any()), kind: kind(words) as u8 },
-        1 => Question { floats: std::array::from_fn(|_| words.any() & !SIGN), kind: kind(words) as u8 },
+        0 => Question::of(std::array::from_fn(|_| words.any()), kind(words) as u8),
+        1 => Question::of(std::array::from_fn(|_| words.any() & !SIGN), kind(words) as u8),
         2 | 3 => with_refusals(words),
         4 => at_a_seven(words),
         5..=8 => beside_a_border(words),

@@ -3,42 +3,51 @@
 use crate::{
     books::is_bounded,
     borders::{KINDS, NAN},
+    caps, causes,
     compare::combine,
     edges::{neighbour, INFINITY, SIGN},
     inputs::{power, wide},
-    markets::{in_a_branch, limit, random_question, text, Question},
+    markets::{any_question, in_a_branch, limit, random_question, text, Question},
     prices::log_uniform,
+    rule_sets::{self, UNKNOWN},
     sevens,
     solves::{fixed_questions, room, trail_bytes},
 };
 use random_words::Words;
-use rust_over_rules::{bid_ask::Range, book::kind_of};
+use rust_over_rules::{bid_ask::Range, book::kind_of, rule_set::RuleSet};
 
-/// Two prices of an option, as they cross to the archive: the low one, the high one, forward, strike and expiry as bits, and
-/// the kind's byte.
+/// Two prices of an option, as they cross to the archive: the low one, the high one, forward, strike and expiry as bits, the
+/// kind's byte, and the rule set's number.
 #[derive(Clone, Copy)]
 pub struct Pair {
     pub floats: [u64; 5],
     pub kind: u8,
+    pub rule_set: u32,
 }
 
 impl Pair {
-    /// The question's option with these prices.
+    /// The question's option with these prices, under its rule set.
     pub fn new(question: Question, [low, high]: [u64; 2]) -> Pair {
         let [_, forward, strike, expiry] = question.floats;
-        Pair { floats: [low, high, forward, strike, expiry], kind: question.kind }
+        let Question { kind, rule_set, .. } = question;
+        Pair { floats: [low, high, forward, strike, expiry], kind, rule_set }
     }
 
-    /// As `rust_over_rules` takes it; a kind that is none has 24.
+    pub fn under(self, rule_set: u32) -> Pair {
+        Pair { rule_set, ..self }
+    }
+
+    /// As `rust_over_rules` takes it; a kind that is none has 24, but an unknown rule set 32 before.
     pub fn range(&self) -> Result<Range, u8> {
         let [low, high, forward, strike, expiry] = self.floats.map(f64::from_bits);
+        RuleSet::of(self.rule_set)?;
         Ok(Range { low, high, forward, strike, expiry, kind: kind_of(self.kind).ok_or(24)? })
     }
 
     /// What the single call is asked.
-    fn ends(&self) -> [Question; 2] {
+    pub fn ends(&self) -> [Question; 2] {
         let [low, high, forward, strike, expiry] = self.floats;
-        [low, high].map(|price| Question { floats: [price, forward, strike, expiry], kind: self.kind })
+        [low, high].map(|price| Question::of([price, forward, strike, expiry], self.kind).under(self.rule_set))
     }
 }
 
@@ -53,7 +62,7 @@ pub struct Call {
 impl Call {
     pub fn text(&self) -> String {
         let trails = self.trails.map_or(String::new(), |[low, high]| format!(", {low} and {high} bytes"));
-        format!("{}, {}{trails}", text(&self.pair.floats, self.pair.kind), self.limit)
+        format!("{}, {}{trails}", text(&self.pair.floats, self.pair.kind, self.pair.rule_set), self.limit)
     }
 }
 
@@ -92,7 +101,7 @@ fn intrinsic(question: Question) -> u64 {
 
 /// A price, and one that it is or that is near it, far from it, at a sentinel, or another option's; or two zeros.
 fn random_pair(words: &mut Words) -> Pair {
-    let question = random_question(words);
+    let question = any_question(words);
     let [price, forward, strike, _] = question.floats;
     let other = match words.below(16) {
         0 | 1 => price,
@@ -122,7 +131,7 @@ fn beside_a_seven(words: &mut Words) -> Call {
         _ => apart(words, price, -50),
     };
     let expiry = log_uniform(words, -9, 5).to_bits();
-    let question = Question { floats: [price, forward, strike, expiry], kind: kind as u8 };
+    let question = Question::of([price, forward, strike, expiry], kind as u8).under(rule_sets::any(words));
     let pair = Pair::new(question, mostly_in_order(words, [price, other]));
     // 7 comes after five steps at most.
     let limit = words.choice(&[1, 2, 6, 6, 20, 20, 20, 200]);
@@ -138,34 +147,39 @@ fn not_finite(words: &mut Words, sign: u64) -> u64 {
     words.choice(&[INFINITY | sign, INFINITY | sign, INFINITY | (sign ^ SIGN), NAN])
 }
 
-/// A call that has two of the nine causes of a refusal, or one, and no other.
+/// A call that has two of the ten causes of a refusal, or one, and no other.
 fn refused(words: &mut Words) -> Call {
+    let causes = [words.below(10), words.below(10)];
+    with_causes(words, |cause| causes.contains(&(cause as u64)))
+}
+
+/// A call that has these causes of a refusal, in the order of the checks, and no other.
+pub fn with_causes(words: &mut Words, has: impl Fn(usize) -> bool) -> Call {
     let question = in_a_branch(words);
     let price = question.floats[0];
     let mut pair = Pair::new(question, [price, neighbour(price, words.between(1, 1000))]);
     let limit = words.between(1, 5) as i32;
     let mut trails = [room(limit); 2];
-    let causes = [words.below(9), words.below(9)];
-    let has = |cause: usize| causes.contains(&(cause as u64));
+    pair.rule_set = if has(0) { words.choice(&UNKNOWN) } else { rule_sets::known(words.any()) };
+    if has(1) {
+        pair.kind = words.choice(&causes::KINDS);
+    }
     // Low above high comes first: an infinity in its place leaves it so.
-    if has(3) {
+    if has(4) {
         pair.floats.swap(0, 1);
     }
     for (i, sign) in [(0, 0), (1, SIGN)] {
-        if has(1 + i) {
+        if has(2 + i) {
             pair.floats[i] = not_finite(words, sign);
         }
-        if has(7 + i) {
+        if has(8 + i) {
             let less = if words.below(4) == 0 { words.below(trails[i] as u64) as usize } else { 0 };
             trails[i] -= 1 + less;
         }
     }
     let least = f64::MIN_POSITIVE.to_bits();
-    for i in (2..5).filter(|i| has(2 + i)) {
+    for i in (2..5).filter(|i| has(3 + i)) {
         pair.floats[i] = words.choice(&[0, SIGN, 1, least - 1, INFINITY, INFINITY | SIGN, NAN, pair.floats[i] | SIGN]);
-    }
-    if has(0) {
-        pair.kind = words.choice(&[0, 3, 255]);
     }
     Call { pair, limit, trails: Some(trails) }
 }
@@ -204,7 +218,7 @@ pub fn combinations(mut each: impl FnMut(Pair)) {
     let expiries = [0.25_f64.to_bits(), least, f64::MAX.to_bits(), 0, INFINITY, NAN].to_vec();
     let values = [prices.clone(), prices, sizes.clone(), sizes, expiries, KINDS.to_vec()];
     combine(&values, 0, &mut wide([]), &mut |[low, high, forward, strike, expiry, kind, ..]| {
-        each(Pair { floats: [low, high, forward, strike, expiry], kind: kind as u8 });
+        each(Pair { floats: [low, high, forward, strike, expiry], kind: kind as u8, rule_set: 0 });
     });
 }
 
@@ -220,4 +234,19 @@ pub fn fixed_pairs() -> Vec<Pair> {
     };
     let zeros = Pair::new(fixed_questions()[0], [0, SIGN]);
     fixed_questions().into_iter().flat_map(pairs).chain([zeros]).collect()
+}
+
+/// Neighbouring prices by the caps, the least and the greatest of each option, and those about the middle.
+pub fn pairs_by_the_caps() -> Vec<Pair> {
+    let all = caps::fixed_questions();
+    let options = all.chunk_by(|a, b| (&a.floats[1..], a.kind) == (&b.floats[1..], b.kind));
+    let pairs = options.flat_map(|prices| {
+        let mut sorted = prices.to_vec();
+        sorted.sort_by(|a, b| f64::from_bits(a.floats[0]).total_cmp(&f64::from_bits(b.floats[0])));
+        let last = sorted.len() - 1;
+        let far = [[0, last], [last / 4, last / 2], [last / 2, 3 * last / 4], [0, last / 2]];
+        let near = (0..last).map(|i| [i, i + 1]);
+        near.chain(far).map(|pair| Pair::new(sorted[0], pair.map(|i| sorted[i].floats[0]))).collect::<Vec<_>>()
+    });
+    pairs.collect()
 }

@@ -87,7 +87,7 @@ fn money(border: Option<Border>, words: &mut Words, tries: u64) -> Counts {
 
 /// A price at which solve's guess is this s, or the first after it: the guess grows with the price.
 fn price_of_guess(terms: &Terms, s: f64) -> u64 {
-    let guess = |price| solver::solve(terms.at(price).market().ok()?, 1, None).steps.first().map(|step| step.s);
+    let guess = |price| solver::solve(0, terms.at(price).market().ok()?, 1, None).steps.first().map(|step| step.s);
     let price = terms.price(s);
     let (mut low, mut high) = ((0.5 * price).to_bits(), (2.0 * price).to_bits());
     while low + 1 < high {

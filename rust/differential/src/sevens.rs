@@ -73,15 +73,7 @@ mod tests {
             assert_eq!(bits::normalised_black_call(x, s).1, 7);
         }
         for ([price, forward, strike, expiry, kind], steps) in SOLVES.into_iter().zip(STEPS) {
-            let found = bits::implied_volatility_from_a_transformed_rational_guess_with_trail(
-                price,
-                forward,
-                strike,
-                expiry,
-                kind as u8,
-                20,
-                &mut [0; 960],
-            );
+            let found = bits::solve_with_trail(price, forward, strike, expiry, kind as u8, 20, 0, &mut [0; 960]);
             assert_eq!(found, (0x7FF8 << 48, 7 + (u64::from(steps) << 32)));
         }
     }

@@ -1,6 +1,6 @@
-//! What a part of a run counts: comparisons, differences, and what the solves and the calls of bid and ask among them
-//! reach.
+//! What a part of a run counts: comparisons, differences, and what the calls among them reach.
 
+use crate::caps;
 use std::collections::BTreeMap;
 
 /// So many differences of a function are printed.
@@ -8,6 +8,14 @@ const MOST_LINES: usize = 10;
 
 /// The result of a solve: number, branch, ending, and whether there was a step.
 pub type Case = (u8, u8, u8, bool);
+
+pub fn text_of_case((number, branch, ending, stepped): Case) -> String {
+    let what = match number {
+        0 => format!("branch {branch}, ending {ending}"),
+        _ => format!("refused with {number}"),
+    };
+    format!("{what}, {}", if stepped { "after steps" } else { "no step" })
+}
 
 #[derive(Default)]
 pub struct Tally {
@@ -17,7 +25,9 @@ pub struct Tally {
     pub lines: Vec<String>,
     /// How many solves with a trail had each result.
     pub cases: BTreeMap<Case, u64>,
-    /// How many calls of bid and ask met each of its cases; of a refusal, with what else would refuse the call.
+    /// How many solves with a trail met each case of the two caps.
+    pub caps: caps::Counts,
+    /// How many calls met each of their cases; of a refusal, with what else would refuse the call.
     pub met: BTreeMap<(&'static str, &'static str), u64>,
 }
 
@@ -26,10 +36,15 @@ impl Tally {
     pub fn count(&mut self, same: bool, line: impl FnOnce() -> String) {
         self.comparisons += 1;
         if !same {
-            self.differences += 1;
-            if self.lines.len() < MOST_LINES {
-                self.lines.push(line());
-            }
+            self.fail(line);
+        }
+    }
+
+    /// Counts a difference.
+    pub fn fail(&mut self, line: impl FnOnce() -> String) {
+        self.differences += 1;
+        if self.lines.len() < MOST_LINES {
+            self.lines.push(line());
         }
     }
 
@@ -41,6 +56,7 @@ impl Tally {
         for (case, count) in other.cases {
             *self.cases.entry(case).or_default() += count;
         }
+        self.caps.add(other.caps);
         for (case, count) in other.met {
             *self.met.entry(case).or_default() += count;
         }
@@ -56,13 +72,45 @@ impl Tally {
 
     pub fn print_solves(&self) {
         println!("solves by branch and ending (0 no loop, 1 step test, 2 limit), and by the number of a refusal:");
-        for (&(number, branch, ending, stepped), count) in &self.cases {
-            let what = match number {
-                0 => format!("branch {branch}, ending {ending}"),
-                _ => format!("refused with {number}"),
-            };
-            println!("  {what}, {}: {count}", if stepped { "after steps" } else { "no step" });
+        for (&case, count) in &self.cases {
+            println!("  {}: {count}", text_of_case(case));
         }
+    }
+
+    /// Counts a case of a call.
+    pub fn meet(&mut self, case: &'static str, and: &'static str) {
+        *self.met.entry((case, and)).or_default() += 1;
+    }
+
+    /// How many calls met a case.
+    pub fn count_of(&self, case: &'static str, and: &'static str) -> u64 {
+        self.met.get(&(case, and)).copied().unwrap_or(0)
+    }
+
+    /// Counts a refused call by the first of its causes, and each later one with it.
+    pub fn meet_causes(&mut self, causes: &[&'static str]) {
+        if let [first, later @ ..] = causes {
+            self.meet(first, "");
+            later.iter().for_each(|later| self.meet(first, later));
+        }
+    }
+
+    /// Prints how many calls each check refuses, and gives what none met: a check by itself, or two causes in one call.
+    /// `together` says whether a call can have both.
+    pub fn report_checks(&self, checks: &[&'static str], together: impl Fn(&str, &str) -> bool) -> Vec<String> {
+        let mut missing = Vec::new();
+        println!("calls by the check that refuses them, and how many of them a later check would refuse, too:");
+        for (i, first) in checks.iter().enumerate() {
+            let count = |later| self.count_of(first, later);
+            let later: Vec<&str> = checks[i + 1..].iter().copied().filter(|later| together(first, later)).collect();
+            let counts: Vec<String> = later.iter().map(|later| format!(", {later}: {}", count(later))).collect();
+            println!("  {first}: {}{}", count(""), counts.concat());
+            missing.extend([""].into_iter().chain(later).filter(|later| count(later) == 0).map(|later| match later {
+                "" => first.to_string(),
+                later => format!("{first} before {later}"),
+            }));
+        }
+        missing
     }
 
     /// What the inputs are to reach and did not. Branch 5 isn't among it: it needs a b_h below half of b_max, and the tests
@@ -74,7 +122,7 @@ impl Tally {
             let met = self.solves(|case| (case.0, case.1, case.2) == (0, branch, ending));
             (met == 0).then(|| format!("branch {branch} with ending {ending}"))
         });
-        let numbers = [1, 2, 3, 4, 7, 21, 24].into_iter().filter_map(|number| {
+        let numbers = [1, 2, 3, 4, 7, 21, 24, 32].into_iter().filter_map(|number| {
             let met = self.solves(|case| case.0 == number);
             (met == 0).then(|| format!("refusal {number}"))
         });

@@ -1,6 +1,7 @@
 //! Document 02's first request, bid and ask together: a low and a high price of one option, each with a result and a trail
 //! of its own. Written from its text.
 
+use crate::rule_set::RuleSet;
 use crate::solver::{option_number, price_number, solve, trail_number, Market, Run};
 use crate::OptionType;
 
@@ -27,7 +28,7 @@ impl Range {
         (self.low > self.high).then_some(31)
     }
 
-    /// "Checks run: 1 for low, 1 for high, 31, then 2, 3, 4, then 21 for the low trail and for the high."
+    /// "Checks run: 1 for low, 1 for high, 31, then 2, 3, 4, then 21 for the low trail and for the high." 32 is before all.
     fn number(&self, limit: i32, [low_trail, high_trail]: [Option<usize>; 2]) -> Option<u8> {
         price_number(self.low)
             .or(price_number(self.high))
@@ -41,10 +42,9 @@ impl Range {
 /// "two full results, low price first", with trails of so many bytes or without trails. "Once the checks below pass, each
 /// end's result and trail must be what the single call gives for that price": a later 6 or 7 is in one end's run, and the
 /// other end still runs.
-pub fn bid_ask(range: Range, limit: i32, trails: Option<[usize; 2]>) -> Result<[Run; 2], u8> {
+pub fn bid_ask(rule_set: u32, range: Range, limit: i32, trails: Option<[usize; 2]>) -> Result<[Run; 2], u8> {
     let [low_trail, high_trail] = trails.map_or([None; 2], |trails| trails.map(Some));
-    match range.number(limit, [low_trail, high_trail]) {
-        Some(number) => Err(number),
-        None => Ok([solve(range.at(range.low), limit, low_trail), solve(range.at(range.high), limit, high_trail)]),
-    }
+    RuleSet::unless(rule_set, range.number(limit, [low_trail, high_trail]))?;
+    let run = |price, trail| solve(rule_set, range.at(price), limit, trail);
+    Ok([run(range.low, low_trail), run(range.high, high_trail)])
 }

@@ -1,6 +1,8 @@
-//! A model of document 01's trail, book and listing over plain bytes, written from its text alone.
+//! A model of document 01's trail, book and listing over plain bytes, and of what document 02 adds, written from their texts
+//! alone.
 
 use crate::elementary::bits_of;
+use crate::rule_set::RuleSet;
 use crate::solver::{solve, Market, Run};
 use crate::steps::Step;
 use crate::OptionType;
@@ -78,10 +80,11 @@ pub fn market_and_limit(record: &[u8; RECORD]) -> Result<(Market, i32), Refusal>
     Ok((Market { price, forward, strike, expiry, kind }, i32::from_le_bytes(get(record, 40))))
 }
 
-/// What the record's input answers now, as a record, and the record's numbers where it is refused.
-fn solve_again(old: &[u8; RECORD]) -> Result<[u8; RECORD], Refusal> {
+/// What the record's input answers now under a rule set, as a record, and the record's numbers where it is refused: "32 ...
+/// before every other check except 23 and 24 at a recheck".
+fn solve_again(rule_set: u32, old: &[u8; RECORD]) -> Result<[u8; RECORD], Refusal> {
     let (market, limit) = market_and_limit(old)?;
-    record(market, limit, &solve(market, limit, None))
+    record(market, limit, &solve(rule_set, market, limit, None))
 }
 
 fn slots(book: &[u8]) -> u64 {
@@ -89,7 +92,8 @@ fn slots(book: &[u8]) -> u64 {
 }
 
 /// Writes slot `used` and answers used + 1.
-pub fn file(market: Market, limit: i32, book: &mut [u8], used: u64) -> Result<u64, Refusal> {
+pub fn file(rule_set: u32, market: Market, limit: i32, book: &mut [u8], used: u64) -> Result<u64, Refusal> {
+    RuleSet::of(rule_set).map_err(refusal)?;
     if let Some(number) = market.input_number() {
         return Err(refusal(number));
     }
@@ -99,7 +103,7 @@ pub fn file(market: Market, limit: i32, book: &mut [u8], used: u64) -> Result<u6
     if used == slots(book) {
         return Err(refusal(22));
     }
-    let new = record(market, limit, &solve(market, limit, None))?;
+    let new = record(market, limit, &solve(rule_set, market, limit, None))?;
     put(book, RECORD * used as usize, &new);
     Ok(used + 1)
 }
@@ -114,16 +118,16 @@ pub fn read(book: &[u8], used: u64, k: u64) -> Result<&[u8], u8> {
 }
 
 /// Whether record k's volatility, steps, branch and ending are what its input answers now.
-pub fn recheck(book: &[u8], used: u64, k: u64) -> Result<bool, Refusal> {
+pub fn recheck(book: &[u8], used: u64, k: u64, rule_set: u32) -> Result<bool, Refusal> {
     let old: [u8; RECORD] = get(read(book, used, k).map_err(refusal)?, 0);
-    let new = solve_again(&old)?;
+    let new = solve_again(rule_set, &old)?;
     let compared = (32..40).chain(44..48).chain(49..51);
     Ok(compared.into_iter().all(|i| old[i] == new[i]))
 }
 
-/// relist's line of record number `index`, whose bytes these are: a last part may be short.
+/// relist's line of record number `index`, whose bytes these are: a last part may be short. "`relist` stays at rule set 0."
 pub fn line(index: u64, bytes: &[u8]) -> String {
-    let answer = if bytes.len() < RECORD { Err(refusal(23)) } else { solve_again(&get(bytes, 0)) };
+    let answer = if bytes.len() < RECORD { Err(refusal(23)) } else { solve_again(0, &get(bytes, 0)) };
     match answer {
         Ok(new) => {
             let volatility = u64::from_le_bytes(get(&new, 32));

@@ -1,7 +1,7 @@
 //! The Rust of the source folder, built over document 01's elementary functions. `elementary` has those, written from
 //! document 01; `rust_source` reads the rest from the source folder; `prices` and `solver` have what document 01 says
 //! instead of a panic. `book` is document 01's trail, book and listing, which the Rust doesn't have. `bid_ask` is document
-//! 02's first request.
+//! 02's first request, `rule_set` its second.
 
 #[cfg(feature = "steps")]
 pub mod bid_ask;
@@ -10,6 +10,8 @@ pub mod book;
 pub mod elementary;
 pub mod prices;
 pub mod refusals;
+#[cfg(feature = "steps")]
+pub mod rule_set;
 #[cfg(feature = "steps")]
 pub mod solver;
 #[cfg(feature = "steps")]

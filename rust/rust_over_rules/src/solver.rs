@@ -1,9 +1,9 @@
 //! The Rust's solve with document 01's refusals above it, and the records of its steps.
 
 use crate::elementary::{ln, max, sqrt};
-use crate::lets_be_rational::{self, so_rational};
 use crate::prices::{normalised_intrinsic, positive_normal};
 use crate::refusals::catch_refusal;
+use crate::rule_set::RuleSet;
 use crate::steps::{watch, Step};
 use crate::OptionType;
 
@@ -89,32 +89,31 @@ pub(crate) fn trail_number(trail: Option<usize>, limit: i32) -> Option<u8> {
 // ---- the calls
 
 /// solve with a trail of so many bytes, or without one.
-pub fn solve(market: Market, limit: i32, trail: Option<usize>) -> Run {
-    if let Some(number) = market.input_number().or(trail_number(trail, limit)) {
-        return Run::refusal(number);
+pub fn solve(rule_set: u32, market: Market, limit: i32, trail: Option<usize>) -> Run {
+    match RuleSet::unless(rule_set, market.input_number().or(trail_number(trail, limit))) {
+        Ok(rules) => {
+            let Market { price, forward, strike, expiry, kind } = market;
+            market.run(|| rules.solve()(price, forward, strike, expiry, kind, limit))
+        }
+        Err(number) => Run::refusal(number),
     }
-    let Market { price, forward, strike, expiry, kind } = market;
-    market.run(|| {
-        so_rational::implied_volatility_from_a_transformed_rational_guess_with_limited_iterations(
-            price, forward, strike, expiry, kind, limit,
-        )
-    })
 }
 
 /// The Rust's public wrapper, which has its own limit.
-pub fn implied_volatility_from_a_transformed_rational_guess(market: Market) -> Run {
-    if let Some(number) = market.input_number() {
-        return Run::refusal(number);
+pub fn implied_volatility_from_a_transformed_rational_guess(rule_set: u32, market: Market) -> Run {
+    match RuleSet::unless(rule_set, market.input_number()) {
+        Ok(rules) => {
+            let Market { price, forward, strike, expiry, kind } = market;
+            market.run(|| rules.wrapper()(price, forward, strike, expiry, kind))
+        }
+        Err(number) => Run::refusal(number),
     }
-    let Market { price, forward, strike, expiry, kind } = market;
-    market.run(|| {
-        lets_be_rational::implied_volatility_from_a_transformed_rational_guess(price, forward, strike, expiry, kind)
-    })
 }
 
-/// The price that the loop seeks, none where the answer comes without one: the Rust's mapping, in its order.
-pub fn target(market: Market) -> Result<Option<f64>, u8> {
-    if solve(market, 0, None).answer?.branch == 0 {
+/// The price that the loop seeks, none where the answer comes without one: the Rust's mapping, in its order. The caps have no
+/// part in it, so the rule set says only whether there is a loop.
+pub fn target(rule_set: u32, market: Market) -> Result<Option<f64>, u8> {
+    if solve(rule_set, market, 0, None).answer?.branch == 0 {
         return Ok(None);
     }
     let Market { mut price, forward, strike, mut kind, .. } = market;

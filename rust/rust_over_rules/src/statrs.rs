@@ -1,18 +1,18 @@
-//! What the source folder takes from the registry crate statrs, with document 01's constant, cdf and inverse.
+//! What the source folder takes from the registry crate statrs, with document 01's constant, cdf and inverse. The cdf is
+//! over the erfc that `rust_source` names, that of the same rule set.
 
 pub mod consts {
     pub const SQRT_2PI: f64 = 2.5066282746310002;
 }
 
 pub mod distribution {
-    use crate::lets_be_rational::cody::optimized::erfc;
     use std::f64::consts::FRAC_1_SQRT_2;
 
-    pub struct Normal;
+    pub struct Normal<Erfc>(Erfc);
 
-    impl Normal {
-        pub fn standard() -> Self {
-            Normal
+    impl<Erfc: Fn(f64) -> f64> Normal<Erfc> {
+        pub fn over(erfc: Erfc) -> Self {
+            Normal(erfc)
         }
     }
 
@@ -21,9 +21,9 @@ pub mod distribution {
         fn inverse_cdf(&self, p: f64) -> f64;
     }
 
-    impl ContinuousCDF for Normal {
+    impl<Erfc: Fn(f64) -> f64> ContinuousCDF for Normal<Erfc> {
         fn cdf(&self, y: f64) -> f64 {
-            0.5 * erfc(-y * FRAC_1_SQRT_2)
+            0.5 * (self.0)(-y * FRAC_1_SQRT_2)
         }
 
         fn inverse_cdf(&self, p: f64) -> f64 {
@@ -53,7 +53,7 @@ pub mod distribution {
         fn pdf(&self, y: f64) -> f64;
     }
 
-    impl Continuous for Normal {
+    impl<Erfc> Continuous for Normal<Erfc> {
         fn pdf(&self, _: f64) -> f64 {
             unimplemented!("document 01 leaves standard_normal_pdf out")
         }

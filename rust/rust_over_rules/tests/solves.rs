@@ -1,5 +1,5 @@
-//! The Rust's solve, trail, book and listing against document 01's own values and rules, and bid and ask against document
-//! 02's.
+//! The Rust's solve, trail, book and listing against document 01's own values and rules, and bid and ask and the rule sets
+//! against document 02's.
 
 #![cfg(rust_source)]
 
@@ -7,7 +7,8 @@ use rust_over_rules::bid_ask::{bid_ask, Range};
 use rust_over_rules::book::{file, kind_of, line, market_and_limit, read, recheck, write_trail, Refusal, RECORD, STEP};
 use rust_over_rules::elementary::{bits_of, exp, sqrt};
 use rust_over_rules::prices::{black, normalised_black_call, normalised_vega};
-use rust_over_rules::solver::{implied_volatility_from_a_transformed_rational_guess, solve, Market, Run};
+use rust_over_rules::rule_set::RuleSet;
+use rust_over_rules::solver::{implied_volatility_from_a_transformed_rational_guess, solve, target, Market, Run};
 use rust_over_rules::OptionType::{self, Call, Put};
 
 fn market(price: f64, forward: f64, strike: f64, expiry: f64, kind: OptionType) -> Market {
@@ -34,7 +35,7 @@ fn number(run: &Run) -> u8 {
 fn of_branches() -> [(u8, Market); 4] {
     [(1, 0.1, Call), (2, 0.6, Call), (3, 1.5, Put), (4, 4.0, Call)].map(|(branch, sigma, kind)| {
         let mut near = (0..100).map(|i| priced(100.0, 150.0, sigma + 0.001 * f64::from(i), 1.0, kind));
-        let market = near.find(|market| answer(&solve(*market, 200, None)).2 == 1);
+        let market = near.find(|market| answer(&solve(0, *market, 200, None)).2 == 1);
         (branch, market.expect("a run that ends for the step test"))
     })
 }
@@ -51,16 +52,16 @@ fn table_rows() {
         (market(-0.0, 100.0, 100.0, 1.0, Put), 0),
     ];
     for (market, bits) in rows {
-        assert_eq!(answer(&solve(market, 2, Some(96))), (bits, 0, 0, 0));
-        assert_eq!(answer(&implied_volatility_from_a_transformed_rational_guess(market)), (bits, 0, 0, 0));
+        assert_eq!(answer(&solve(0, market, 2, Some(96))), (bits, 0, 0, 0));
+        assert_eq!(answer(&implied_volatility_from_a_transformed_rational_guess(0, market)), (bits, 0, 0, 0));
         // P12.
-        assert_eq!(number(&solve(market, 2, Some(95))), 21);
+        assert_eq!(number(&solve(0, market, 2, Some(95))), 21);
     }
 }
 
 #[test]
 fn refusals_in_order() {
-    let of = |market, limit, trail| number(&solve(market, limit, trail));
+    let of = |market, limit, trail| number(&solve(0, market, limit, trail));
     assert_eq!(of(market(f64::NAN, 0.0, 0.0, 0.0, Call), 1, Some(0)), 1);
     assert_eq!(of(market(1.0, 0.0, 0.0, 0.0, Call), 1, Some(0)), 2);
     assert_eq!(of(market(1.0, 1.0, -1.0, 0.0, Call), 1, Some(0)), 3);
@@ -76,19 +77,19 @@ fn refusals_in_order() {
 #[test]
 fn branches_and_endings() {
     for (branch, market) in of_branches() {
-        let whole = solve(market, 200, None);
+        let whole = solve(0, market, 200, None);
         let (_, found, ending, steps) = answer(&whole);
         assert_eq!((found, ending), (branch, 1), "{market:?}");
         assert!((1..20).contains(&steps), "{steps}");
         for limit in -1..20 {
-            let (_, found, ending, count) = answer(&solve(market, limit, None));
+            let (_, found, ending, count) = answer(&solve(0, market, limit, None));
             assert_eq!(found, branch);
             assert_eq!(count, steps.min(limit.max(0) as u32));
             // At a limit of all its steps the run ends for the limit, though the step test holds then.
             assert_eq!(ending, if limit as i64 > i64::from(steps) { 1 } else { 2 });
         }
-        let wrapped = implied_volatility_from_a_transformed_rational_guess(market);
-        assert_eq!(answer(&wrapped), answer(&solve(market, 2, None)));
+        let wrapped = implied_volatility_from_a_transformed_rational_guess(0, market);
+        assert_eq!(answer(&wrapped), answer(&solve(0, market, 2, None)));
     }
 }
 
@@ -96,7 +97,7 @@ fn branches_and_endings() {
 #[test]
 fn steps_hang_together() {
     for (_, market) in of_branches() {
-        let run = solve(market, 200, None);
+        let run = solve(0, market, 200, None);
         for pair in run.steps.windows(2) {
             assert_eq!(pair[0].after.to_bits(), pair[1].s.to_bits());
         }
@@ -125,7 +126,7 @@ fn branch_5_has_no_room() {
 
 #[test]
 fn trail_bytes() {
-    let run = solve(of_branches()[0].1, 2, Some(2 * STEP));
+    let run = solve(0, of_branches()[0].1, 2, Some(2 * STEP));
     let mut trail = vec![0xA5; 2 * STEP + 7];
     write_trail(&run.steps, &mut trail);
     assert_eq!(trail[..8], run.steps[0].s.to_le_bytes());
@@ -144,7 +145,7 @@ fn book() -> (Vec<u8>, u64) {
     let mut used = 0;
     for (_, market) in of_branches() {
         for limit in [-7, 2, 200] {
-            used = file(market, limit, &mut book, used).expect("a free slot");
+            used = file(0, market, limit, &mut book, used).expect("a free slot");
         }
     }
     assert!(book[RECORD * used as usize..].iter().all(|byte| *byte == 0xA5));
@@ -155,7 +156,7 @@ fn book() -> (Vec<u8>, u64) {
 fn filing() {
     let (book, used) = book();
     for k in 0..used {
-        assert_eq!(recheck(&book, used, k), Ok(true));
+        assert_eq!(recheck(&book, used, k, 0), Ok(true));
         assert_eq!(read(&book, used, k).map(|part| part.as_ptr()), Ok(book[RECORD * k as usize..].as_ptr()));
     }
     assert_eq!(book[44..48], 0_u32.to_le_bytes());
@@ -163,11 +164,11 @@ fn filing() {
     assert_eq!(book[48..51], [1, 1, 2]);
     for (used, k) in [(used, used), (17, 0), (u64::MAX, 0), (u64::MAX, u64::MAX - 1), (0, 0)] {
         assert_eq!(read(&book, used, k), Err(23));
-        assert_eq!(recheck(&book, used, k), Err(Refusal { number: 23, steps: 0 }));
+        assert_eq!(recheck(&book, used, k, 0), Err(Refusal { number: 23, steps: 0 }));
     }
     let market = of_branches()[0].1;
     let mut other = book.clone();
-    let of = |market, other: &mut Vec<u8>, used| file(market, 2, other, used).map_err(|refusal| refusal.number);
+    let of = |market, other: &mut Vec<u8>, used| file(0, market, 2, other, used).map_err(|refusal| refusal.number);
     assert_eq!(of(market, &mut other, 16), Err(22));
     assert_eq!(of(market, &mut other, 17), Err(23));
     assert_eq!(of(market, &mut other, u64::MAX), Err(23));
@@ -189,7 +190,7 @@ fn changed_bytes() {
                     continue;
                 }
                 other[at] = value;
-                let found = recheck(&other, used, k);
+                let found = recheck(&other, used, k, 0);
                 match i {
                     32..=39 | 44..=47 => assert_eq!(found, Ok(false)),
                     49 if value <= 5 => assert_eq!(found, Ok(false)),
@@ -248,7 +249,7 @@ fn whole(run: &Run) -> String {
 
 /// The number of the whole call, 0 for none.
 fn number_of_both(range: Range, limit: i32, trails: Option<[usize; 2]>) -> u8 {
-    bid_ask(range, limit, trails).err().unwrap_or(0)
+    bid_ask(0, range, limit, trails).err().unwrap_or(0)
 }
 
 /// Each call has all the causes that come after its own.
@@ -288,10 +289,10 @@ fn bid_ask_gives_both_single_calls() {
     for (_, market) in of_branches() {
         let (low, high) = (market.price, 1.01 * market.price);
         for limit in [i32::MIN, 0, 1, 2, 200] {
-            let runs = bid_ask(range(low, high, market), limit, Some([9600, 9601])).expect("it isn't refused");
-            let single = [low, high].map(|price| whole(&solve(Market { price, ..market }, limit, Some(9600))));
+            let runs = bid_ask(0, range(low, high, market), limit, Some([9600, 9601])).expect("it isn't refused");
+            let single = [low, high].map(|price| whole(&solve(0, Market { price, ..market }, limit, Some(9600))));
             assert_eq!(runs.each_ref().map(whole), single);
-            let without = bid_ask(range(low, high, market), limit, None).expect("it isn't refused");
+            let without = bid_ask(0, range(low, high, market), limit, None).expect("it isn't refused");
             assert_eq!(without.each_ref().map(whole), single);
         }
     }
@@ -304,12 +305,130 @@ fn bid_ask_runs_the_other_end() {
     let [price, forward, strike, expiry] = bits.map(f64::from_bits);
     let option = market(price, forward, strike, expiry, Put);
     let numbers = |low, high| {
-        let runs = bid_ask(range(low, high, option), 20, Some([960, 960])).expect("it isn't refused");
+        let runs = bid_ask(0, range(low, high, option), 20, Some([960, 960])).expect("it isn't refused");
         runs.map(|run| (number(&run), run.count()))
     };
     let [below, above] = [0.99 * price, 1.01 * price];
-    let [low, high] = [below, above].map(|price| solve(Market { price, ..option }, 20, None).count());
+    let [low, high] = [below, above].map(|price| solve(0, Market { price, ..option }, 20, None).count());
     assert_eq!(numbers(price, above), [(7, 2), (0, high)]);
     assert_eq!(numbers(below, price), [(0, low), (7, 2)]);
     assert_eq!(numbers(price, price), [(7, 2), (7, 2)]);
+}
+
+// ---- rule sets
+
+/// Numbers that are no rule set's.
+const UNKNOWN: [u32; 4] = [2, 255, 256, u32::MAX];
+
+/// "A student's Call at 120, forward 200, strike 100, is reported above maximum."
+fn students_call() -> Market {
+    market(120.0, 200.0, 100.0, 1.0, Call)
+}
+
+/// A price at, just below or just above a cap.
+fn beside(cap: f64) -> [f64; 3] {
+    [cap.next_down(), cap, cap.next_up()]
+}
+
+#[test]
+fn the_students_call() {
+    let market = students_call();
+    assert_eq!(answer(&solve(0, market, 2, Some(96))), (f64::MAX.to_bits(), 0, 0, 0));
+    assert_eq!(answer(&solve(1, market, 2, Some(96))), (0x3FF0_61F7_B1DA_C668, 2, 2, 2));
+    assert_eq!(answer(&implied_volatility_from_a_transformed_rational_guess(1, market)).0, 0x3FF0_61F7_B1DA_C668);
+    assert_eq!(target(0, market), Ok(None));
+    // The value over the root of both prices: 20 over the root of 20 000.
+    assert_eq!(target(1, market), Ok(Some(20.0 / (sqrt(200.0) * sqrt(100.0)))));
+}
+
+/// "The course book caps a Call at the forward and a Put at the strike", rule set 0 the other way round. A price that is not
+/// capped, and that no volatility has, gives the same number over the root of the expiry.
+#[test]
+fn caps_of_both_rule_sets() {
+    let is_above = |rule_set, market| answer(&solve(rule_set, market, 2, None)) == (f64::MAX.to_bits(), 0, 0, 0);
+    for (forward, strike) in [(200.0, 100.0), (100.0, 200.0), (100.0, 103.0), (7.0, 5.0), (1e300, 1.5e300)] {
+        for (kind, caps) in [(Call, [strike, forward]), (Put, [forward, strike])] {
+            for (rule_set, cap) in (0..).zip(caps) {
+                let found = beside(cap).map(|price| is_above(rule_set, market(price, forward, strike, 4.0, kind)));
+                assert_eq!(found, [false, true, true], "{rule_set} {kind} {forward} {strike}");
+            }
+        }
+    }
+}
+
+/// Below both caps all of a run is the same, and where it is refused, too.
+#[test]
+fn one_run_below_both_caps() {
+    for (_, market) in of_branches() {
+        for kind in [Call, Put] {
+            for part in [-0.5, 0.0, 0.1, 0.5, 0.9, 1.0 - f64::EPSILON] {
+                let price = market.forward.min(market.strike) * part;
+                let market = Market { price, kind, ..market };
+                for limit in [-1, 0, 1, 2, 200] {
+                    assert_eq!(whole(&solve(0, market, limit, None)), whole(&solve(1, market, limit, None)));
+                }
+            }
+        }
+    }
+}
+
+/// Each call has all the causes that come after 32.
+#[test]
+fn unknown_rule_sets() {
+    for rule_set in UNKNOWN {
+        assert_eq!(RuleSet::of(rule_set), Err(32));
+        let bad = market(f64::NAN, 0.0, 0.0, 0.0, Call);
+        for market in [bad, students_call()] {
+            assert_eq!(number(&solve(rule_set, market, 1, Some(0))), 32);
+            assert_eq!(number(&solve(rule_set, market, 1, None)), 32);
+            assert_eq!(number(&implied_volatility_from_a_transformed_rational_guess(rule_set, market)), 32);
+            assert_eq!(target(rule_set, market), Err(32));
+            for trails in [None, Some([0, 0])] {
+                let range = range(f64::INFINITY, f64::NAN, market);
+                assert_eq!(bid_ask(rule_set, range, 1, trails).err(), Some(32));
+            }
+            // A used count above the slots, a full book, and a free slot.
+            for (used, len) in [(u64::MAX, 0), (0, 63), (0, 64)] {
+                let mut book = vec![0xA5; len];
+                assert_eq!(file(rule_set, market, 2, &mut book, used), Err(Refusal { number: 32, steps: 0 }));
+                assert_eq!(book, vec![0xA5; len]);
+            }
+        }
+    }
+    assert_eq!([0, 1].map(|rule_set| RuleSet::of(rule_set).is_ok()), [true; 2]);
+}
+
+/// "before every other check except 23 and 24 at a recheck".
+#[test]
+fn recheck_of_an_unknown_rule_set() {
+    let (book, used) = book();
+    for rule_set in UNKNOWN {
+        let of = |book: &[u8], k| recheck(book, used, k, rule_set).map_err(|refusal| refusal.number);
+        assert_eq!(of(&book, used), Err(23));
+        assert_eq!(of(&book, 0), Err(32));
+        // A price that is not finite, with a byte that the layout leaves out and without.
+        let mut other = book.clone();
+        other[..8].copy_from_slice(&f64::NAN.to_le_bytes());
+        assert_eq!(of(&other, 0), Err(32));
+        assert_eq!(recheck(&other, used, 0, 1).map_err(|refusal| refusal.number), Err(1));
+        other[63] = 1;
+        assert_eq!(of(&other, 0), Err(24));
+    }
+}
+
+/// A record of a price below both caps agrees under either rule set; one between the caps under its own alone.
+#[test]
+fn records_of_both_rule_sets() {
+    let below = of_branches().map(|(_, market)| (market, true));
+    for (market, agrees) in below.into_iter().chain([(students_call(), false)]) {
+        for (filed, asked) in [(0, 0), (0, 1), (1, 0), (1, 1)] {
+            let mut book = vec![0; RECORD];
+            assert_eq!(file(filed, market, 2, &mut book, 0), Ok(1));
+            assert_eq!(recheck(&book, 1, 0, asked), Ok(agrees || filed == asked), "{market:?} {filed} {asked}");
+        }
+    }
+    // relist's line is rule set 0's.
+    let mut book = vec![0; RECORD];
+    assert_eq!(file(1, students_call(), 2, &mut book, 0), Ok(1));
+    assert_eq!(line(0, &book), "0 7FEFFFFFFFFFFFFF 0 0 0\n");
 }

@@ -1,5 +1,5 @@
 //! Stand-ins for the registry crate statrs, which isn't at hand; nothing here is its code. The cdf takes the source
-//! folder's own erfc. The inverse is Wichura's algorithm AS 241 (PPND16, 1988): one ln, one sqrt and a quotient of two
+//! folder's own erfc, that of the same rule set. The inverse is Wichura's algorithm AS 241 (PPND16, 1988): one ln, one sqrt and a quotient of two
 //! polynomials of degree 7, the kind of work that a library's inverse does. It is for speed, and no bits are compared.
 
 // The digits stand as the algorithm was printed.
@@ -10,14 +10,13 @@ pub mod consts {
 }
 
 pub mod distribution {
-    use crate::lets_be_rational::cody::optimized::erfc;
     use std::f64::consts::FRAC_1_SQRT_2;
 
-    pub struct Normal;
+    pub struct Normal<Erfc>(Erfc);
 
-    impl Normal {
-        pub fn standard() -> Self {
-            Normal
+    impl<Erfc: Fn(f64) -> f64> Normal<Erfc> {
+        pub fn over(erfc: Erfc) -> Self {
+            Normal(erfc)
         }
     }
 
@@ -26,9 +25,9 @@ pub mod distribution {
         fn inverse_cdf(&self, p: f64) -> f64;
     }
 
-    impl ContinuousCDF for Normal {
+    impl<Erfc: Fn(f64) -> f64> ContinuousCDF for Normal<Erfc> {
         fn cdf(&self, y: f64) -> f64 {
-            0.5 * erfc(-y * FRAC_1_SQRT_2)
+            0.5 * (self.0)(-y * FRAC_1_SQRT_2)
         }
 
         fn inverse_cdf(&self, p: f64) -> f64 {
@@ -54,7 +53,7 @@ pub mod distribution {
         fn pdf(&self, y: f64) -> f64;
     }
 
-    impl Continuous for Normal {
+    impl<Erfc> Continuous for Normal<Erfc> {
         fn pdf(&self, _: f64) -> f64 {
             unimplemented!("nothing that is measured calls it")
         }

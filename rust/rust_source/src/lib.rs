@@ -1,5 +1,5 @@
 //! For the build scripts of `rust_over_rules` and `rust_over_std`: reads the Rust of the source folder and writes it to
-//! OUT_DIR/source.rs.
+//! OUT_DIR/source.rs, once for each rule set.
 //!
 //! Nothing of the source stands in this repository. GINTUBALOS_RUST_SOURCE is the folder that has `src/lets_be_rational`;
 //! its default is `../shared/docs/src`, seen from the repository's root. Where it isn't there, absent.rs is written in its
@@ -48,13 +48,15 @@ const METHODS: [(&str, &str); 15] = [
     (".expect(\"Small t expansion failed\")", ".rule_expect(8)"),
 ];
 
-/// What makes every function and constant visible, and the two registry crates ours.
-const NAMES: [(&str, &str); 5] = [
+/// What makes every function and constant visible, and the two registry crates ours: the cdf and its inverse are over the
+/// erfc of the same rule set.
+const NAMES: [(&str, &str); 6] = [
     ("\nfn ", "\npub fn "),
     ("\nconst ", "\npub const "),
     ("pub(crate) ", "pub "),
     ("use statrs::", "use crate::statrs::"),
     ("use num_traits::", "use crate::num_traits::"),
+    ("Normal::standard()", "Normal::over(super::cody::optimized::erfc)"),
 ];
 
 /// What keeps s before a step, and what records the completed step.
@@ -76,15 +78,43 @@ const HOOKS: [(&str, &str, &str, usize); 8] = [
 ];
 const SOLVER: &str = "src/lets_be_rational/so_rational.rs";
 
+/// A piece of a file that a rule set has otherwise: the file, the piece, what stands there instead, and how often the piece
+/// stands there.
+type Change = (&'static str, &'static str, &'static str, usize);
+
+/// A rule set: the module that has the source under it, and what is changed in the source.
+struct RuleSet {
+    module: &'static str,
+    changes: &'static [Change],
+}
+
+/// Document 02's rule sets, in the order of their numbers. Each is the whole source under a name of its own, so that what is
+/// changed in one file reaches every other one that uses it.
+const RULE_SETS: [RuleSet; 2] = [
+    RuleSet { module: MOD.module, changes: &[] },
+    // "The reference for rule set 1 is the Rust with its two cap arms exchanged."
+    RuleSet {
+        module: "rule_set_1",
+        changes: &[
+            (SOLVER, "OptionType::Call => strike_price,", "OptionType::Call => forward_price,", 1),
+            (SOLVER, "OptionType::Put => forward_price,", "OptionType::Put => strike_price,", 1),
+        ],
+    },
+];
+
+/// How the source names itself in a path.
+const PATH: &str = "lets_be_rational::";
+
 /// Method calls that stay as they are: no arithmetic of std's is behind them.
 const HARMLESS: [&str; 5] = ["cdf", "inverse_cdf", "is_infinite", "pdf", "to_string"];
 
 struct File {
     path: &'static str,
     module: &'static str,
-    /// How often each pattern of METHODS and of NAMES stands in the file.
+    /// How often each pattern of METHODS and of NAMES stands in the file, and the name of the whole source in a path.
     methods: [usize; 15],
-    names: [usize; 5],
+    names: [usize; 6],
+    paths: usize,
 }
 
 const FILES: [File; 6] = [
@@ -92,47 +122,55 @@ const FILES: [File; 6] = [
         path: "src/lets_be_rational/black.rs",
         module: "black",
         methods: [11, 0, 0, 0, 4, 4, 0, 42, 1, 0, 0, 0, 0, 1, 1],
-        names: [2, 5, 2, 1, 0],
+        names: [2, 5, 2, 1, 0, 0],
+        paths: 1,
     },
     File {
         path: "src/lets_be_rational/cody/optimized.rs",
         module: "optimized",
         methods: [5, 0, 0, 2, 2, 0, 0, 0, 0, 0, 0, 0, 0, 0, 0],
-        names: [7, 10, 0, 0, 0],
+        names: [7, 10, 0, 0, 0, 0],
+        paths: 0,
     },
     File {
         path: "src/lets_be_rational/intrinsic.rs",
         module: "intrinsic",
         methods: [1, 0, 0, 0, 0, 2, 0, 0, 0, 0, 0, 0, 0, 0, 0],
-        names: [0, 2, 1, 0, 0],
+        names: [0, 2, 1, 0, 0, 0],
+        paths: 0,
     },
     File {
         path: "src/lets_be_rational/normal_distribution.rs",
         module: "normal_distribution",
         methods: [0; 15],
-        names: [0, 0, 0, 1, 0],
+        names: [0, 0, 0, 1, 0, 3],
+        paths: 0,
     },
     File {
         path: "src/lets_be_rational/rational_cubic.rs",
         module: "rational_cubic",
         methods: [0, 0, 1, 0, 3, 1, 3, 2, 0, 0, 0, 5, 0, 0, 0],
-        names: [2, 2, 0, 0, 1],
+        names: [2, 2, 0, 0, 1, 0],
+        paths: 0,
     },
     File {
         path: SOLVER,
         module: "so_rational",
         methods: [7, 4, 5, 0, 9, 6, 0, 0, 0, 9, 1, 0, 4, 0, 0],
-        names: [6, 9, 3, 0, 0],
+        names: [6, 9, 3, 0, 0, 0],
+        paths: 1,
     },
 ];
 
-const INPUTS: File = File { path: "src/inputs.rs", module: "inputs", methods: [0; 15], names: [0, 0, 0, 0, 1] };
+const INPUTS: File =
+    File { path: "src/inputs.rs", module: "inputs", methods: [0; 15], names: [0, 0, 0, 0, 1, 0], paths: 0 };
 
 const MOD: File = File {
     path: "src/lets_be_rational/mod.rs",
     module: "lets_be_rational",
     methods: [0, 1, 3, 0, 0, 2, 0, 0, 0, 0, 0, 0, 0, 0, 0],
-    names: [0, 1, 3, 1, 0],
+    names: [0, 1, 3, 1, 0, 0],
+    paths: 3,
 };
 
 /// The modules that mod.rs declares; they are written out inside it.
@@ -184,9 +222,13 @@ fn read(root: &Path, file: &File) -> String {
     }
 }
 
-fn transform(root: &Path, file: &File, over: Over) -> String {
+fn transform(root: &Path, file: &File, over: Over, rule_set: &RuleSet) -> String {
     // A line feed in front, so that a first line is found as any other is.
     let mut text = format!("\n{}", read(root, file));
+    for (_, from, to, count) in rule_set.changes.iter().filter(|(path, ..)| *path == file.path) {
+        text = replace(&text, file.path, from, to, *count);
+    }
+    text = replace(&text, file.path, PATH, &format!("{}::", rule_set.module), file.paths);
     if file.path == SOLVER && over == (Over::Rules { steps: true }) {
         for (piece, before, after, count) in HOOKS {
             text = replace(&text, file.path, piece, &format!("{before}{piece}{after}"), count);
@@ -205,24 +247,44 @@ fn transform(root: &Path, file: &File, over: Over) -> String {
     text
 }
 
-fn module(file: &File, text: &str, over: Over) -> String {
+fn module(name: &str, text: &str, over: Over) -> String {
     let allow = "#[allow(dead_code, unused_imports, unused_assignments, clippy::all)]";
     let rules = if over == Over::Std { "" } else { "use crate::{elementary::Rules, refusals::Expect};" };
-    format!("{allow}\npub mod {} {{\n    {rules}\n{text}\n}}\n", file.module)
+    format!("{allow}\npub mod {name} {{\n    {rules}\n{text}\n}}\n")
 }
 
-fn source(root: &Path, over: Over) -> String {
+/// The whole source under a rule set.
+fn tree(root: &Path, over: Over, rule_set: &RuleSet) -> String {
+    for (path, piece, ..) in rule_set.changes {
+        if FILES.iter().chain([&MOD]).all(|file| file.path != *path) {
+            fail(&format!("{path}: no such file, so `{piece}` is not changed"));
+        }
+    }
     let mut inner = String::new();
     for file in &FILES {
-        let text = module(file, &transform(root, file, over), over);
+        let text = module(file.module, &transform(root, file, over, rule_set), over);
         // The source folder's own cody/mod.rs is not among the files: it only declares `optimized`.
         inner += &if file.module == "optimized" { format!("pub mod cody {{\n{text}}}\n") } else { text };
     }
-    let mut outer = transform(root, &MOD, over);
+    let mut outer = transform(root, &MOD, over, rule_set);
     for declaration in DECLARATIONS {
         outer = replace(&outer, MOD.path, declaration, "", 1);
     }
-    module(&INPUTS, &transform(root, &INPUTS, over), over) + &module(&MOD, &(outer + "\n" + &inner), over)
+    module(rule_set.module, &(outer + "\n" + &inner), over)
+}
+
+/// The kinds, which all rule sets share, and the source under each.
+fn source(root: &Path, over: Over) -> String {
+    let inputs = module(INPUTS.module, &transform(root, &INPUTS, over, &RULE_SETS[0]), over);
+    RULE_SETS.iter().fold(inputs, |all, rule_set| all + &tree(root, over, rule_set))
+}
+
+/// What stands in for it where the source folder isn't at hand.
+fn absent() -> String {
+    let first = include_str!("absent.rs").to_string();
+    RULE_SETS[1..]
+        .iter()
+        .fold(first, |all, rule_set| all + &format!("\npub use {} as {};\n", MOD.module, rule_set.module))
 }
 
 /// FNV-1a of the source as it is read: says in a run's output which text ours is compared with.
@@ -252,8 +314,33 @@ pub fn write(over: Over) {
             "cargo:warning=no Rust source: set {VARIABLE} to the folder that has {}; nothing can be compared",
             MOD.path
         );
-        include_str!("absent.rs").to_string()
+        absent()
     };
     let out = folder("OUT_DIR").join("source.rs");
     fs::write(&out, text).unwrap_or_else(|e| fail(&format!("{}: {e}", out.display())));
+}
+
+#[cfg(test)]
+mod tests {
+    use super::*;
+
+    /// The source under rule set 1 is rule set 0's but for the name, the two arms, and nothing else.
+    #[test]
+    fn rule_set_1_exchanges_two_arms() {
+        let root =
+            env::var_os(VARIABLE).map_or_else(|| Path::new(env!("CARGO_MANIFEST_DIR")).join(DEFAULT), PathBuf::from);
+        if !root.join(MOD.path).is_file() {
+            return;
+        }
+        let [first, second] = [0, 1].map(|i| tree(&root, Over::Rules { steps: true }, &RULE_SETS[i]));
+        let renamed = first.replace("pub mod lets_be_rational {", "pub mod rule_set_1 {").replace(PATH, "rule_set_1::");
+        let differing = renamed.lines().zip(second.lines()).filter(|(a, b)| a != b);
+        let differing: Vec<[&str; 2]> = differing.map(|(a, b)| [a.trim(), b.trim()]).collect();
+        let expected = [
+            ["OptionType::Call => strike_price,", "OptionType::Call => forward_price,"],
+            ["OptionType::Put => forward_price,", "OptionType::Put => strike_price,"],
+        ];
+        assert_eq!(differing, expected);
+        assert_eq!(renamed.lines().count(), second.lines().count());
+    }
 }
