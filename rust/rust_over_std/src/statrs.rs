@@ -1,6 +1,7 @@
 //! Stand-ins for the registry crate statrs, which isn't at hand; nothing here is its code. The cdf takes the source
-//! folder's own erfc, that of the same rule set. The inverse is Wichura's algorithm AS 241 (PPND16, 1988): one ln, one sqrt and a quotient of two
-//! polynomials of degree 7, the kind of work that a library's inverse does. It is for speed, and no bits are compared.
+//! folder's own erfc, that of the same rule set. The inverse is Wichura's algorithm AS 241 (PPND16, 1988): one ln, one sqrt
+//! and a quotient of two polynomials of degree 7, the kind of work that a library's inverse does. It is for speed, and no
+//! bits are compared.
 
 // The digits stand as the algorithm was printed.
 #![allow(clippy::excessive_precision)]
