@@ -3,13 +3,14 @@ use mathlib.Core.Path.{refl}
 use lib.Ieee.{add, sub, mul, neg, sum, round, size, units, of_bits, of_int}
 use Rattle.elementary.specs.Sqrt.{sqrt_of}
 use Rattle.elementary.specs.MulAdd.{fma}
-use Rattle.elementary.specs.Promises.{RoundIsNearest, SqrtIsRounded, NearestIsOne, ScaledIsRounded, MulAddIsRounded, FmaOne, FmaExamples, FloorIsGreatest, CdfIsFinite, InverseBrackets}
+use Rattle.elementary.specs.Promises.{RoundIsNearest, SqrtIsRounded, NearestIsOne, ScaledIsRounded, MulAddIsRounded, FmaOne, FmaExamples, FloorIsGreatest, CdfIsFinite, InverseBrackets, RuleSetNumbers}
 use Rattle.elementary.proofs.Laws.Rounding.{round_rounded, fraction_one, scaled_rounded, fma_rounded, fma_addend, fma_factor}
 use Rattle.elementary.proofs.Laws.SqrtNearest.{sqrt_rounded, sqrt_none, root_one}
 use Rattle.elementary.proofs.Laws.FmaOne as factor
 use Rattle.elementary.proofs.Laws.Greatest.{floor_greatest, greatest_unique, floor_other}
 use Rattle.elementary.proofs.Laws.Finite.{cdf_finite}
 use Rattle.elementary.proofs.Laws.Inverse as bisection
+use Rattle.elementary.proofs.RuleSets.{unknown_above_1}
 
 pub round_is_nearest : RoundIsNearest
 round_is_nearest = round_rounded
@@ -58,3 +59,6 @@ cdf_is_finite = cdf_finite
 
 pub inverse_brackets : InverseBrackets
 inverse_brackets = bisection.inverse_brackets
+
+pub rule_set_numbers : RuleSetNumbers
+rule_set_numbers = record { zero = refl; one = refl; no_other = λ number h. rw (unknown_above_1 number h) }

@@ -1,5 +1,5 @@
 -- What this layer promises beyond the contracts of its functions. Each promise is a statement, and proofs/Promised.antt proves it.
-use Rattle.std.specs.Prelude.{◌≡◌, Bool, true, false, not, cond, ◌&&◌, ◌||◌, ℕ, suc, ◌+◌, ◌-◌, ◌*◌, ◌%◌, ◌^◌, ◌≤◌, ◌<◌, ℤ, T, ltb, Float}
+use Rattle.std.specs.Prelude.{◌≡◌, Bool, true, false, not, cond, ◌&&◌, ◌||◌, ℕ, suc, ◌+◌, ◌-◌, ◌*◌, ◌%◌, ◌^◌, ◌≤◌, ◌<◌, ℤ, T, ltb, Float, Ok, is_ok}
 use Rattle.std.specs.Bool.{beq}
 use Rattle.std.specs.Float.{nan, inf, fin, Format, binary64}
 use Rattle.std.specs.Float.Ieee.{emax, low, up, down, unlike, round, add, mul, neg, lt, le, fits, is_nan, to_bits}
@@ -8,6 +8,7 @@ use Rattle.std.specs.Float.Ieee.Scale.{finite}
 use Rattle.std.specs.Float.Ieee.Positive.{positive}
 use Rattle.elementary.specs.Ops.{◌⊕◌, ◌⊖◌, ◌⊗◌, mul_add, bits, float, +0, one, MAX}
 use Rattle.elementary.specs.declared.rule_set.RuleSet.{RuleSet}
+use Rattle.elementary.specs.RuleSets.{rule_set_0, rule_set_1, rule_set_of}
 use Rattle.elementary.specs.Methods.{sign_of}
 use Rattle.elementary.specs.Floor.{floor_of}
 use Rattle.elementary.specs.Sqrt.{in_units, sqrt_of}
@@ -146,3 +147,11 @@ pub record Brackets (set : RuleSet) (p lo hi : Float) : Type 0 where
 -- For every p between 0 and 1 the 64 steps of the bisection end so, under every rule set.
 abbrev pub InverseBrackets : Type 0
 InverseBrackets = (set : RuleSet) (p : Float) → lt +0 p ≡ true → lt p one ≡ true → Brackets set p (ends_of set p).lo (ends_of set p).hi
+
+-- ---- rule sets
+
+-- 0 and 1 are rule sets' numbers, and no other is.
+pub record RuleSetNumbers : Type 0 where
+  pub zero : rule_set_of 0 ≡ Ok rule_set_0
+  pub one : rule_set_of 1 ≡ Ok rule_set_1
+  pub no_other : (number : ℕ) → 1 < number → is_ok (rule_set_of number) ≡ false

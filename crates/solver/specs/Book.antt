@@ -45,7 +45,7 @@ abbrev pub by_kind : {A : Type 0} → Result OptionType UnknownKind → (OptionT
 by_kind (Ok kind) answer none = answer kind
 by_kind (Err unknown) answer none = none
 
--- of the limit that a record was filed with
+-- how many steps the limit allows that a record was filed with
 abbrev pub filed_steps : List ℕ → ℕ
 filed_steps r = steps_from (number_at 40 4 r)
 
@@ -118,7 +118,7 @@ record_at k book = part (64 * k) 64 book
 unfoldable pub read_of : List ℕ → ℕ → ℕ → Result (List ℕ) Refusal
 read_of book used k = cond (record_exists book used k) (Ok (record_at k book)) (Err NoSuchRecord)
 
--- recheck: 23, then what it says of record k
+-- recheck: 23, then what check_record says of record k
 unfoldable pub recheck_of : ℕ → List ℕ → ℕ → ℕ → Checking
 recheck_of number book used k = let checked = check_record number (record_at k book) in cond (record_exists book used k) checked (Err (at_once NoSuchRecord))
 

@@ -44,7 +44,7 @@ cap_of set Put forward strike = cond set.textbook_cap strike forward
 abbrev pub intrinsic_in : Quote → Float
 intrinsic_in q = max_of (times q.option_type (q.forward ⊖ q.strike)) +0
 
--- from a price between these two; in the money from what it is above the intrinsic value, as the other kind's
+-- where a run starts from a price that is not below the intrinsic value and below the cap; in the money from what it is above the intrinsic value, as the other kind's
 abbrev pub start_between : RuleSet → Quote → Start
 start_between set q =
     let kind = q.option_type in

@@ -1,8 +1,7 @@
 -- `book::solve_record` meets its contract: the quote is solved, or its refusal passes up.
-use mathlib.Core.Path.{◌≡◌, refl, ◌∙◌}
+use mathlib.Core.Path.{◌≡◌, refl}
 use Rattle.std.proofs.Common.{rules}
-use Rattle.std.specs.Prelude.{Ok, Err}
-use Rattle.solver.specs.Answers.{at_once}
+use Rattle.std.specs.Prelude.{Ok}
 use Rattle.solver.specs.Solve.{solve_of}
 use Rattle.solver.specs.Book.{solve_record}
 use Rattle.solver.proofs.Laws.BySet.{by_set}
@@ -10,10 +9,7 @@ use Rattle.solver.proofs.book.solve_record.Goals as goal
 
 pub returns-in_err-filed_quote : goal.returns-in_err-filed_quote
 unfolding solve_record
-returns-in_err-filed_quote c =
-    let e : c.filed_quote.result ≡ Err c.in_err-filed_quote.field-0.0 = search rules in
-    let r : c.from_residual.result ≡ Err (at_once c.in_err-filed_quote.field-0.0) = search rules in
-    r ∙ rw (← c.filed_quote.ensures, e)
+returns-in_err-filed_quote = search rules
 
 pub returns : goal.returns
 unfolding solve_record
