@@ -153,10 +153,7 @@ fn steps_of_range() {
     assert!(out.lines().all(|line| line.chars().count() <= 80), "{out}");
     // One end without a loop, and both.
     let (_, out, _) = output(&words("range 4 10 100 95 1 call --steps"));
-    assert!(
-        out.contains("At the low price, 4.0:\n\nNo step was completed: the answer comes without a loop.\n"),
-        "{out}"
-    );
+    assert!(out.contains("At the low price, 4.0:\n\nNo step was completed: the answer comes without a loop.\n"), "{out}");
     assert!(out.contains(TABLE) && out.ends_with(BELOW), "{out}");
     let (_, out, _) = output(&words("range -1 150 100 200 1 call --steps"));
     assert!(!out.contains("The loop seeks") && out.matches("without a loop").count() == 2, "{out}");
