@@ -1,0 +1,23 @@
+// What this crate refuses, by document 02's numbers.
+ghost use Rattle.std.specs.Prelude.{◌≡◌};
+ghost use Rattle.market.specs.Board.{number as number_of_refusal};
+
+use prices::refusal::Numbered;
+
+#[derive(Clone, Copy, Debug, PartialEq, Eq)]
+pub enum Refusal {
+    // The volatility of an arrival is NaN.
+    Volatility = 33,
+    // A quote of the series is live.
+    SeriesLive = 34,
+    // As many quotes are live as the board takes.
+    BoardFull = 35,
+}
+
+impl Numbered for Refusal {
+    ghost number = { number_of_refusal };
+
+    fn number(self) -> u8 {
+        self as u8
+    }
+}
