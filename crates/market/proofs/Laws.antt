@@ -1,2 +1,6 @@
 -- Lemmas by subject.
 pub mod Quotes
+pub mod Changes
+pub mod Calls
+pub mod Boards
+pub mod Highest

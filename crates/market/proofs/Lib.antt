@@ -1,1 +1,3 @@
 pub mod Laws
+-- The proofs of the promises.
+pub mod Promised

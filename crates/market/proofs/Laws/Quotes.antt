@@ -1,10 +1,11 @@
 -- What stands on a board: how many quotes are live, and that they are its chunks of 12 bytes. Theorems.
 use mathlib.Core.Path.{◌≡◌, refl, ap}
 use mathlib.Core.Bool.{Bool, true, false, cond}
+use mathlib.Core.Logic.{inl, inr}
 use mathlib.Core.List.{List, [], ◌∷◌, map}
 use Prim.Native.Nat.{ℕ, zero, suc, ◌+◌, ◌≤◌, ◌<◌}
 use native.Mathlib.Omega.{arith}
-use borrow.Author.Tests.{eq-eqb, ne_eqb, ltb-true}
+use borrow.Author.Tests.{eq-eqb, ne_eqb, lt-ltb, le-ltb, ltb-true}
 use lib.Dec.{ltb}
 use lib.Ieee.{is_nan}
 use Rattle.std.specs.Prelude.{Result, Ok, Err}
@@ -12,6 +13,7 @@ use Rattle.market.specs.declared.refusal.Refusal.{Refusal}
 use Rattle.market.specs.declared.refusal.Refusal.TheVariants.{Volatility, SeriesLive, BoardFull}
 use lib.ListN.{length, take, drop, get_or, length-map, drop_of_length-le}
 use Rattle.std.specs.Simd.{first_chunks}
+use Rattle.std.proofs.lemmas.Bool.{cases_lt}
 use Rattle.std.proofs.lemmas.List.{drop_more}
 use Rattle.solver.specs.LittleEndian.{number_at}
 use Rattle.market.specs.declared.board.LiveQuote.{LiveQuote}
@@ -59,13 +61,24 @@ module _ (chunks : List (List ℕ)) (i : ℕ) (inside : i < length chunks) where
 pub none_left : (chunks : List (List ℕ)) (i : ℕ) → length chunks ≤ i → map quote_in (drop i chunks) ≡ []
 none_left chunks i h = rw (drop_of_length-le chunks h) refl
 
--- where no arrival is refused a place is free
-pub room : (q : LiveQuote) (board : List ℕ) (u : Unit) → arrival_check (live_quotes board) q ≡ Ok u → live_count board < 256
+-- ---- what is accepted: a volatility that is no NaN, of a series that is not live, where a place is free
+pub accepted : (q : LiveQuote) (live : List LiveQuote) (u : Unit) → arrival_check live q ≡ Ok u → (is_nan q.volatility ≡ false) × (is_live q.series live ≡ false) × (length live < 256)
 unfolding arrival_check
-room q board u e = go (is_nan q.volatility) (is_live q.series (live_quotes board)) (ltb (length (live_quotes board)) 256) refl e
+accepted q live u e = go (is_nan q.volatility) (is_live q.series live) (ltb (length live) 256) refl refl refl e
   where
-    go : (n l f : Bool) → ltb (length (live_quotes board)) 256 ≡ f → ◌≡◌ {A = Result Unit Refusal} (cond n (Err Volatility) (cond l (Err SeriesLive) (cond f (Ok tt) (Err BoardFull)))) (Ok u) → live_count board < 256
-    go true l f h e = cc
-    go false true f h e = cc
-    go false false true h e = rw (length_live board) at (ltb-true _ _ h)
-    go false false false h e = cc
+    go : (n l f : Bool) → is_nan q.volatility ≡ n → is_live q.series live ≡ l → ltb (length live) 256 ≡ f
+        → ◌≡◌ {A = Result Unit Refusal} (cond n (Err Volatility) (cond l (Err SeriesLive) (cond f (Ok tt) (Err BoardFull)))) (Ok u)
+        → (is_nan q.volatility ≡ false) × (is_live q.series live ≡ false) × (length live < 256)
+    go true l f h i j e = cc
+    go false true f h i j e = cc
+    go false false true h i j e = (h, i, ltb-true _ _ j)
+    go false false false h i j e = cc
+
+pub room : (q : LiveQuote) (board : List ℕ) (u : Unit) → arrival_check (live_quotes board) q ≡ Ok u → live_count board < 256
+room q board u e = rw (length_live board) at (accepted q (live_quotes board) u e).2
+
+pub at_most : (board : List ℕ) → live_count board ≤ 256
+at_most board = elim (cases_lt (number_at 3072 4 board) 256) [
+  | inl below ↦ rw (lt-ltb _ _ below) (omega arith)
+  | inr full ↦ rw (le-ltb _ _ full) (omega arith)
+]
