@@ -1,7 +1,7 @@
 //! The functions on the bits of floats and on bytes, as the archive has them, in the caller's floating-point environment,
 //! which has to be the default one: slices as pointer and length, a board as its bytes, what an answer has besides its value
-//! packed into one word. A value is NaN where it is refused. A rule set is 0 or 1, and refused with 32 where it is neither; a
-//! kind is 1 or 2, and then refused with 24 where it is neither.
+//! packed into one word. A value is NaN where it is refused. A rule set is 0 or 1, and refused with 32 where it is neither;
+//! a kind is 1 or 2, and then refused with 24 where it is neither.
 //!
 //! ```
 //! use gintubalos::bits;
