@@ -1,7 +1,7 @@
 //! The live board as a class sees it: its quotes side by side in order of arrival, the highest one marked.
 
 use crate::output::{counted, decimal};
-use gintubalos::Board;
+use gintubalos::{Board, LiveQuote};
 use std::io::{self, Write};
 
 /// A screen's width, and what it has room for between a call and the next one's prompt.
@@ -17,7 +17,7 @@ pub fn write_board(out: &mut impl Write, board: &Board) -> io::Result<()> {
     }
     writeln!(out, "{} in order of arrival, * the highest:", counted(board.len() as u64, "live quote"))?;
     let cells = cells(board);
-    let columns = columns(&cells);
+    let columns = columns(&cells[0]);
     for row in cells.chunks(columns).take(MOST_ROWS) {
         writeln!(out, "{}", row.join(GAP).trim_end())?;
     }
@@ -35,24 +35,22 @@ pub fn write_board(out: &mut impl Write, board: &Board) -> io::Result<()> {
 /// The quotes, all of one width.
 fn cells(board: &Board) -> Vec<String> {
     let highest = board.highest().map(|quote| quote.series);
-    let texts: Vec<[String; 2]> =
-        board.iter().map(|quote| [quote.series.to_string(), decimal(quote.volatility)]).collect();
-    let [series_width, volatility_width] =
-        [0, 1].map(|i| texts.iter().map(|text| text[i].len()).max().unwrap_or_default());
-    board
-        .iter()
-        .zip(&texts)
-        .map(|(quote, [series, volatility])| {
-            let mark = if Some(quote.series) == highest { '*' } else { ' ' };
-            format!("{mark} {series:>series_width$}  {volatility:<volatility_width$}")
-        })
-        .collect()
+    let series_width = widest(board.iter().map(|quote| quote.series.to_string()));
+    let volatility_width = widest(board.iter().map(|quote| decimal(quote.volatility)));
+    let cell = |LiveQuote { series, volatility }| {
+        let mark = if Some(series) == highest { '*' } else { ' ' };
+        format!("{mark} {series:>series_width$}  {:<volatility_width$}", decimal(volatility))
+    };
+    board.iter().map(cell).collect()
 }
 
-/// How many of them stand side by side, one at least.
-fn columns(cells: &[String]) -> usize {
-    let width = cells.first().map_or(0, |cell| cell.len() + GAP.len());
-    ((WIDTH + GAP.len()) / width.max(1)).max(1)
+fn widest(texts: impl Iterator<Item = String>) -> usize {
+    texts.map(|text| text.len()).max().unwrap_or(0)
+}
+
+/// How many quotes of this width stand side by side: two at least, since the longest has 38 characters.
+fn columns(cell: &str) -> usize {
+    (WIDTH + GAP.len()) / (cell.len() + GAP.len())
 }
 
 #[cfg(test)]
