@@ -39,6 +39,12 @@ pub struct Market {
 }
 
 impl Arguments {
+    /// The words of a line of text, in which there are no options.
+    pub fn of_line(line: &str) -> Arguments {
+        let words = line.split_ascii_whitespace().map(OsString::from).collect();
+        Arguments { words, ..Arguments::default() }
+    }
+
     pub fn take(&mut self, word: OsString) -> Result<(), Failure> {
         let text = word.to_string_lossy().into_owned();
         if let Some(name) = self.wanting.take() {
@@ -164,6 +170,17 @@ impl Arguments {
         let word = self.word("the record's number")?;
         let word = word.to_string_lossy();
         word.parse().map_err(|_| Failure::usage(format!("{word} is no record's number: a whole number from 0 on")))
+    }
+
+    /// The name of a board's call, none on a line without words.
+    pub fn call(&mut self) -> Option<String> {
+        self.words.pop_front().map(|word| word.to_string_lossy().into_owned())
+    }
+
+    pub fn series(&mut self) -> Result<u32, Failure> {
+        let word = self.word("SERIES")?;
+        let word = word.to_string_lossy();
+        word.parse().map_err(|_| Failure::usage(format!("SERIES: {word} is no whole number from 0 to 4294967295")))
     }
 
     /// The end of a command that has a rule set, by default the original library's. A wrong command line asks for nothing,

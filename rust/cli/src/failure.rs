@@ -4,7 +4,8 @@ use crate::output::counted;
 use gintubalos::{Refusal, RuleSet};
 use std::{fmt, io, path::PathBuf};
 
-/// The status of a command line that is none of the program's. Like the next it is no refusal's number.
+/// The status of a command line that is none of the program's, and of a board where a line was no call. Like the next it is
+/// no refusal's number.
 pub const USAGE: u8 = 64;
 
 /// The status where a file or standard output could not be read or written.

@@ -1,14 +1,16 @@
-//! `gintubalos`: demo, solve, range, black, file, recheck, list and show on the command line. Every answer is the proved
-//! library's; this program reads arguments and files, and writes answers down.
+//! `gintubalos`: demo, solve, range, black, file, recheck, list, show and board on the command line. Every answer is the
+//! proved library's; this program reads arguments and files, and writes answers down.
 
 #![forbid(unsafe_code)]
 
 mod arguments;
+mod board_view;
 mod book_file;
 mod demo;
 mod failure;
 mod filing;
 mod help;
+mod live_board;
 mod output;
 mod progress;
 mod ranging;
@@ -51,13 +53,12 @@ fn answer(mut out: impl Write) -> Result<u8, Failure> {
     }
 }
 
-/// The status: 0, what a recheck found, or the number of a range's end.
+/// The status: 0, what a recheck found, the number of a range's end, or that a board was given a line that is no call.
 fn run(out: &mut impl Write) -> Result<u8, Failure> {
     let mut words = env::args_os().skip(1);
-    let command = words
-        .next()
-        .filter(|command| !command.is_empty())
-        .ok_or_else(|| Failure::usage("a command is wanted: demo, solve, range, black, file, recheck, list or show"))?;
+    let command = words.next().filter(|command| !command.is_empty()).ok_or_else(|| {
+        Failure::usage("a command is wanted: demo, solve, range, black, file, recheck, list, show or board")
+    })?;
     let mut arguments = Arguments::default();
     for word in words {
         arguments.take(word)?;
@@ -83,6 +84,7 @@ fn run(out: &mut impl Write) -> Result<u8, Failure> {
         "recheck" => return rechecking::recheck(arguments, out),
         "list" => rechecking::list(arguments, out)?,
         "show" => filing::show(arguments, out)?,
+        "board" => return live_board::board(arguments, out),
         other => return Err(Failure::usage(format!("there is no command {other}"))),
     }
     Ok(0)

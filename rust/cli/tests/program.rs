@@ -283,6 +283,7 @@ fn usage() {
         "show book -1",
         "show book one",
         "show book 1 2",
+        "board now",
     ] {
         let (status, out, err) = output(&words(line));
         assert_eq!((status, &*out), (64, ""), "{line}");

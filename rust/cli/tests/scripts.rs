@@ -70,6 +70,8 @@ fn wrong_lines_build_nothing() {
         "./gintubalos file --repair",
         "./gintubalos recheck --jobs 2",
         "./gintubalos show -- --repair",
+        "./gintubalos board now",
+        "./gintubalos board --all",
         "./relist one two",
         "./relist --all",
         "./test --fast",
@@ -89,6 +91,7 @@ fn wrong_lines_build_nothing() {
         ("./gintubalos --version >/dev/full", 74),
         ("./gintubalos --help >&-", 74),
         ("./gintubalos list - <&-", 74),
+        ("./gintubalos board <&-", 74),
     ] {
         let (status, out, err) = shell(&tree, line);
         assert!(status == expected && out.is_empty() && !err.is_empty(), "{line}: {status} {err}");
@@ -152,6 +155,7 @@ fn right_lines_build() {
         "recheck one two three --jobs 1 --all",
         "list -",
         "show book 1",
+        "board",
     ] {
         let (status, out, err) = shell(&tree, &format!("PATH=$PWD/tools bash ./gintubalos {line}"));
         assert_eq!((status, &*out), (74, ""), "{line}: {err}");

@@ -3,8 +3,9 @@
  *
  * A float crosses as its 64 bits, in both directions: any 64 bits may come in, and a NaN comes back as 7FF8000000000000.
  * What is not a price, a forward, a strike, an expiry or a sigma is refused with a number. A slice is a pointer and its
- * length in bytes. No pointer may be null, also where its length is 0, and what one call is lent may not overlap. Every
- * call returns; none keeps a pointer, has a state or calls another library.
+ * length in bytes, a board a pointer to its GINTUBALOS_BOARD_BYTES bytes. No pointer may be null, also where its length is
+ * 0, and what one call is lent may not overlap. Every call returns; none keeps a pointer, has a state or calls another
+ * library: a board's state is the caller's bytes.
  *
  * The archive is for x86-64 Linux, and all bits rest on the default floating-point environment: rounding to nearest, no
  * exception traps, subnormal numbers neither flushed to zero nor taken for zero. It is the caller's to see to it: a program
@@ -31,6 +32,9 @@
  *   24 the record's kind, branch, ending or spare bytes are outside the layout
  *   31 the low price is above the high price
  *   32 the rule set is unknown
+ *   33 the volatility is NaN
+ *   34 the series is live already
+ *   35 256 quotes are live
  */
 #ifndef GINTUBALOS_H
 #define GINTUBALOS_H
@@ -50,10 +54,12 @@ extern "C" {
 #define GINTUBALOS_RULE_SET_0 0u
 #define GINTUBALOS_RULE_SET_1 1u
 
-/* The bytes of a step's record in a trail and of a record in a book, and those that any line of relist fits in. */
+/* The bytes of a step's record in a trail and of a record in a book, those that any line of relist fits in, and those of a
+ * live board, which is empty where all are zero. */
 #define GINTUBALOS_STEP_BYTES 48
 #define GINTUBALOS_RECORD_BYTES 64
 #define GINTUBALOS_LINE_BYTES 128
+#define GINTUBALOS_BOARD_BYTES 3076
 
 /* What an outcome's word holds. Number: 0 where nothing is refused. Branch: 0 answered before a guess, 1 lower loop, 2 and
  * 3 lower and upper middle, 4 upper loop, 5 the rest of the upper tail. Ending: 0 no loop, 1 step test, 2 limit. Steps: the
@@ -133,6 +139,24 @@ uint64_t gintubalos_read(const uint8_t *book, size_t book_length, uint64_t used,
 /* Lays relist's line of a record, or of a last part under 64 bytes, at the start of `out`: its length, line feed included,
  * without a 0 at its end. An `out` under 128 bytes stays, and the answer is 0. */
 size_t gintubalos_line(uint64_t index, const uint8_t *bytes, size_t length, uint8_t *out, size_t out_length);
+
+/* ---- The live board: up to 256 quotes that come and go. Quote i, from 0 in order of arrival, is at byte 12 x i, first its
+ * series (uint32_t), then its volatility (float); the count of the live quotes (uint32_t) is at byte 3072; all
+ * little-endian, the same in every version. Any bytes are a board: a count above 256 counts as 256, and where a series
+ * stands twice the earlier one leaves. A refusal, and a leave of a series that is not live, change no byte. ---- */
+
+/* A quote arrives, behind the others: 0, or the number that refuses it: 33, 34 (its series is live), then 35. Infinities are
+ * volatilities like any other. */
+uint8_t gintubalos_board_arrive(uint8_t *board, uint32_t series, uint64_t volatility);
+
+/* The series' quote leaves: 1 where it was live, 0 where it was not. Those behind it move down a place, and the last one's
+ * place, free now, becomes zero. */
+uint8_t gintubalos_board_leave(uint8_t *board, uint32_t series);
+
+/* 1, with the series and the volatility's own bits of the quote whose volatility is the highest; or 0 where no quote is
+ * live, with 0 in both. Of equal volatilities it is the earliest arrival's; zeros of either sign are equal. A NaN, which
+ * only bytes from elsewhere can have, is above nothing and nothing is above it: it is shown only where it stands first. */
+uint8_t gintubalos_board_highest(const uint8_t *board, uint32_t *series, uint64_t *volatility);
 
 #ifdef __cplusplus
 }

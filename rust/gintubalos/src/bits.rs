@@ -1,7 +1,7 @@
 //! The functions on the bits of floats and on bytes, as the archive has them, in the caller's floating-point environment,
-//! which has to be the default one: slices as pointer and length, what an answer has besides its value packed into one word.
-//! A value is NaN where it is refused. A rule set is 0 or 1, and refused with 32 where it is neither; a kind is 1 or 2, and
-//! then refused with 24 where it is neither.
+//! which has to be the default one: slices as pointer and length, a board as its bytes, what an answer has besides its value
+//! packed into one word. A value is NaN where it is refused. A rule set is 0 or 1, and refused with 32 where it is neither;
+//! a kind is 1 or 2, and then refused with 24 where it is neither.
 //!
 //! ```
 //! use gintubalos::bits;
@@ -9,7 +9,10 @@
 //! assert_eq!(bits::black(0, 0, 0, 0, 3), (0x7FF8_0000_0000_0000, 24));
 //! ```
 
+use crate::BOARD_BYTES;
+
 mod archive {
+    use crate::BOARD_BYTES;
     extern "C" {
         pub fn gintubalos_solve_with_trail(
             price: u64,
@@ -114,6 +117,9 @@ mod archive {
         ) -> u8;
         pub fn gintubalos_read(book: *const u8, book_len: usize, used: u64, k: u64, number: &mut u8) -> u64;
         pub fn gintubalos_line(index: u64, bytes: *const u8, len: usize, out: *mut u8, out_len: usize) -> usize;
+        pub fn gintubalos_board_arrive(board: &mut [u8; BOARD_BYTES], series: u32, volatility: u64) -> u8;
+        pub fn gintubalos_board_leave(board: &mut [u8; BOARD_BYTES], series: u32) -> u8;
+        pub fn gintubalos_board_highest(board: &[u8; BOARD_BYTES], series: &mut u32, volatility: &mut u64) -> u8;
     }
 }
 
@@ -144,9 +150,9 @@ impl From<u64> for Outcome {
     }
 }
 
-// SAFETY, for each: the function reads and writes the slices that it is lent and the word or byte for the outcome, and
-// nothing else; it has no requires, keeps no pointer, and is proved to end. Each is inlined, so that there is one call and
-// not two.
+// SAFETY, for each: the function reads and writes the slices or the board that it is lent and the words or the byte for
+// what it answers, and nothing else; it has no requires, keeps no pointer, and is proved to end. Each is inlined, so that
+// there is one call and not two.
 
 /// The volatility's bits, a NaN's where it is refused, and the outcome's word. The steps' records go to the trail.
 #[allow(clippy::too_many_arguments)]
@@ -378,4 +384,24 @@ pub fn read(book: &[u8], used: u64, k: u64) -> (u64, u8) {
 #[inline]
 pub fn line(index: u64, bytes: &[u8], out: &mut [u8]) -> usize {
     unsafe { archive::gintubalos_line(index, bytes.as_ptr(), bytes.len(), out.as_mut_ptr(), out.len()) }
+}
+
+/// The number that refuses the quote, 33 to 35, 0 for none. A refused call leaves the board.
+#[inline]
+pub fn board_arrive(board: &mut [u8; BOARD_BYTES], series: u32, volatility: u64) -> u8 {
+    unsafe { archive::gintubalos_board_arrive(board, series, volatility) }
+}
+
+/// 1 where the series was live, and has left; 0 where it was not, which leaves the board.
+#[inline]
+pub fn board_leave(board: &mut [u8; BOARD_BYTES], series: u32) -> u8 {
+    unsafe { archive::gintubalos_board_leave(board, series) }
+}
+
+/// 1, and the highest quote's series and its volatility's bits; or three zeros, for none.
+#[inline]
+pub fn board_highest(board: &[u8; BOARD_BYTES]) -> (u8, u32, u64) {
+    let (mut series, mut volatility) = (0, 0);
+    let found = unsafe { archive::gintubalos_board_highest(board, &mut series, &mut volatility) };
+    (found, series, volatility)
 }

@@ -36,13 +36,15 @@
 //! a Put at the strike. relist's line has the original's rules.
 //!
 //! [`bid_ask`](bid_ask()) solves at a low and at a high price together, as a settlement sheet gives them. [`file`](file()),
-//! [`recheck`] and [`read`] keep a book of such answers in 64-byte records, and [`line`](line()) is relist's line of one.
-//! What is refused is a [`Refusal`], which has the number, its meaning in words and the completed steps.
+//! [`recheck`] and [`read`] keep a book of such answers in 64-byte records, and [`line`](line()) is relist's line of one. A
+//! [`Board`] has up to 256 live quotes, which arrive and leave, and shows the one of the highest volatility. What is refused
+//! is a [`Refusal`], which has the number, its meaning in words and the completed steps.
 
 #![deny(missing_docs)]
 
 mod bid_ask;
 pub mod bits;
+mod board;
 mod book;
 mod environment;
 mod kinds;
@@ -53,6 +55,7 @@ mod rule_set;
 mod solution;
 
 pub use bid_ask::*;
+pub use board::*;
 pub use book::*;
 pub use kinds::*;
 pub use refusal::*;

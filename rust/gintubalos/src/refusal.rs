@@ -14,7 +14,7 @@ use std::{error::Error, fmt};
 #[derive(Clone, Copy, Debug, PartialEq, Eq)]
 pub struct Refusal {
     /// 1 to 8 from the input, 21 to 24 from the state, 31 from a low and a high price together, 32 from a rule set's
-    /// number.
+    /// number, 33 to 35 from a quote that would arrive on a board.
     pub number: u8,
     /// 0 unless 7 comes inside a loop: the records of so many steps then stand in the trail.
     pub steps: u32,
@@ -22,7 +22,7 @@ pub struct Refusal {
 
 impl Refusal {
     /// Every number that a call refuses with, from documents 01 and 02.
-    pub const NUMBERS: [u8; 14] = [1, 2, 3, 4, 5, 6, 7, 8, 21, 22, 23, 24, 31, 32];
+    pub const NUMBERS: [u8; 17] = [1, 2, 3, 4, 5, 6, 7, 8, 21, 22, 23, 24, 31, 32, 33, 34, 35];
 
     /// The number's meaning in words.
     ///
@@ -46,6 +46,9 @@ impl Refusal {
             24 => "the record's kind, branch, ending or spare bytes are outside the layout",
             31 => "the low price is above the high price",
             32 => "the rule set is unknown",
+            33 => "the volatility is NaN",
+            34 => "the series is live already",
+            35 => "256 quotes are live",
             _ => "a number that document 01 does not have",
         }
     }

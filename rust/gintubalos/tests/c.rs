@@ -38,9 +38,12 @@ fn in_c(rattle: &str) -> &'static [&'static str] {
         "i32" => &["int32_t"],
         "usize" => &["size_t"],
         "&mut u8" => &["uint8_t *"],
+        "&mut u32" => &["uint32_t *"],
         "&mut u64" => &["uint64_t *"],
         "&[u8]" => &["const uint8_t *", "size_t"],
         "&mut [u8]" => &["uint8_t *", "size_t"],
+        "&[u8; BOARD_BYTES]" => &["const uint8_t *"],
+        "&mut [u8; BOARD_BYTES]" => &["uint8_t *"],
         other => panic!("no type of C for {other}"),
     }
 }
@@ -178,7 +181,21 @@ file 0000000000000000 32 0 0 0
 recheck 0000000000000000 0 0 0 0
 recheck 0000000000000001 0 0 0 0
 recheck 0000000000000000 32 0 0 0
-line 8 7FEFFFFFFFFFFFFF 0 0 0";
+line 8 7FEFFFFFFFFFFFFF 0 0 0
+highest 0 0 0000000000000000
+arrive 0
+arrive 33
+arrive 34
+arrive 0
+highest 1 17 8000000000000000
+leave 1
+highest 1 4294967295 0000000000000000
+leave 0
+highest 1 4294967295 0000000000000000
+full 35 0 1
+highest 1 254 406FC00000000000
+leave 1
+freed 64 0 255";
     lines.extend(more.lines().map(str::to_owned));
     lines
 }

@@ -67,6 +67,12 @@ fn same_bits_everywhere() {
     });
     // Taken for zeros they would be equal.
     everywhere("subnormal prices, low above high", || bid_ask(TWICE_TINY, TINY, 100.0, 100.0, 1.0, Put, 9, Original));
+    // Taken for zeros the first would be the highest.
+    everywhere("a board of subnormal volatilities", || {
+        let mut board = Board::new();
+        let arrivals = [board.arrive(17, TINY), board.arrive(18, TWICE_TINY), board.arrive(19, f64::NAN)];
+        (arrivals, board.highest(), board.leave(17), board)
+    });
     everywhere("file, recheck and line", || {
         let mut book = [0; RECORD_BYTES];
         let filed = file(10.0, 100.0, 95.0, 1.0, Call, 9, Original, &mut book, 0);

@@ -181,6 +181,36 @@ static void filed_by_the_textbook(void) {
     printf("line %.*s", (int)length, (const char *)line);
 }
 
+static void say_highest(const uint8_t *board) {
+    uint32_t series = 1;
+    uint64_t volatility = 1;
+    uint8_t found = gintubalos_board_highest(board, &series, &volatility);
+    printf("highest %u %" PRIu32 " %016" PRIX64 "\n", found, series, volatility);
+}
+
+/* Quotes come and go, with zeros of either sign; a full board, and its freed place. */
+static void live_board(void) {
+    const struct { uint32_t series; uint64_t volatility; } quotes[] = {
+        {17, bits(-0.0)}, {17, UINT64_C(0xFFF0000000000001)}, {17, bits(1)}, {UINT32_MAX, bits(0)}};
+    uint8_t board[GINTUBALOS_BOARD_BYTES] = {0}, number = 0;
+    say_highest(board);
+    for (int i = 0; i < 4; i++) {
+        printf("arrive %u\n", gintubalos_board_arrive(board, quotes[i].series, quotes[i].volatility));
+    }
+    say_highest(board);
+    for (int i = 0; i < 2; i++) {
+        printf("leave %u\n", gintubalos_board_leave(board, 17));
+        say_highest(board);
+    }
+    for (uint32_t series = 0; number == 0; series++) {
+        number = gintubalos_board_arrive(board, series, bits(series));
+    }
+    printf("full %u %d %d\n", number, board[3072], board[3073]);
+    say_highest(board);
+    printf("leave %u\n", gintubalos_board_leave(board, 254));
+    printf("freed %d %d %d\n", board[3059], board[3060], board[3072]);
+}
+
 /* As it is, with upward rounding, with flushed subnormals, and with a flag alone. */
 static void environment(void) {
     const unsigned word = _mm_getcsr();
@@ -204,5 +234,6 @@ int main(void) {
     ranges();
     book();
     filed_by_the_textbook();
+    live_board();
     return 0;
 }
