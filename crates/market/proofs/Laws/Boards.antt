@@ -14,7 +14,7 @@ use Rattle.market.specs.Board.{Departure, live_count, live_quotes, place_of, is_
 use Rattle.market.specs.Promises.Board.{empty_board, Call, arrive, leave, highest, arrival, departure, shown, IsQuote, IsCall, AreCalls, live_after, answer_after, answers_after, answer_on, board_after, answers_on, OnBoard}
 use Rattle.market.proofs.Laws.Quotes.{length_live, room, at_most}
 use Rattle.market.proofs.Laws.Changes.{live_with, length_with, live_without, length_without, without}
-use Rattle.market.proofs.Laws.Calls.{after_arrival, after_leaving, after_highest, others_is, others_none, kept_after}
+use Rattle.market.proofs.Laws.Calls.{after_arrival, after_leaving, after_highest, others_is, others_none, are_live}
 
 -- ---- on any bytes
 
@@ -94,7 +94,7 @@ module _ (board : List ℕ) (past : List Call) (holds : Holds board past) where
             rw here refl,
             record {
               inside = length_without (place_of s (live_quotes board)) board holds.inside below (at_most board);
-              live = live_without (place_of s (live_quotes board)) board holds.inside below (at_most board) ∙ rw (holds.live, after_leaving, others_is s (live_after past) (kept_after past).apart here) refl;
+              live = live_without (place_of s (live_quotes board)) board holds.inside below (at_most board) ∙ rw (holds.live, after_leaving, others_is s (live_after past) (are_live past).apart here) refl;
             },
           )
       go false e =

@@ -1,6 +1,6 @@
 -- What the live board is promised to be: for every list of calls from an empty board what document 02's ticket 3 says, from the calls alone; and what its calls do
 -- to any bytes. Statements only.
-use Rattle.std.specs.Prelude.{◌≡◌, Bool, true, false, ◌||◌, cond, List, [], ◌∷◌, ◌++◌, ℕ, suc, ◌<◌, ◌^◌, T, eqb, length, take, drop, replicate, Result, Ok, Err, Option, Some, None}
+use Rattle.std.specs.Prelude.{◌≡◌, Bool, true, false, ◌||◌, cond, List, [], ◌∷◌, ◌++◌, ℕ, suc, ◌≤◌, ◌<◌, ◌^◌, T, eqb, length, take, drop, replicate, Result, Ok, Err, Option, Some, None}
 use Rattle.std.specs.Float.{binary64}
 use Rattle.std.specs.Float.Ieee.{lt, fits, is_nan}
 use Rattle.market.specs.declared.board.LiveQuote.{LiveQuote}
@@ -27,10 +27,10 @@ leaves_by (arrive q) series = false
 leaves_by (leave s) series = eqb series s
 leaves_by highest series = false
 
--- whether it leaves by one of these
-abbrev pub leaves : List Call → ℕ → Bool
-leaves [] series = false
-leaves (c ∷ cs) series = leaves_by c series || leaves cs series
+-- whether it has left by one of these
+abbrev pub has_left : List Call → ℕ → Bool
+has_left [] series = false
+has_left (c ∷ cs) series = leaves_by c series || has_left cs series
 
 -- an arrival, unless it is refused, where these are live
 abbrev pub accepted_by : Result Unit Refusal → LiveQuote → List LiveQuote
@@ -40,7 +40,7 @@ accepted_by (Err refusal) q = []
 -- The accepted arrivals among the calls so far, the latest call first, that have not left since, in order of arrival; `since` are the calls that came after them.
 abbrev pub standing : List Call → List Call → List LiveQuote
 standing since [] = []
-standing since (arrive q ∷ past) = standing (arrive q ∷ since) past ++ cond (leaves since q.series) [] (accepted_by (arrival_check (standing [] past) q) q)
+standing since (arrive q ∷ past) = standing (arrive q ∷ since) past ++ cond (has_left since q.series) [] (accepted_by (arrival_check (standing [] past) q) q)
 standing since (leave s ∷ past) = standing (leave s ∷ since) past
 standing since (highest ∷ past) = standing (highest ∷ since) past
 
@@ -97,14 +97,28 @@ empty_board = replicate 3076 0
 abbrev pub BoardFollowsCalls : Type 0
 BoardFollowsCalls = (calls : List Call) → AreCalls calls → answers_on empty_board calls ≡ answers_after [] calls
 
+abbrev pub AllQuotes : (LiveQuote → Type 0) → List LiveQuote → Type 0
+AllQuotes P [] = Unit
+AllQuotes P (q ∷ qs) = P q × AllQuotes P qs
+
+-- no series twice
+abbrev pub Apart : List LiveQuote → Type 0
+Apart [] = Unit
+Apart (q ∷ qs) = AllQuotes (λ e. e.series ≡ q.series → ⊥) qs × Apart qs
+
+pub record AreLive (qs : List LiveQuote) : Type 0 where
+  pub few : length qs ≤ 256
+  pub apart : Apart qs
+  pub numbers : AllQuotes (λ q. is_nan q.volatility ≡ false) qs
+
+-- After any calls at most 256 quotes are live, no series is twice, and no volatility is NaN.
+abbrev pub LiveAfterCalls : Type 0
+LiveAfterCalls = (past : List Call) → AreLive (live_after past)
+
 -- Where a series has left, another arrival is accepted, on a board that was full too: unless its volatility is NaN or its series is live.
 abbrev pub LeftPlaceIsFilled : Type 0
 LeftPlaceIsFilled = (past : List Call) (s : ℕ) (q : LiveQuote) → is_live s (live_after past) ≡ true
     → is_nan q.volatility ≡ false → is_live q.series (live_after (leave s ∷ past)) ≡ false → arrival_check (live_after (leave s ∷ past)) q ≡ Ok tt
-
-abbrev pub AllQuotes : (LiveQuote → Type 0) → List LiveQuote → Type 0
-AllQuotes P [] = Unit
-AllQuotes P (q ∷ qs) = P q × AllQuotes P qs
 
 -- None is shown of none. Of quotes without a NaN one is shown to which the earlier ones are below and the later ones not above.
 pub record HighestIsEarliest : Type 0 where
