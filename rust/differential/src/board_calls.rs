@@ -17,8 +17,8 @@ mod archive {
     }
 }
 
-// SAFETY, for each: the function reads and writes the board that it is lent and the words for the quote, and nothing else; it
-// has no requires, keeps no pointer, and is proved to end.
+// SAFETY, for each: the function reads and writes the board that it is lent and the words for the quote, and nothing else;
+// it has no requires, keeps no pointer, and is proved to end.
 
 fn arrive(board: &mut Bytes, quote: Quote) -> u8 {
     unsafe { archive::gintubalos_board_arrive(board, quote.series, quote.volatility) }

@@ -1,6 +1,6 @@
 //! The board's 3,076 bytes as their layout says: quote i, in the order of arrival, at byte 12 × i, its series (u32) and its
-//! volatility's bits (u64), 256 places; then how many are live (u32), all little-endian. What any bytes answer is here, too,
-//! and how each call changes them.
+//! volatility's bits (u64), 256 places; then how many are live (u32), all little-endian. What any bytes answer is here,
+//! too, and how each call changes them.
 
 use crate::board::{Answer, Call, Quote, MOST, NONE};
 use rust_over_rules::elementary::NAN_BITS;

@@ -1,5 +1,5 @@
-//! The live board beside document 02's: over lists of calls from an empty board each answer, and after each call every byte of
-//! the board and the bytes about it; and how often each case was met that is to show a fault.
+//! The live board beside document 02's: over lists of calls from an empty board each answer, and after each call every byte
+//! of the board and the bytes about it; and how often each case was met that is to show a fault.
 
 use crate::{
     board::{Answer, Board, Call, Quote, MOST},
@@ -191,4 +191,17 @@ fn count_cases(tally: &mut Tally, met: &Compared) {
 pub fn report(tally: &Tally) -> Vec<String> {
     let checks = tally.report_checks(&CHECKS, |_, _| true);
     [checks, tally.report_cases("calls of lists from an empty board:", CASES.map(|(name, _)| name))].concat()
+}
+
+#[cfg(test)]
+mod tests {
+    use super::*;
+
+    /// The fixed lists and the short ones alone meet every case.
+    #[test]
+    fn edges_meet_every_case() {
+        let mut tally = Tally::default();
+        [fixed_lists, every_short_list::<0>].into_iter().for_each(|edges| edges(&mut tally));
+        assert!(report(&tally).is_empty());
+    }
 }

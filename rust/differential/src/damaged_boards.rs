@@ -282,3 +282,16 @@ pub fn random(words: &mut Words, tally: &mut Tally) {
         .collect();
     compare(tally, &board, &calls);
 }
+
+#[cfg(test)]
+mod tests {
+    use super::*;
+
+    /// The fixed boards alone meet every case.
+    #[test]
+    fn edges_meet_every_case() {
+        let mut tally = Tally::default();
+        edges(&mut tally);
+        assert!(report(&tally).is_empty());
+    }
+}
