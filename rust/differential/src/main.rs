@@ -10,6 +10,7 @@ mod board;
 mod board_calls;
 mod board_layout;
 mod board_lists;
+mod board_samples;
 mod boards;
 mod books;
 mod borders;
@@ -48,7 +49,7 @@ const USAGE: &str = "usage: differential [--quick] [--function NAME] [--inputs N
   --seed N         other random inputs (default 1)
   --threads N      default: as many as the machine has processors
   --search         looks for refusals of `black` and solve at the asymptotic expansion's borders
-  --samples        writes the list that crates/samples replays, answers of the Rust, to standard output
+  --samples        writes the list that crates/samples replays, the references' answers, to standard output
   --accuracy       measures document 01's rules over a table of rust/accuracy/table.py on standard input";
 
 const INPUTS: u64 = 10_000_000;
