@@ -1,7 +1,7 @@
 // What programs use: solve and its target, bid and ask together, the Black price, the book and the
-// listing.
+// listing, and the live board.
 pub mod bid_ask;
-pub mod board;
 pub mod black;
+pub mod board;
 pub mod book;
 pub mod solve;

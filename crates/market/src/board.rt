@@ -1,8 +1,11 @@
-// The live board: quotes that come and go, in order of arrival, in bytes that a caller lends.
-ghost use Rattle.std.specs.Prelude.{◌≡◌, ◌+◌, ◌*◌, ◌≤◌, ◌<◌, length};
+// The live board: quotes that come and go, in bytes that a caller lends, each of which has a meaning whatever stands there.
+ghost use Rattle.std.specs.Prelude.{◌≡◌, ◌+◌, ◌*◌, ◌≤◌, ◌<◌, length, map};
+ghost use Rattle.solver.specs.LittleEndian.{bytes_of, number_at, overwritten};
+ghost use Rattle.market.specs.Board.{quote_in, quote_bytes, live_count, live_quotes, place_of, arrival_check, with_quote, arrive_of, moved_down, without_place, leave_of, shown_of, highest_of};
 
 use crate::refusal::Refusal;
-use elementary::methods::{bits_of, float_of};
+use elementary::methods::float_of;
+use solver::little_endian::{number_at, put_float, put_number_at};
 
 // The most quotes that are live at a time.
 pub(crate) const MOST_QUOTES: usize = 256;
@@ -10,43 +13,44 @@ pub(crate) const MOST_QUOTES: usize = 256;
 // A quote's bytes: its series, and its volatility's bits.
 pub(crate) const QUOTE_BYTES: usize = 12;
 
-// Where the count of the live quotes stands, behind the last place.
+// Where the count of the live quotes stands, behind the places for them.
 pub(crate) const COUNT_AT: usize = 3072;
 
-// A board: the quotes, and their count. All zero, it is empty.
+// A board's bytes.
 pub const BOARD_BYTES: usize = 3076;
 
-// A quote on the board.
 #[derive(Clone, Copy)]
 pub struct LiveQuote {
     pub series: u32,
     pub volatility: f64,
 }
 
-// The series of a quote's bytes.
-fn series_in(quote: &[u8; QUOTE_BYTES]) -> u32
+// ---- what stands on a board
+
+fn series_in(bytes: &[u8; QUOTE_BYTES]) -> u32
+    ensures { result ≡ number_at 0 4 bytes.now }
 {
-    u32::from_le_bytes([quote[0], quote[1], quote[2], quote[3]])
+    u32::from_le_bytes([bytes[0], bytes[1], bytes[2], bytes[3]])
 }
 
-// The quote of its bytes.
-fn quote_in(quote: &[u8; QUOTE_BYTES]) -> LiveQuote
+fn quote_in(bytes: &[u8; QUOTE_BYTES]) -> LiveQuote
+    ensures { result ≡ quote_in bytes.now }
 {
     let bits = u64::from_le_bytes([
-        quote[4], quote[5], quote[6], quote[7], quote[8], quote[9], quote[10], quote[11],
+        bytes[4], bytes[5], bytes[6], bytes[7], bytes[8], bytes[9], bytes[10], bytes[11],
     ]);
     LiveQuote {
-        series: series_in(quote),
+        series: series_in(bytes),
         volatility: float_of(bits),
     }
 }
 
-// How many quotes are live: no more than there are places, whatever stands in the count.
+// How many quotes are live. No more than there are places, whatever the count says.
 fn live_count(board: &[u8; BOARD_BYTES]) -> usize
+    ensures value { result ≡ live_count board.now }
+    ensures bound { result ≤ 256 }
 {
-    let count = u32::from_le_bytes([
-        board[3072], board[3073], board[3074], board[3075],
-    ]) as usize;
+    let count = number_at(board, COUNT_AT, 4) as usize;
     if count < MOST_QUOTES {
         count
     } else {
@@ -54,18 +58,20 @@ fn live_count(board: &[u8; BOARD_BYTES]) -> usize
     }
 }
 
-// The live quotes' bytes, in order of arrival.
+// The bytes of the live quotes, in order of arrival.
 fn live_quotes(board: &[u8; BOARD_BYTES]) -> &[[u8; QUOTE_BYTES]]
+    ensures { map quote_in result.now ≡ live_quotes board.now }
 {
     &board.as_chunks::<QUOTE_BYTES>().0[..live_count(board)]
 }
 
-// The place of the first of these quotes that has the series; their count where none has it.
-fn place_of(quotes: &[[u8; QUOTE_BYTES]], series: u32) -> usize
+// The place of the first quote that has the series; their count where none has it.
+fn place_of(series: u32, quotes: &[[u8; QUOTE_BYTES]]) -> usize
+    ensures { result ≡ place_of series (map quote_in quotes.now) }
 {
     let mut place = 0;
-    for quote in quotes {
-        if series_in(quote) == series {
+    for bytes in quotes {
+        if series_in(bytes) == series {
             return place;
         }
         place += 1;
@@ -73,72 +79,114 @@ fn place_of(quotes: &[[u8; QUOTE_BYTES]], series: u32) -> usize
     place
 }
 
-fn put_count(board: &mut [u8; BOARD_BYTES], count: usize)
+// ---- what changes on it
+
+fn put_quote(board: &mut [u8; BOARD_BYTES], at: usize, quote: LiveQuote)
+    requires { at + 12 ≤ 3072 }
+    ensures { board.new ≡ overwritten at (quote_bytes quote) board.old }
 {
-    board[3072..3076].copy_from_slice(&(count as u32).to_le_bytes());
+    put_number_at(board, at, 4, quote.series as u64);
+    put_float(board, at + 4, quote.volatility);
 }
 
-pub fn arrive(board: &mut [u8; BOARD_BYTES], series: u32, volatility: f64) -> Result<(), Refusal>
+// The bytes from 12 behind a place up to `end` move down to it, and zeros follow them.
+fn move_down(board: &mut [u8; BOARD_BYTES], at: usize, end: usize)
+    requires at_bound { at + 12 ≤ end }
+    requires end_bound { end ≤ 3072 }
+    ensures { board.new ≡ moved_down at end board.old }
 {
-    if volatility.is_nan() {
+    let behind = at + QUOTE_BYTES;
+    // Zeros in front of which they stand, so that one write moves them and clears what comes free.
+    let mut moved = [0; BOARD_BYTES];
+    moved[..end - behind].copy_from_slice(&board[behind..end]);
+    board[at..end].copy_from_slice(&moved[..end - at]);
+}
+
+// ---- arrive
+
+// 33, 34 or 35, or no refusal.
+fn check_arrival(board: &[u8; BOARD_BYTES], quote: LiveQuote) -> Result<(), Refusal>
+    ensures { result ≡ arrival_check (live_quotes board.now) quote }
+{
+    if quote.volatility.is_nan() {
         return Err(Refusal::Volatility);
     }
-    let live = live_count(board);
-    if place_of(live_quotes(board), series) < live {
+    let live = live_quotes(board);
+    if place_of(quote.series, live) < live.len() {
         return Err(Refusal::SeriesLive);
     }
-    if live >= MOST_QUOTES {
+    if live.len() >= MOST_QUOTES {
         return Err(Refusal::BoardFull);
     }
-    let at = live * QUOTE_BYTES;
-    board[at..at + 4].copy_from_slice(&series.to_le_bytes());
-    board[at + 4..at + 12].copy_from_slice(&bits_of(volatility).to_le_bytes());
-    put_count(board, live + 1);
     Ok(())
 }
 
-fn close_gap(board: &mut [u8; BOARD_BYTES], place: usize, live: usize)
-{
-    let end = live * QUOTE_BYTES;
-    let at = place * QUOTE_BYTES;
-    board.copy_within(at + QUOTE_BYTES..end, at);
-    board[end - QUOTE_BYTES..end].copy_from_slice(&[0; QUOTE_BYTES]);
-}
-
-pub fn leave(board: &mut [u8; BOARD_BYTES], series: u32) -> bool
+// A quote comes to the board, behind those that are live.
+fn put_behind(board: &mut [u8; BOARD_BYTES], quote: LiveQuote)
+    requires { live_count board.old < 256 }
+    ensures { board.new ≡ with_quote quote board.old }
 {
     let live = live_count(board);
-    let place = place_of(live_quotes(board), series);
-    if place >= live {
+    put_quote(board, live * QUOTE_BYTES, quote);
+    put_number_at(board, COUNT_AT, 4, live as u64 + 1);
+}
+
+// A quote arrives, or is refused with 33, 34 or 35. A refusal leaves the board as it was.
+pub fn arrive(board: &mut [u8; BOARD_BYTES], quote: LiveQuote) -> Result<(), Refusal>
+    ensures value { result ≡ (arrive_of quote board.old).answer }
+    ensures board_after { board.new ≡ (arrive_of quote board.old).board }
+{
+    check_arrival(board, quote)?;
+    put_behind(board, quote);
+    Ok(())
+}
+
+// ---- leave
+
+fn take_away(board: &mut [u8; BOARD_BYTES], place: usize)
+    requires { place < live_count board.old }
+    ensures { board.new ≡ without_place place board.old }
+{
+    let live = live_count(board);
+    move_down(board, place * QUOTE_BYTES, live * QUOTE_BYTES);
+    put_number_at(board, COUNT_AT, 4, live as u64 - 1);
+}
+
+// The quote of a series leaves. Whether it was live; where it was not, the board is as it was.
+pub fn leave(board: &mut [u8; BOARD_BYTES], series: u32) -> bool
+    ensures value { result ≡ (leave_of series board.old).was_live }
+    ensures board_after { board.new ≡ (leave_of series board.old).board }
+{
+    let live = live_quotes(board);
+    let place = place_of(series, live);
+    if place >= live.len() {
         return false;
     }
-    close_gap(board, place, live);
-    put_count(board, live - 1);
+    take_away(board, place);
     true
 }
 
-// Whether the later of two quotes is shown in place of the earlier one: only where it is above, so that of
-// equal ones the earliest is.
-fn displaces(later: LiveQuote, earlier: LiveQuote) -> bool
+// ---- highest
+
+// What is shown of two: the later arrival only where it is above. Zeros are equal, whatever their signs.
+fn shown_of(earlier: LiveQuote, later: LiveQuote) -> LiveQuote
+    ensures { result ≡ shown_of earlier later }
 {
-    earlier.volatility < later.volatility
+    if earlier.volatility < later.volatility {
+        later
+    } else {
+        earlier
+    }
 }
 
+// The live quote with the highest volatility, of equal ones the earliest arrival.
 pub fn highest(board: &[u8; BOARD_BYTES]) -> Option<LiveQuote>
+    ensures { result ≡ highest_of board.now }
 {
-    let mut shown = None;
-    for bytes in live_quotes(board) {
-        let quote = quote_in(bytes);
-        shown = match shown {
-            None => Some(quote),
-            Some(earlier) => {
-                if displaces(quote, earlier) {
-                    Some(quote)
-                } else {
-                    Some(earlier)
-                }
-            }
-        };
+    let (first, others) = live_quotes(board).split_first()?;
+    let mut shown = quote_in(first);
+    for bytes in others {
+        shown = shown_of(shown, quote_in(bytes));
     }
-    shown
+    Some(shown)
 }

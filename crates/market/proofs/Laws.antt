@@ -1,0 +1,2 @@
+-- Lemmas by subject.
+pub mod Quotes

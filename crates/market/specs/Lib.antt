@@ -1,0 +1,2 @@
+-- Rules: what a reader believes.
+pub mod Board
