@@ -239,8 +239,9 @@ impl List<'_> {
         if self.series == 0 {
             self.words.any() as u32
         } else {
-            // Not from 0 on alone: the last ones are near the largest.
-            (self.words.below(self.series) as u32).wrapping_mul(0x8000_0001)
+            // By twos they differ in their first byte alone, and from the others in their last ones.
+            let number = self.words.below(self.series) as u32;
+            number / 2 + (number % 2) * 0xFF00_0000
         }
     }
 
