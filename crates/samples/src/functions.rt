@@ -1,13 +1,12 @@
 // The functions that the list names, in the order of their numbers, which are those of
 // `differential --samples`.
 use crate::list::Line;
-use crate::records;
 use crate::records::{Answer, option_type_in};
+use crate::{boards, records};
 use elementary::methods::{bits_of, float_of};
 use elementary::rule_set::RULE_SET_0;
 use elementary::{cody, methods, normal_distribution};
 use prices::rational_cubic::Side;
-use prices::refusal::Numbered;
 use prices::{black, intrinsic, rational_cubic, vega};
 use std::fmt;
 
@@ -55,10 +54,11 @@ pub(crate) enum Function {
     Recheck,
     Read,
     BidAsk,
+    Board,
 }
 
 // By hand, as the names below: a macro that wrote them would be the repository's own, which the gate refuses.
-pub(crate) const ALL: [Function; 42] = [
+pub(crate) const ALL: [Function; 43] = [
     Function::ErfcAsPublished,
     Function::BitsOf,
     Function::Abs,
@@ -101,6 +101,7 @@ pub(crate) const ALL: [Function; 42] = [
     Function::Recheck,
     Function::Read,
     Function::BidAsk,
+    Function::Board,
 ];
 
 impl Function {
@@ -162,6 +163,7 @@ impl Function {
             Function::Recheck => "recheck",
             Function::Read => "read",
             Function::BidAsk => "bid_ask",
+            Function::Board => "board",
         }
     }
 
@@ -170,7 +172,7 @@ impl Function {
         match self.answer(line) {
             Ok(bits) => line.number == 0 && line.bits == bits,
             Err(refused) => {
-                line.number == refused.refusal.number() as u64
+                line.number == refused.number as u64
                     && refused.left.is_none_or(|left| line.bits == left)
             }
         }
@@ -242,6 +244,7 @@ impl Function {
             Function::Recheck => records::recheck(line),
             Function::Read => records::read(line),
             Function::BidAsk => records::bid_ask(line),
+            Function::Board => boards::board(line),
         }
     }
 }

@@ -1,7 +1,8 @@
-// Replays answers of the Rust: standard input has a line for each, as `differential --samples`
-// writes them. For each function it prints how many there are and whether all agree.
+// Replays answers of the Rust, and of a live board written from document 02's text: standard input has a line for
+// each, as `differential --samples` writes them. For each function it prints how many there are and whether all agree.
 #![tactic(auto)]
 
+mod boards;
 mod functions;
 mod list;
 mod records;

@@ -16,17 +16,17 @@ use solver::solve::{solve_with_trail, steps_of};
 // A word that a function answers, or why it answers none.
 pub(crate) type Answer = Result<u64, Refused>;
 
-// A refusal, and the word that the line asks for of what the function left; prices leave nothing.
+// The number of a refusal, and the word that the line asks for of what the function left; prices leave nothing.
 #[derive(Clone, Copy)]
 pub(crate) struct Refused {
-    pub(crate) refusal: Refusal,
+    pub(crate) number: u8,
     pub(crate) left: Option<u64>,
 }
 
 impl From<UnknownKind> for Refused {
     fn from(kind: UnknownKind) -> Refused {
         Refused {
-            refusal: Refusal::from(kind),
+            number: Refusal::from(kind).number(),
             left: None,
         }
     }
@@ -35,16 +35,16 @@ impl From<UnknownKind> for Refused {
 impl From<prices::refusal::Refusal> for Refused {
     fn from(refusal: prices::refusal::Refusal) -> Refused {
         Refused {
-            refusal: Refusal::from(refusal),
+            number: refusal.number(),
             left: None,
         }
     }
 }
 
-// A refusal with a word beside it.
-fn refused_with(refusal: Refusal, left: u64) -> Answer {
+// A refusal's number with a word beside it.
+pub(crate) fn refused_with(number: u8, left: u64) -> Answer {
     Err(Refused {
-        refusal,
+        number,
         left: Some(left),
     })
 }
@@ -110,7 +110,7 @@ fn word_of(answer: Result<ImpliedVolatility, Failure>, asked: Asked, trail: &[u8
             Asked::Trail(i) => nth_word(trail, i),
         }),
         Err(failure) => refused_with(
-            failure.refusal,
+            failure.refusal.number(),
             match asked {
                 Asked::Volatility => 0,
                 Asked::Outcome => steps_word(failure.steps),
@@ -170,7 +170,7 @@ pub(crate) fn file(line: Line) -> Answer {
     let word = line.arguments[7].checked_sub(1).map(|i| nth_word(&book, i));
     match answer {
         Ok(used) => Ok(word.unwrap_or(used)),
-        Err(failure) => refused_with(failure.refusal, word.unwrap_or(0)),
+        Err(failure) => refused_with(failure.refusal.number(), word.unwrap_or(0)),
     }
 }
 
@@ -182,7 +182,7 @@ pub(crate) fn recheck(line: Line) -> Answer {
     let rule_set = (number >> 32) as u32;
     match solver::book::recheck(rule_set, book.as_flattened(), 1, number & 4294967295) {
         Ok(agrees) => Ok(agrees as u64),
-        Err(failure) => refused_with(failure.refusal, 0),
+        Err(failure) => refused_with(failure.refusal.number(), 0),
     }
 }
 
@@ -197,7 +197,7 @@ pub(crate) fn read(line: Line) -> Answer {
     let [used, number, which, ..] = line.arguments;
     match solver::book::read(&book, used, number) {
         Ok(part) => Ok(nth_word(part, which)),
-        Err(refusal) => refused_with(refusal, 0),
+        Err(refusal) => refused_with(refusal.number(), 0),
     }
 }
 

@@ -8,8 +8,6 @@ use std::{
     time::{Duration, Instant},
 };
 
-pub const SIDES: usize = 3;
-
 /// A block is long against the clock's own step, and short against the machine's other work.
 const BLOCK: Duration = Duration::from_micros(100);
 
@@ -33,7 +31,7 @@ pub fn over<I>(mut function: impl FnMut(&I) -> u64) -> impl FnMut(&[I]) -> u64 {
 }
 
 /// ns per call of each side.
-pub fn measure<I>(inputs: &[I], sides: [Side<I>; SIDES], effort: Effort) -> [f64; SIDES] {
+pub fn measure<I, const SIDES: usize>(inputs: &[I], sides: [Side<I>; SIDES], effort: Effort) -> [f64; SIDES] {
     // The first turn warms the caches and says how long a block is.
     let mut repeats = [1; SIDES];
     let mut turn = Duration::ZERO;

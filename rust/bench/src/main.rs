@@ -1,13 +1,14 @@
 //! Measures the proved functions beside the Rust, over document 01's elementary functions and over std's, and writes a
-//! table: ns per call, and ours divided by theirs; then bid and ask beside two solves, and what the crate's look at the
-//! environment costs. Exit status: 2 bad usage; 3 the Rust's source wasn't at hand when this was built, and there is
-//! nothing to compare with.
+//! table: ns per call, and ours divided by theirs; then bid and ask beside two solves, the live board's calls by themselves,
+//! and what the crate's look at the environment costs. Exit status: 2 bad usage; 3 the Rust's source wasn't at hand when this
+//! was built, and there is nothing to compare with.
 
+mod board;
 mod clock;
 mod inputs;
 mod listing;
 
-use clock::{measure, measure_look, over, Effort, SIDES};
+use clock::{measure, measure_look, over, Effort};
 use gintubalos::probe::bits;
 use inputs::{Class, Market, CLASSES, REGIONS};
 use std::{env, process::exit};
@@ -129,7 +130,7 @@ impl Bench {
             let (a, b) = (ours(input), same(input));
             assert!(a == b, "{name}, input {i}: {a:016X} and {b:016X}");
         }
-        let sides: [clock::Side<I>; SIDES] = [&mut over(&mut ours), &mut over(&mut same), &mut over(&mut other)];
+        let sides: [clock::Side<I>; 3] = [&mut over(&mut ours), &mut over(&mut same), &mut over(&mut other)];
         let [ours, same, other] = measure(inputs, sides, self.effort);
         println!("| {name} | {ours:.1} | {same:.1} | {:.2} | {other:.1} | {:.2} |", ours / same, ours / other);
     }
@@ -178,6 +179,23 @@ impl Bench {
                 |pair: &[Market; 2]| both([0, 1].map(|i| our_solve_with_trail(&pair[i], &mut own_trails[i])));
             self.row_of_bits(&format!("bid_ask with trails, {what}"), &pairs, ours, two_solves, over_rules);
         }
+    }
+
+    /// The live board's calls by themselves: the Rust has none. Each is promised to take less than a microsecond.
+    fn board(&self) {
+        if !self.wants("board") {
+            return;
+        }
+        println!("\n| ns per call | ours | of 1 µs |");
+        println!("|---|---:|---:|");
+        board::rows(COUNT, |name, inputs, call| {
+            if !self.wants(name) {
+                return;
+            }
+            assert!(inputs.iter().all(|input| call(input) == 1), "{name}: another answer");
+            let [ours] = measure(inputs, [&mut over(call)], self.effort);
+            println!("| {name} | {ours:.1} | {:.2} |", ours / 1000.0);
+        });
     }
 
     fn prices(&self, region: &str) {
@@ -326,6 +344,7 @@ fn main() {
     let bench = options();
     let Some(source) = rust_over_rules::SOURCE else {
         println!("no Rust source: there is nothing to compare with");
+        bench.board();
         bench.looks();
         exit(3);
     };
@@ -343,6 +362,7 @@ fn main() {
     REGIONS.iter().for_each(|region| bench.prices(region));
     bench.elementary();
     bench.bid_ask();
+    bench.board();
     bench.listings();
     bench.looks();
 }

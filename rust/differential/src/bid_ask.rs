@@ -235,14 +235,9 @@ fn count_cases(tally: &mut Tally, call: &Compared) {
 
 /// Prints how many calls met each case, and gives the cases that none met.
 pub fn report(tally: &Tally, with_trails: bool) -> Vec<String> {
-    let mut missing = tally.report_checks(checks(with_trails), |_, _| true);
-    println!("calls that no check refuses, or 21 alone:");
-    for (name, _) in ANSWERED.iter().chain(by_trails(with_trails)) {
-        let count = tally.count_of(name, "");
-        println!("  {name}: {count}");
-        missing.extend((count == 0).then(|| name.to_string()));
-    }
-    missing
+    let missing = tally.report_checks(checks(with_trails), |_, _| true);
+    let cases = ANSWERED.iter().chain(by_trails(with_trails)).map(|(name, _)| *name);
+    [missing, tally.report_cases("calls that no check refuses, or 21 alone:", cases)].concat()
 }
 
 // ---- fixed calls

@@ -102,7 +102,7 @@ pub const PRICE_POINTS: [f64; 32] = [
 ];
 
 /// Quiet and signalling NaNs of both signs.
-const NANS: [u64; 8] = [
+pub const NANS: [u64; 8] = [
     0x7FF8_0000_0000_0000,
     0xFFF8_0000_0000_0000,
     0x7FF0_0000_0000_0001,

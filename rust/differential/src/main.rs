@@ -6,11 +6,18 @@
 
 mod accuracy;
 mod bid_ask;
+mod board;
+mod board_calls;
+mod board_layout;
+mod board_lists;
+mod board_samples;
+mod boards;
 mod books;
 mod borders;
 mod caps;
 mod causes;
 mod compare;
+mod damaged_boards;
 mod edges;
 mod functions;
 mod inputs;
@@ -37,11 +44,12 @@ const USAGE: &str = "usage: differential [--quick] [--function NAME] [--inputs N
 
   --quick          fewer random inputs: under a minute, for the gate
   --function NAME  this function alone
-  --inputs N       random inputs of each function (default 10000000; of solve_with_trail 2000000, of other calls fewer)
+  --inputs N       random inputs of each function (default 10000000; of solve_with_trail 2000000, of other calls fewer);
+                   one of the board is a list of calls
   --seed N         other random inputs (default 1)
   --threads N      default: as many as the machine has processors
   --search         looks for refusals of `black` and solve at the asymptotic expansion's borders
-  --samples        writes the list that crates/samples replays, answers of the Rust, to standard output
+  --samples        writes the list that crates/samples replays, the references' answers, to standard output
   --accuracy       measures document 01's rules over a table of rust/accuracy/table.py on standard input";
 
 const INPUTS: u64 = 10_000_000;
@@ -106,7 +114,7 @@ impl Options {
         FUNCTIONS.iter().filter(|f| self.wants(f.name)).collect()
     }
 
-    /// Those of layer 3.
+    /// Those of layer 3, and the live board.
     fn parts(&self) -> Vec<&'static Part> {
         PARTS.iter().filter(|p| self.wants(p.name)).collect()
     }

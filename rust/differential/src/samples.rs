@@ -1,11 +1,13 @@
-//! The fixed list that crates/samples replays: answers of the Rust, a line for each. The function's number in two
-//! decimal digits, nine arguments and the answer's bits in sixteen hexadecimal digits each, and document 01's number of a
-//! refusal in two decimal digits, 00 where there is none.
+//! The fixed list that crates/samples replays: answers of the Rust and of document 02's board, a line for each. The
+//! function's number in two decimal digits, nine arguments and the answer's bits in sixteen hexadecimal digits each, and
+//! the number of a refusal in two decimal digits, 00 where there is none.
 //!
 //! Number 0 is erfc at published points: x, the float nearest to the true value, and how many units in the last place
-//! the rules are away from it. From 1 on the numbers are those of the table of functions, and from 37 on layer 3's.
+//! the rules are away from it. From 1 on the numbers are those of the table of functions, from 37 on layer 3's, and 42 is
+//! the live board's.
 
 use crate::{
+    board_samples,
     functions::{Answer, Function, FUNCTIONS},
     inputs::{wide, Arguments},
     records,
@@ -66,4 +68,5 @@ pub fn write() {
         inputs(function).into_iter().for_each(|a| line(i + 1, a, (function.rust)(a)));
     }
     records::write(SEED);
+    board_samples::write(SEED);
 }

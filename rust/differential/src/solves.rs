@@ -1,11 +1,12 @@
 //! solve and its wrapper beside the Rust: volatility, number, branch, ending, steps, and every byte of the trail.
 
 use crate::{
-    bid_ask, books,
+    bid_ask, boards, books,
     borders::{prices, KINDS},
     caps,
     causes::{every_set, of_question, OF_FILE, OF_QUESTIONS, OF_RECHECK, WITH_A_TRAIL},
     compare::{combine, Run},
+    damaged_boards,
     inputs::wide,
     markets::{any_question, limit, Question},
     pairs,
@@ -21,8 +22,9 @@ use rust_over_rules::{
     solver::{self, is_long_enough},
 };
 
-/// A function of layer 3: its name, its random inputs in a whole and in a quick run, what compares it (the edges in lists,
-/// each for a thread), and what a run says of the calls that it met, with those that it was to meet and did not.
+/// A function of layer 3, or the live board: its name, its random inputs in a whole and in a quick run, what compares it (the
+/// edges in lists, each for a thread), and what a run says of the calls that it met, with those that it was to meet and did
+/// not.
 pub struct Part {
     pub name: &'static str,
     pub inputs: u64,
@@ -39,7 +41,7 @@ pub const WRAPPER: &str = "implied_volatility_from_a_transformed_rational_guess"
 pub const BID_ASK: &str = "bid_ask";
 pub const BID_ASK_WITHOUT_TRAILS: &str = "bid_ask_without_trails";
 
-pub const PARTS: [Part; 10] = [
+pub const PARTS: [Part; 12] = [
     Part {
         name: SOLVE,
         inputs: 2_000_000,
@@ -153,6 +155,28 @@ pub const PARTS: [Part; 10] = [
         edges: &[books::line_edges],
         random: books::line_random,
         report: |_| Vec::new(),
+    },
+    // A random input is a list of calls.
+    Part {
+        name: "board",
+        inputs: 1_000_000,
+        quick: 50_000,
+        edges: &[
+            boards::fixed_lists,
+            boards::every_short_list::<0>,
+            boards::every_short_list::<1>,
+            boards::every_short_list::<2>,
+        ],
+        random: boards::random,
+        report: boards::report,
+    },
+    Part {
+        name: "damaged_board",
+        inputs: 1_000_000,
+        quick: 50_000,
+        edges: &[damaged_boards::edges],
+        random: damaged_boards::random,
+        report: damaged_boards::report,
     },
 ];
 

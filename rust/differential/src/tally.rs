@@ -113,6 +113,18 @@ impl Tally {
         missing
     }
 
+    /// Prints how many calls met each case, and gives those that none met.
+    pub fn report_cases(&self, what: &str, cases: impl IntoIterator<Item = &'static str>) -> Vec<String> {
+        let mut missing = Vec::new();
+        println!("{what}");
+        for case in cases {
+            let count = self.count_of(case, "");
+            println!("  {case}: {count}");
+            missing.extend((count == 0).then(|| case.to_string()));
+        }
+        missing
+    }
+
     /// What the inputs are to reach and did not. Branch 5 isn't among it: it needs a b_h below half of b_max, and the tests
     /// of `rust_over_rules` find none in a scan over x. Nor is 6: no input is known that gives the guess's cubic an infinite
     /// abscissa. Both are compared where they come.
