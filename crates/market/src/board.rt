@@ -89,17 +89,26 @@ fn put_quote(board: &mut [u8; BOARD_BYTES], at: usize, quote: LiveQuote)
     put_float(board, at + 4, quote.volatility);
 }
 
-// The bytes from 12 behind a place up to `end` move down to it, and zeros follow them.
-fn move_down(board: &mut [u8; BOARD_BYTES], at: usize, end: usize)
-    requires at_bound { at + 12 ≤ end }
-    requires end_bound { end ≤ 3072 }
-    ensures { board.new ≡ moved_down at end board.old }
+fn put_place(board: &mut [u8; BOARD_BYTES], place: usize, bytes: &[u8; QUOTE_BYTES])
+    requires { place < 256 }
+    ensures { board.new ≡ overwritten (place * 12) bytes.now board.old }
 {
-    let behind = at + QUOTE_BYTES;
-    // Zeros in front of which they stand, so that one write moves them and clears what comes free.
-    let mut moved = [0; BOARD_BYTES];
-    moved[..end - behind].copy_from_slice(&board[behind..end]);
-    board[at..end].copy_from_slice(&moved[..end - at]);
+    let at = place * QUOTE_BYTES;
+    board[at..at + QUOTE_BYTES].copy_from_slice(bytes);
+}
+
+// The live quotes behind a place move down by one, and the last one's place becomes zero.
+fn move_down(board: &mut [u8; BOARD_BYTES], place: usize, live: usize)
+    requires place_bound { place < live }
+    requires live_bound { live ≤ 256 }
+    ensures { board.new ≡ moved_down (place * 12) (live * 12) board.old }
+{
+    // Quote by quote: copy_within goes byte by byte, and a copy of all would call the C library.
+    for next in place + 1..live {
+        let quote = board.as_chunks::<QUOTE_BYTES>().0[next];
+        put_place(board, next - 1, &quote);
+    }
+    put_place(board, live - 1, &[0; QUOTE_BYTES]);
 }
 
 // ---- arrive
@@ -148,7 +157,7 @@ fn take_away(board: &mut [u8; BOARD_BYTES], place: usize)
     ensures { board.new ≡ without_place place board.old }
 {
     let live = live_count(board);
-    move_down(board, place * QUOTE_BYTES, live * QUOTE_BYTES);
+    move_down(board, place, live);
     put_number_at(board, COUNT_AT, 4, live as u64 - 1);
 }
 

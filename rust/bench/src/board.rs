@@ -1,5 +1,6 @@
 //! The live board's rows: boards of 256 quotes, and each call as it takes longest, and after many calls before it.
 
+use gintubalos::bits::{self, board_highest as highest, board_leave as leave};
 use random_words::Words;
 
 const MOST: usize = 256;
@@ -8,30 +9,8 @@ const COUNT_AT: usize = PLACE * MOST;
 
 pub type Board = [u8; COUNT_AT + 4];
 
-mod archive {
-    use super::Board;
-    extern "C" {
-        pub fn gintubalos_board_arrive(board: &mut Board, series: u32, volatility: u64) -> u8;
-        pub fn gintubalos_board_leave(board: &mut Board, series: u32) -> u8;
-        pub fn gintubalos_board_highest(board: &Board, series: &mut u32, volatility: &mut u64) -> u8;
-    }
-}
-
-// SAFETY, for each: the function reads and writes the board that it is lent and the words for the quote, and nothing else;
-// it has no requires, keeps no pointer, and is proved to end.
-
 fn arrive(board: &mut Board, series: u32, volatility: f64) -> u8 {
-    unsafe { archive::gintubalos_board_arrive(board, series, volatility.to_bits()) }
-}
-
-fn leave(board: &mut Board, series: u32) -> u8 {
-    unsafe { archive::gintubalos_board_leave(board, series) }
-}
-
-fn highest(board: &Board) -> (u8, u32, u64) {
-    let (mut series, mut volatility) = (0, 0);
-    let is_shown = unsafe { archive::gintubalos_board_highest(board, &mut series, &mut volatility) };
-    (is_shown, series, volatility)
+    bits::board_arrive(board, series, volatility.to_bits())
 }
 
 // ---- what a call finds

@@ -66,6 +66,7 @@ fn answer_calls(input: &mut impl BufRead, audience: &Audience, out: &mut impl Wr
                 status = USAGE;
                 // With standard error gone, the status has to do.
                 let _ = writeln!(io::stderr(), "gintubalos: line {number}: {failure}");
+                write_wrong_line(number, audience, out)?;
             }
         }
     }
@@ -98,6 +99,14 @@ fn write_answer(answer: &str, board: &Board, audience: &Audience, out: &mut impl
     writeln!(out, "{answer}")?;
     if audience.watches {
         write_board(out, board)?;
+    }
+    out.flush()
+}
+
+/// A program that waits for an answer gets one to a wrong line, too; on a terminal the message is seen.
+fn write_wrong_line(number: u64, audience: &Audience, out: &mut impl Write) -> io::Result<()> {
+    if !audience.watches {
+        writeln!(out, "wrong line {number}")?;
     }
     out.flush()
 }

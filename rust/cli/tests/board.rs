@@ -60,7 +60,7 @@ fn lines() {
     answers(&long, "arrived 17\nhighest 17 0.25 3FD0000000000000\n");
 }
 
-/// A line that is no call is told with its number, on standard error alone; it changes nothing, and reading goes on.
+/// A line that is no call is told with its number, on standard error with the reason; it changes nothing, and reading goes on.
 #[test]
 fn wrong_lines() {
     for (line, message) in [
@@ -83,17 +83,18 @@ fn wrong_lines() {
         ("leave\u{a0}16", "there is no call leave\u{a0}16, but arrive, leave and highest"),
     ] {
         let (status, out, err) = output_of(&["board"], format!("arrive 16 0.5\n\n{line}\nhighest\n").as_bytes());
-        assert_eq!((status, &*out), (64, "arrived 16\nhighest 16 0.5 3FE0000000000000\n"), "{line}");
+        assert_eq!((status, &*out), (64, "arrived 16\nwrong line 3\nhighest 16 0.5 3FE0000000000000\n"), "{line}");
         assert_eq!(err, format!("gintubalos: line 3: {message}; see gintubalos --help\n"), "{line}");
     }
     // Each is told. A line that never ends is not kept.
     let long = ["x".repeat(4096), format!("highest{}", " ".repeat(100_000))].join("\n");
     let input = [b"\xFF\n", long.as_bytes(), b"\nhighest\nleave \xC3\n"].concat();
+    let answers = "wrong line 1\nwrong line 2\nwrong line 3\nnone\nwrong line 5\n";
     let errors = "gintubalos: line 1: it is not UTF-8; see gintubalos --help\n\
                   gintubalos: line 2: it has 4096 bytes or more; see gintubalos --help\n\
                   gintubalos: line 3: it has 4096 bytes or more; see gintubalos --help\n\
                   gintubalos: line 5: it is not UTF-8; see gintubalos --help\n";
-    assert_eq!(output_of(&["board"], &input), (64, "none\n".to_owned(), errors.to_owned()));
+    assert_eq!(output_of(&["board"], &input), (64, answers.to_owned(), errors.to_owned()));
 }
 
 /// A program that waits for each answer before it sends the next call gets it, with standard input open.

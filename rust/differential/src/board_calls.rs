@@ -6,32 +6,19 @@ use crate::{
     solves::first_difference,
     tally::Tally,
 };
+use gintubalos::bits::{board_arrive, board_leave};
 use std::hint::black_box;
 
-mod archive {
-    use super::Bytes;
-    extern "C" {
-        pub fn gintubalos_board_arrive(board: &mut Bytes, series: u32, volatility: u64) -> u8;
-        pub fn gintubalos_board_leave(board: &mut Bytes, series: u32) -> u8;
-        pub fn gintubalos_board_highest(board: &Bytes, series: &mut u32, volatility: &mut u64) -> u8;
-    }
+extern "C" {
+    fn gintubalos_board_highest(board: &Bytes, series: &mut u32, volatility: &mut u64) -> u8;
 }
 
-// SAFETY, for each: the function reads and writes the board that it is lent and the words for the quote, and nothing else;
-// it has no requires, keeps no pointer, and is proved to end.
-
-fn arrive(board: &mut Bytes, quote: Quote) -> u8 {
-    unsafe { archive::gintubalos_board_arrive(board, quote.series, quote.volatility) }
-}
-
-fn leave(board: &mut Bytes, series: u32) -> u8 {
-    unsafe { archive::gintubalos_board_leave(board, series) }
-}
-
-/// The words are no zeros before, so that it shows where none are written.
+/// The words are no zeros before, as they are in the crate's call, so that it shows where none are written.
 fn highest(board: &Bytes) -> (u8, Quote) {
     let mut quote = Quote { series: 0xA5A5_A5A5, volatility: 0x5A5A_5A5A_5A5A_5A5A };
-    let is_shown = unsafe { archive::gintubalos_board_highest(board, &mut quote.series, &mut quote.volatility) };
+    // SAFETY: the function reads the board and writes the two words, and nothing else; it has no requires, keeps no
+    // pointer, and is proved to end.
+    let is_shown = unsafe { gintubalos_board_highest(board, &mut quote.series, &mut quote.volatility) };
     (is_shown, quote)
 }
 
@@ -59,8 +46,8 @@ impl Lent {
 
     fn answer(&mut self, call: Call) -> Answer {
         match call {
-            Call::Arrive(quote) => (arrive(self.board_mut(), quote), NONE),
-            Call::Leave(series) => (leave(self.board_mut(), series), NONE),
+            Call::Arrive(quote) => (board_arrive(self.board_mut(), quote.series, quote.volatility), NONE),
+            Call::Leave(series) => (board_leave(self.board_mut(), series), NONE),
             Call::Highest => highest(self.board()),
         }
     }

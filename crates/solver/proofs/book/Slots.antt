@@ -13,16 +13,11 @@ use Rattle.std.specs.Simd.{first_chunks}
 use Rattle.solver.specs.declared.refusal.Refusal.{Refusal}
 use Rattle.solver.specs.declared.refusal.Refusal.TheVariants.{NoSuchRecord}
 use Rattle.solver.specs.Book.{slots, record_exists, record_at, read_of}
+use Rattle.solver.proofs.Laws.Parts.{chunk}
 
 both : (a b : Bool) → (a && b) ≡ true → (a ≡ true) × (b ≡ true)
 both true b e = (refl, e)
 both false b e = absurd (true≢false (sym e))
-
--- the k-th of a list's first n chunks of 64
-chunk : (n k : ℕ) (bytes : List ℕ) → k < n → get_or (first_chunks 64 n bytes) k [] ≡ record_at k bytes
-chunk zero k bytes h = absurd (omega arith)
-chunk (suc n) zero bytes h = refl
-chunk (suc n) (suc k) bytes h = let m : 64 * suc k ≡ 64 + 64 * k = omega arith in rw (chunk n k (drop 64 bytes) (omega arith), m, drop-drop)
 
 module _ (book : List ℕ) (used k : ℕ) where
   below : record_exists book used k ≡ true → k < slots book
@@ -35,7 +30,7 @@ module _ (book : List ℕ) (used k : ℕ) where
 
   pub read_existing : record_exists book used k ≡ true → Ok (get_or (first_chunks 64 (slots book) book) k []) ≡ read_of book used k
   unfolding read_of
-  read_existing e = rw (e, chunk (slots book) k book (below e))
+  read_existing e = rw (e, chunk 64 (slots book) k book (below e))
 
   -- what is read says that the record exists
   pub exists : (part : List ℕ) → Ok part ≡ read_of book used k → (record_exists book used k ≡ true) × (part ≡ record_at k book)
