@@ -179,7 +179,7 @@ fn usage() {
     }
     let (status, out, err) = output(&words("board --help"));
     assert!(status == 0 && err.is_empty() && out.starts_with("  gintubalos board\n"), "{out}");
-    for part in ["arrive SERIES VOLATILITY  ", "\n  34  the series is live already\n", "64 if a line was no call"] {
+    for part in ["arrive SERIES VOLATILITY  ", "\n  34  the series is live already\n", "or 64 if a line was no\n"] {
         assert!(out.contains(part), "{out}");
     }
     assert!(!out.contains("gintubalos show") && !out.contains("gintubalos --version"), "{out}");
