@@ -1,4 +1,4 @@
-// The live board: quotes that come and go, in bytes that a caller lends, each of which has a meaning whatever stands there.
+// The live board: quotes that come and go, in bytes that a caller lends. Any bytes are a board.
 ghost use Rattle.std.specs.Prelude.{◌≡◌, ◌+◌, ◌*◌, ◌≤◌, ◌<◌, length, map};
 ghost use Rattle.solver.specs.LittleEndian.{bytes_of, number_at, overwritten};
 ghost use Rattle.market.specs.Board.{quote_in, quote_bytes, live_count, live_quotes, place_of, arrival_check, with_quote, arrive_of, moved_down, without_place, leave_of, shown_of, highest_of};
@@ -8,13 +8,13 @@ use elementary::methods::float_of;
 use solver::little_endian::{number_at, put_float, put_number_at};
 
 // The most quotes that are live at a time.
-pub(crate) const MOST_QUOTES: usize = 256;
+const MOST_QUOTES: usize = 256;
 
 // A quote's bytes: its series, and its volatility's bits.
-pub(crate) const QUOTE_BYTES: usize = 12;
+const QUOTE_BYTES: usize = 12;
 
 // Where the count of the live quotes stands, behind the places for them.
-pub(crate) const COUNT_AT: usize = 3072;
+const COUNT_AT: usize = 3072;
 
 // A board's bytes.
 pub const BOARD_BYTES: usize = 3076;
@@ -81,10 +81,11 @@ fn place_of(series: u32, quotes: &[[u8; QUOTE_BYTES]]) -> usize
 
 // ---- what changes on it
 
-fn put_quote(board: &mut [u8; BOARD_BYTES], at: usize, quote: LiveQuote)
-    requires { at + 12 ≤ 3072 }
-    ensures { board.new ≡ overwritten at (quote_bytes quote) board.old }
+fn put_quote(board: &mut [u8; BOARD_BYTES], place: usize, quote: LiveQuote)
+    requires { place < 256 }
+    ensures { board.new ≡ overwritten (place * 12) (quote_bytes quote) board.old }
 {
+    let at = place * QUOTE_BYTES;
     put_number_at(board, at, 4, quote.series as u64);
     put_float(board, at + 4, quote.volatility);
 }
@@ -136,7 +137,7 @@ fn put_behind(board: &mut [u8; BOARD_BYTES], quote: LiveQuote)
     ensures { board.new ≡ with_quote quote board.old }
 {
     let live = live_count(board);
-    put_quote(board, live * QUOTE_BYTES, quote);
+    put_quote(board, live, quote);
     put_number_at(board, COUNT_AT, 4, live as u64 + 1);
 }
 
