@@ -11,6 +11,7 @@ use lib.ListN.{length, take, drop, replicate, length-append, length-drop, length
 use lib.Seq.{length-take-le, take-append-le, drop-append-le, take_at, drop_at, drop-drop}
 use Rattle.std.proofs.lemmas.Bool.{cases_lt}
 use Rattle.solver.specs.LittleEndian.{bytes_of, number_from, part, number_at, overwritten}
+use Rattle.solver.proofs.Laws.Overwritten.{length_overwritten}
 use Rattle.market.specs.declared.board.LiveQuote.{LiveQuote}
 use Rattle.market.specs.Board.{quote_bytes, quotes_in, live_count, live_quotes, with_quote, moved_down, without_place}
 use Rattle.market.specs.Promises.Board.{IsQuote}
@@ -39,9 +40,6 @@ quotes_before : (n at : ℕ) (bs xs : List ℕ) → n * 12 ≤ at → at ≤ len
 quotes_before n at bs xs h room =
     let long : n * 12 ≤ length (take at xs) = rw (length-take-le at xs room) h in
     quotes_front n (take at xs) _ long ∙ sym (quotes_front n (take at xs) (drop at xs) long) ∙ ap (quotes_in n) (take-append-drop at xs)
-
-pub length_overwritten : (at : ℕ) (bs xs : List ℕ) → at + length bs ≤ length xs → length (overwritten at bs xs) ≡ length xs
-length_overwritten at bs xs room = rw (length-append, length-append, length-drop, length-take-le at xs (omega arith)) (omega arith)
 
 -- ---- a quote's own bytes
 

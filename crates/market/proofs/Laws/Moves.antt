@@ -1,13 +1,13 @@
 -- Quotes that move down by a place, one after another. Theorems.
-use mathlib.Core.Path.{◌≡◌, refl, sym, ap, ◌∙◌}
-use mathlib.Core.List.{List, [], ◌++◌, append_assoc}
+use mathlib.Core.Path.{◌≡◌, refl, sym, ◌∙◌}
+use mathlib.Core.List.{List, [], ◌++◌}
 use Prim.Native.Nat.{ℕ, suc, ◌+◌, ◌-◌, ◌*◌, ◌≤◌, ◌<◌}
 use native.Mathlib.Omega.{arith}
-use lib.ListN.{length, take, drop, get_or, replicate, length-append, length-drop}
-use lib.Seq.{length-take-le, take-add, drop-drop, drop-append-add}
+use lib.ListN.{length, drop, get_or, replicate, length-drop}
+use lib.Seq.{length-take-le, take-add, drop-drop}
 use Rattle.std.specs.Simd.{first_chunks}
 use Rattle.solver.specs.LittleEndian.{part, overwritten}
-use Rattle.solver.proofs.Laws.Overwritten.{overwritten_twice, put_none}
+use Rattle.solver.proofs.Laws.Overwritten.{overwritten_twice, put_none, drop_overwritten}
 use Rattle.solver.proofs.Laws.Parts.{chunk}
 use Rattle.market.specs.Board.{moved_down}
 
@@ -17,15 +17,6 @@ pub record Moved (k i : ℕ) (old board : List ℕ) : Type 0 where
   pub inside : suc k + i ≤ 256
   pub whole : length board ≡ 3076
   pub now : board ≡ overwritten (k * 12) (part (suc k * 12) (i * 12) old) old
-
--- bytes behind what is overwritten are the old ones
-drop_overwritten : (at n : ℕ) (bs old : List ℕ) → at + length bs ≤ n → n ≤ length old → drop n (overwritten at bs old) ≡ drop n old
-drop_overwritten at n bs old h room =
-    let a : List ℕ = take at old ++ bs in
-    let long : length a ≡ at + length bs = length-append (take at old) bs ∙ rw (length-take-le at old (omega arith)) refl in
-    let e : n ≡ length a + (n - length a) = rw long (omega arith) in
-    let back : at + length bs + (n - length a) ≡ n = rw long (omega arith) in
-    ap (λ zs. drop n zs) (sym (append_assoc (take at old) bs (drop (at + length bs) old))) ∙ ap (λ j. drop j (a ++ drop (at + length bs) old)) e ∙ drop-append-add a (drop (at + length bs) old) (n - length a) ∙ drop-drop (n - length a) (at + length bs) old ∙ ap (λ j. drop j old) back
 
 -- two parts, one behind the other, are one
 parts : (at m n : ℕ) (xs : List ℕ) → part at m xs ++ part (at + m) n xs ≡ part at (m + n) xs
@@ -51,7 +42,7 @@ module _ (k i : ℕ) (old board : List ℕ) (moved : Moved k i old board) where
   next_quote : suc k + i < 256 → get_or (first_chunks 12 256 board) (suc k + i) [] ≡ part (suc k * 12 + i * 12) 12 old
   next_quote h =
       let at : 12 * (suc k + i) ≡ suc k * 12 + i * 12 = omega arith in
-      let same = drop_overwritten (k * 12) (suc k * 12 + i * 12) front old (rw front_long (omega arith)) (omega (arith, moved.long)) in
+      let same = drop_overwritten (k * 12) front old (suc k * 12 + i * 12) (rw front_long (omega arith)) (omega (arith, moved.long)) in
       chunk 12 256 (suc k + i) board h ∙ rw (at, moved.now, same) refl
 
   pub one_moved : (next : ℕ) (new : List ℕ) → next ≡ suc k + i → next < 256 → length new ≡ 3076 → new ≡ overwritten ((next - 1) * 12) (get_or (first_chunks 12 256 board) next []) board → Moved k (suc i) old new

@@ -1,12 +1,12 @@
--- Bytes written into a list, one run behind the other: what two stores leave is what one store of both runs leaves. Theorems.
-use mathlib.Core.Path.{◌≡◌, ◌∙◌}
+-- Bytes written into a list: what two stores, one run behind the other, leave is what one store of both runs leaves; and what stays. Theorems.
+use mathlib.Core.Path.{◌≡◌, sym, ap, ◌∙◌}
 use mathlib.Core.List.{List, [], ◌∷◌, ◌++◌, append_assoc}
-use Prim.Native.Nat.{ℕ, ◌+◌, ◌≤◌}
+use Prim.Native.Nat.{ℕ, ◌+◌, ◌-◌, ◌≤◌}
 use native.Mathlib.Nat.{add_assoc}
 use native.Mathlib.Numerals.{add-one}
 use native.Mathlib.Omega.{arith}
-use lib.ListN.{length, take, drop, set, length-append, take-append-drop}
-use lib.Seq.{length-take-le, take_at, drop_at, drop-drop, set_split}
+use lib.ListN.{length, take, drop, set, length-append, length-drop, take-append-drop}
+use lib.Seq.{length-take-le, take_at, drop_at, drop-drop, drop-append-add, set_split}
 use Rattle.solver.specs.LittleEndian.{overwritten}
 
 module _ (at : ℕ) (xs ys old : List ℕ) (room : at ≤ length old) where
@@ -35,3 +35,18 @@ put_none at old = let z : at + 0 ≡ at = omega arith in (omega arith, rw (z, ta
 
 pub put_one : (at byte : ℕ) (old : List ℕ) → at + 1 ≤ length old → set old at byte ≡ overwritten at (byte ∷ []) old
 put_one at byte old room = rw add-one (set_split old at byte (omega arith))
+
+-- ---- what is overwritten keeps its length, and what stands behind it
+
+module _ (at : ℕ) (bs old : List ℕ) where
+  pub length_overwritten : at + length bs ≤ length old → length (overwritten at bs old) ≡ length old
+  length_overwritten room = rw (length-append, length-append, length-drop, length-take-le at old (omega arith)) (omega arith)
+
+  pub drop_overwritten : (n : ℕ) → at + length bs ≤ n → n ≤ length old → drop n (overwritten at bs old) ≡ drop n old
+  drop_overwritten n h room =
+      let front : List ℕ = take at old ++ bs in
+      let rest : List ℕ = drop (at + length bs) old in
+      let long = front_length at bs [] old (omega arith) in
+      let there : n ≡ length front + (n - length front) = rw long (omega arith) in
+      let back : at + length bs + (n - length front) ≡ n = rw long (omega arith) in
+      ap (λ zs. drop n zs) (sym (append_assoc (take at old) bs rest)) ∙ ap (λ j. drop j (front ++ rest)) there ∙ drop-append-add front rest (n - length front) ∙ drop-drop (n - length front) (at + length bs) old ∙ ap (λ j. drop j old) back
