@@ -1,5 +1,5 @@
 -- How the live board's answers cross as plain numbers. Definitions only.
-use Rattle.std.specs.Prelude.{ℕ, Option, Some, None, Bool, cond}
+use Rattle.std.specs.Prelude.{ℕ, Option, Some, None}
 use Rattle.std.specs.Float.{binary64}
 use Rattle.std.specs.Float.Ieee.{to_bits, of_bits}
 use Rattle.market.specs.declared.board.LiveQuote.{LiveQuote}
@@ -7,10 +7,6 @@ use Rattle.market.specs.declared.board.LiveQuote.{LiveQuote}
 -- an arrival's series, and its volatility's bits
 abbrev pub quote_from : ℕ → ℕ → LiveQuote
 quote_from series volatility = record { series = series; volatility = of_bits binary64 volatility }
-
--- 1 where it is so, else 0
-abbrev pub byte_of : Bool → ℕ
-byte_of b = cond b 1 0
 
 -- 1 where a quote is shown, else 0
 abbrev pub shown_byte : Option LiveQuote → ℕ

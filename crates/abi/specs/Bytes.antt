@@ -27,6 +27,10 @@ side_of side = cond (eqb side 0) Left Right
 abbrev pub choice_of : ℕ → Bool
 choice_of choice = not (eqb choice 0)
 
+-- and back: 1 where it is so, else 0
+abbrev pub byte_of : Bool → ℕ
+byte_of b = cond b 1 0
+
 -- an intrinsic value is never refused but for its kind
 abbrev pub intrinsic_answer : Float → OptionType → Answer
 intrinsic_answer x kind = Ok (intrinsic_of x kind)

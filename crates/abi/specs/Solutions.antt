@@ -1,5 +1,5 @@
 -- How the answers of solve, file, recheck and read cross as plain numbers. Definitions only.
-use Rattle.std.specs.Prelude.{cond, List, [], ℕ, ◌+◌, ◌*◌, ◌^◌, ℤ, Result, Ok, Err}
+use Rattle.std.specs.Prelude.{List, [], ℕ, ◌+◌, ◌*◌, ◌^◌, ℤ, Result, Ok, Err}
 use Rattle.std.specs.Result.{result_map_both}
 use Rattle.std.specs.Float.{binary64}
 use Rattle.std.specs.Float.Ieee.{of_bits}
@@ -16,6 +16,7 @@ use Rattle.elementary.specs.declared.rule_set.UnknownRuleSet.{UnknownRuleSet}
 use Rattle.solver.specs.Solve.{SolveResult, solve_of, solve_with_trail, target_of, quote_of, steps_of}
 use Rattle.solver.specs.BidAsk.{RangeResult, range_of, solve_range, solve_range_with_trails}
 use Rattle.solver.specs.Book.{FileResult, file_of}
+use Rattle.abi.specs.Bytes.{byte_of}
 
 -- number, branch, ending and steps in one word: bytes 0, 1 and 2, and from byte 4 on the steps
 abbrev pub outcome_from : ℕ → ℕ → ℕ → ℕ → ℕ
@@ -35,7 +36,7 @@ checking_outcome a = outcome_from (checking_number a) 0 0 (checking_steps a)
 
 -- 1 where it agrees, else 0
 abbrev pub agrees_byte : Checking → ℕ
-agrees_byte a = cond (checking_agrees a) 1 0
+agrees_byte a = byte_of (checking_agrees a)
 
 -- ---- a quote from bits and a kind's byte, under a rule set's number. A number that says no rule set is refused with 32, before all else; then a byte that says
 -- no kind with document 01's number for a kind outside the layout.

@@ -41,12 +41,13 @@ abbrev pub place_of : ℕ → List LiveQuote → ℕ
 place_of series [] = 0
 place_of series (q ∷ qs) = cond (eqb q.series series) 0 (suc (place_of series qs))
 
+-- whether one of them has it
 abbrev pub is_live : ℕ → List LiveQuote → Bool
 is_live series qs = ltb (place_of series qs) (length qs)
 
 -- ---- arrive
 
--- what becomes of an arrival: 33, 34, 35 in this order, or no refusal
+-- what refuses an arrival where these are live: 33, then 34, then 35, or nothing
 unfoldable pub arrival_check : List LiveQuote → LiveQuote → Result Unit Refusal
 arrival_check live q =
     cond (is_nan q.volatility) (Err Volatility)
@@ -59,6 +60,7 @@ with_quote q board =
     let n = live_count board in
     overwritten 3072 (bytes_of 4 (n + 1)) (overwritten (n * 12) (quote_bytes q) board)
 
+-- what an arrival answers, and the board after it
 pub record Arrival : Type 0 where
   pub answer : Result Unit Refusal
   pub board : List ℕ
@@ -68,6 +70,7 @@ abbrev pub arrival_by : Result Unit Refusal → LiveQuote → List ℕ → Arriv
 arrival_by (Ok accepted) q board = record { answer = Ok accepted; board = with_quote q board }
 arrival_by (Err refusal) q board = record { answer = Err refusal; board = board }
 
+-- arrive: the check over the live quotes decides
 unfoldable pub arrive_of : LiveQuote → List ℕ → Arrival
 arrive_of q board = arrival_by (arrival_check (live_quotes board) q) q board
 
@@ -83,11 +86,12 @@ without_place k board =
     let n = live_count board in
     overwritten 3072 (bytes_of 4 (n - 1)) (moved_down (k * 12) (n * 12) board)
 
--- whether the series was live; one that was not leaves the board as it was
+-- whether the series was live, and the board after it
 pub record Departure : Type 0 where
   pub was_live : Bool
   pub board : List ℕ
 
+-- leave: the first quote of the series goes; where none is live the board stays as it was
 unfoldable pub leave_of : ℕ → List ℕ → Departure
 leave_of series board =
     let live = live_quotes board in
@@ -109,5 +113,6 @@ abbrev pub highest_in : List LiveQuote → Option LiveQuote
 highest_in [] = None
 highest_in (q ∷ qs) = Some (highest_from q qs)
 
+-- highest, of the live quotes
 unfoldable pub highest_of : List ℕ → Option LiveQuote
 highest_of board = highest_in (live_quotes board)

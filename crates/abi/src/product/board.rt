@@ -2,7 +2,8 @@
 ghost use Rattle.std.specs.Prelude.{◌≡◌};
 ghost use Rattle.prices.specs.Answers.{number_by};
 ghost use Rattle.market.specs.Board.{number as number_of_refusal, arrive_of, leave_of, highest_of};
-ghost use Rattle.abi.specs.Board.{quote_from, byte_of, shown_byte, shown_series, shown_bits};
+ghost use Rattle.abi.specs.Board.{quote_from, shown_byte, shown_series, shown_bits};
+ghost use Rattle.abi.specs.Bytes.{byte_of};
 
 use elementary::methods::{bits_of, float_of};
 use market::board::{BOARD_BYTES, LiveQuote, arrive, highest, leave};

@@ -8,15 +8,15 @@ use native.Mathlib.Omega.{arith}
 use borrow.Author.Tests.{eq-eqb, ne_eqb, lt-ltb, le-ltb, ltb-true}
 use lib.Dec.{ltb}
 use lib.Ieee.{is_nan}
-use Rattle.std.specs.Prelude.{Result, Ok, Err}
-use Rattle.market.specs.declared.refusal.Refusal.{Refusal}
-use Rattle.market.specs.declared.refusal.Refusal.TheVariants.{Volatility, SeriesLive, BoardFull}
 use lib.ListN.{length, take, drop, get_or, length-map, drop_of_length-le}
+use Rattle.std.specs.Prelude.{Result, Ok, Err}
 use Rattle.std.specs.Simd.{first_chunks}
 use Rattle.std.proofs.lemmas.Bool.{cases_lt}
 use Rattle.std.proofs.lemmas.List.{drop_more}
 use Rattle.solver.specs.LittleEndian.{number_at}
 use Rattle.market.specs.declared.board.LiveQuote.{LiveQuote}
+use Rattle.market.specs.declared.refusal.Refusal.{Refusal}
+use Rattle.market.specs.declared.refusal.Refusal.TheVariants.{Volatility, SeriesLive, BoardFull}
 use Rattle.market.specs.Board.{quote_in, quotes_in, live_count, live_quotes, place_of, is_live, arrival_check, shown_of, highest_from}
 
 -- ---- how many
@@ -35,10 +35,6 @@ pub of_chunks : (n m : ℕ) (bytes : List ℕ) → n ≤ m → map quote_in (tak
 of_chunks zero m bytes h = refl
 of_chunks (suc n) zero bytes h = absurd (omega arith)
 of_chunks (suc n) (suc m) bytes h = rw (of_chunks n m (drop 12 bytes) (omega arith)) refl
-
-pub length_chunks : (n k : ℕ) (bytes : List ℕ) → length (first_chunks n k bytes) ≡ k
-length_chunks n zero bytes = refl
-length_chunks n (suc k) bytes = rw (length_chunks n k (drop n bytes)) refl
 
 pub length_same : (chunks : List (List ℕ)) (qs : List LiveQuote) → map quote_in chunks ≡ qs → length qs ≡ length chunks
 length_same chunks qs e = rw (← e) (length-map chunks quote_in)

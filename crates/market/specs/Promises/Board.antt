@@ -9,11 +9,13 @@ use Rattle.market.specs.Board.{live_quotes, place_of, is_live, arrival_check, ar
 
 -- ---- calls, and what is answered
 
+-- the three calls, of an arrival with its quote, of a leaving with its series
 pub data Call : Type 0 where
   arrive : LiveQuote → Call
   leave : ℕ → Call
   highest : Call
 
+-- what each answers: accepted or refused, whether it was live, the quote or none
 pub data Answer : Type 0 where
   arrival : Result Unit Refusal → Answer
   departure : Bool → Answer
@@ -61,16 +63,19 @@ answers_after past (c ∷ cs) = answer_after past c ∷ answers_after (c ∷ pas
 
 -- ---- from a board's bytes
 
+-- what a call answers, by the definitions over bytes
 abbrev pub answer_on : List ℕ → Call → Answer
 answer_on board (arrive q) = arrival (arrive_of q board).answer
 answer_on board (leave s) = departure (leave_of s board).was_live
 answer_on board highest = shown (highest_of board)
 
+-- and the bytes after it
 abbrev pub board_after : List ℕ → Call → List ℕ
 board_after board (arrive q) = (arrive_of q board).board
 board_after board (leave s) = (leave_of s board).board
 board_after board highest = board
 
+-- what all of them answer, each on the bytes that the one before it leaves
 abbrev pub answers_on : List ℕ → List Call → List Answer
 answers_on board [] = []
 answers_on board (c ∷ cs) = answer_on board c ∷ answers_on (board_after board c) cs
@@ -97,6 +102,7 @@ empty_board = replicate 3076 0
 abbrev pub BoardFollowsCalls : Type 0
 BoardFollowsCalls = (calls : List Call) → AreCalls calls → answers_on empty_board calls ≡ answers_after [] calls
 
+-- each of some quotes is so
 abbrev pub AllQuotes : (LiveQuote → Type 0) → List LiveQuote → Type 0
 AllQuotes P [] = Unit
 AllQuotes P (q ∷ qs) = P q × AllQuotes P qs
