@@ -141,7 +141,7 @@ uint64_t gintubalos_read(const uint8_t *book, size_t book_length, uint64_t used,
 size_t gintubalos_line(uint64_t index, const uint8_t *bytes, size_t length, uint8_t *out, size_t out_length);
 
 /* ---- The live board: up to 256 quotes that come and go. Quote i, from 0 in order of arrival, is at byte 12 x i, first its
- * series (uint32_t), then its volatility (float); the count of the live quotes (uint32_t) is at byte 3072; all
+ * series (uint32_t), then its volatility's bits (uint64_t); the count of the live quotes (uint32_t) is at byte 3072; all
  * little-endian, the same in every version. Any bytes are a board: a count above 256 counts as 256, and where a series
  * stands twice the earlier one leaves. A refusal, and a leave of a series that is not live, change no byte. ---- */
 

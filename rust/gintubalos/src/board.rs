@@ -42,9 +42,9 @@ pub struct LiveQuote {
 /// # Ok::<(), gintubalos::Refusal>(())
 /// ```
 ///
-/// Its bytes are the board: quote i, in order of arrival, is at byte 12 × i, first its series (a u32), then its volatility;
-/// the count of the live quotes (a u32) is at byte 3072; all little-endian, and the same in every version. Where a board
-/// began empty, the places behind its last quote are zero. Two boards are equal where their bytes are.
+/// Its bytes are the board: quote i, in order of arrival, is at byte 12 × i, first its series (a u32), then its volatility
+/// (an f64); the count of the live quotes (a u32) is at byte 3072; all little-endian, and the same in every version. Where
+/// a board began empty, the places behind its last quote are zero. Two boards are equal where their bytes are.
 #[derive(Clone, PartialEq, Eq, Hash)]
 pub struct Board([u8; BOARD_BYTES]);
 
