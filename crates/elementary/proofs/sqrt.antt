@@ -1,3 +1,5 @@
 -- What the proofs of the square root use.
-mod Laws
-mod Steps
+mod Alignment
+mod Turns
+mod Found
+mod Rounding

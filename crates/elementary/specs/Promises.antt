@@ -11,7 +11,9 @@ use Rattle.elementary.specs.declared.rule_set.RuleSet.{RuleSet}
 use Rattle.elementary.specs.RuleSets.{rule_set_0, rule_set_1, rule_set_of}
 use Rattle.elementary.specs.Methods.{sign_of}
 use Rattle.elementary.specs.Floor.{floor_of}
-use Rattle.elementary.specs.Sqrt.{in_units, sqrt_of}
+use Rattle.elementary.specs.declared.sqrt.Aligned.{Aligned}
+use Rattle.elementary.specs.declared.sqrt.Digits.{Digits}
+use Rattle.elementary.specs.Sqrt.{in_units, sqrt_of, aligned_of, sqrt_digits_of}
 use Rattle.elementary.specs.MulAdd.{fma}
 use Rattle.elementary.specs.Exp.{scaled}
 use Rattle.elementary.specs.NormalDistribution.{lowest, highest, cdf_of, ends_of, inverse_of}
@@ -64,6 +66,21 @@ pub record SqrtIsRounded : Type 0 where
   pub infinity : (f : Format) → sqrt_of f (inf false) ≡ inf false
   -- The root of a NaN, and of what is below 0, −infinity too, is NaN.
   pub none : (f : Format) (x : Float) → T (is_nan x || lt x +0) → sqrt_of f x ≡ nan
+
+-- A number of so many turns' digits, followed by zeros: 2 ^ -52 is the place of the last one, and the number is a whole one of that.
+abbrev pub followed_by_zeros : ℕ → ℕ → ℕ
+followed_by_zeros turns d = d * 2 ^ (53 - turns)
+
+-- After some turns the digits d of the root of a × 2 ^ -52 are found, and the state is that of the code's loop.
+pub record DigitsFound (a turns d : ℕ) (state : Digits) : Type 0 where
+  -- It has the digits found, followed by zeros,
+  pub digits : state.doubled ≡ 2 * followed_by_zeros turns d
+  -- whose square is not above the aligned significand,
+  pub not_above : followed_by_zeros turns d * followed_by_zeros turns d ≤ a * 2 ^ 52
+  -- and that are the greatest such number;
+  pub greatest : (e : ℕ) → followed_by_zeros turns e * followed_by_zeros turns e ≤ a * 2 ^ 52 → followed_by_zeros turns e ≤ followed_by_zeros turns d
+  -- and twice what is left between the two, in units of the last digit found.
+  pub left : 2 * (followed_by_zeros turns d * followed_by_zeros turns d) + state.left * 2 ^ (53 - turns) ≡ 2 * (a * 2 ^ 52)
 
 -- There is one rounded value of a fraction, and one of a root: what is said of it leaves no choice.
 pub record NearestIsOne : Type 0 where

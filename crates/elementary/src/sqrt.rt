@@ -1,86 +1,178 @@
-// The square root, correctly rounded, in whole numbers. std's f64::sqrt is proved too; ours stays, since
-// document 01 has it written anew, and wrong programs change its steps.
-ghost use Rattle.std.specs.Prelude.{◌≡◌, ◌+◌, ◌*◌, ◌/◌, ◌^◌, ◌<◌, ◌≤◌};
+// The square root, correctly rounded, in whole numbers: the exponent first, then a binary digit a turn.
+// std's f64::sqrt is proved too; ours stays, since document 01 has it written anew, and wrong programs
+// change its steps.
+ghost use Rattle.std.specs.Prelude.{◌≡◌, ◌<◌, ◌≤◌, ◌-◌, ◌*◌, ◌^◌, map};
 ghost use Rattle.std.specs.Float.{binary64};
 ghost use Rattle.std.specs.Float.Ieee.{of_bits};
-ghost use Rattle.elementary.specs.Sqrt.{sqrt_of, round_root};
-ghost use Rattle.elementary.specs.Inside.Sqrt.{Root};
+ghost use Rattle.elementary.specs.Sqrt.{sqrt_of, aligned_units, aligned_of, first_digits, sqrt_digits_of};
+ghost use Rattle.elementary.specs.Promises.{DigitsFound};
+ghost use Rattle.elementary.specs.Inside.Sqrt.{turn_of, AllAligned, AllFound};
 
-// A root with one digit more, in any base, as in long division. g is the root of the digits so far,
-// u what is left of them with the radicand's next digit, l the digit after. The quotient is the
-// root's digit, or one more (P. Zimmermann, Karatsuba Square Root, 1999).
-fn extend(g: u64, u: u64, l: u64, base: u64) -> u64
-    requires { (g < 2 ^ 32) × (base ≤ 2 * g) × (base ≤ 2 ^ 22) × (l < base) × (u < (2 * g + 1) * base) }
-    ensures { Root ((g * g * base + u) * base + l) result }
-{
-    let h = u / (2 * g);
-    let w = g * base + h;
-    if u % (2 * g) * base + l < h * h {
-        return w - 1;
-    }
-    w
+// The digits that a root has: one a turn.
+pub const TURNS: u32 = 53;
+
+// A finite number above 0 is significand * 2^-52 * 2^exponent. The significand is from 1 up, below 4, and the
+// exponent even. Of any other number both are 0.
+#[derive(Clone, Copy)]
+pub struct Aligned {
+    pub significand: u64,
+    pub exponent: i32,
 }
 
-// The root of n, with twice the digits of g, the root of its first half.
-fn double_digits(n: u64, g: u64, base: u64) -> u64
-    requires { Root (n / base / base) g × (0 < base) × (base ≤ 2 * g) × (g < 2 ^ 16) }
-    ensures { Root n result }
-{
-    extend(g, n / base - g * g * base, n % base, base)
+// A root's state: twice the digits found, followed by zeros, and what is left of the significand for the
+// next ones, doubled at each turn.
+#[derive(Clone, Copy)]
+pub struct Digits {
+    pub doubled: u64,
+    pub left: u64,
 }
 
-// The whole part of √(a * 2^44), for an a of 63 or 64 digits: 2 digits of the root, then 4, 8, 16,
-// 32 and 54.
-fn root_digits(a: u64) -> u64
-    requires { 2 ^ 62 ≤ a }
-    ensures { Root (a * 2 ^ 44) result }
-{
-    let first = if a >= 0x9000_0000_0000_0000 { 3 } else { 2 };
-    let g4 = double_digits(a / 0x100_0000_0000_0000, first, 4);
-    let g8 = double_digits(a / 0x1_0000_0000_0000, g4, 16);
-    let g16 = double_digits(a / 0x1_0000_0000, g8, 256);
-    let g = double_digits(a, g16, 65536);
-    extend(g, (a - g * g) * 0x40_0000, 0, 0x40_0000)
-}
+// ---- the exponent
 
-// The root of m * 2^(e - 1) of the smallest values of an `f64`, for an m above 0. m is shifted up by
-// s so that its leading digit is the first or the second of 64 and the exponent left is even. The
-// root of that has 54 digits, one more than an `f64` holds, and is no tie.
-fn root_of_significand(m: u64, e: u64) -> f64
+// m * 2^(e - 1) of the smallest values of an `f64`, for an m above 0.
+fn aligned_significand(m: u64, e: u64) -> Aligned
     requires { (0 < m) × (m < 2 ^ 53) × (1 ≤ e) × (e < 2047) }
-    ensures { result ≡ round_root binary64 (m * 2 ^ (e + 1073)) }
+    ensures { result ≡ aligned_units (m * 2 ^ (e - 1)) }
 {
-    let z = m.leading_zeros() as u64;
-    let s = z - (e + 1 + z) % 2;
-    let w = root_digits(m << s);
-    f64::from_bits((e + 1031 - s) / 2 * 0x10_0000_0000_0000 + (w + 1) / 2)
-}
-
-// The root of the finite positive number whose bits are b.
-fn sqrt_of_positive(b: u64) -> f64
-    requires { (0 < b) × (b < 0x7ff0_0000_0000_0000) }
-    ensures { result ≡ sqrt_of binary64 (of_bits binary64 b) }
-{
-    let e = b / 0x10_0000_0000_0000;
-    if e == 0 {
-        return root_of_significand(b, 1);
+    let zeros = m.leading_zeros() as u64;
+    let place = e + 62 - zeros;
+    let odd = place % 2;
+    Aligned {
+        significand: m << (zeros - 11 + odd),
+        exponent: (place - odd) as i32 - 1074,
     }
-    root_of_significand(b % 0x10_0000_0000_0000 + 0x10_0000_0000_0000, e)
 }
 
-// IEEE 754's squareRoot: a zero stays itself, a NaN and whatever is below 0 give NaN.
-pub fn sqrt(x: f64) -> f64
-    ensures { result ≡ sqrt_of binary64 x }
+pub fn sqrt_aligned(x: f64) -> Aligned
+    ensures { result ≡ aligned_of x }
 {
     if x > 0.0 {
         let b = x.to_bits();
-        if b < 0x7ff0_0000_0000_0000 {
-            return sqrt_of_positive(b);
+        let e = b / 0x10_0000_0000_0000;
+        if e == 0 {
+            return aligned_significand(b, 1);
         }
-        return x;
+        if e < 0x7ff {
+            return aligned_significand(b % 0x10_0000_0000_0000 + 0x10_0000_0000_0000, e);
+        }
     }
-    if x == 0.0 {
-        return x;
+    Aligned {
+        significand: 0,
+        exponent: 0,
     }
-    f64::NAN
+}
+
+// ---- the digits
+
+// The next digit, at its place: 1 if the square does not get above the significand.
+#[inline(always)]
+fn turn(d: Digits, place: u64) -> Digits
+    requires { (d.doubled < 2 ^ 54) × (d.left < 2 ^ 56) × (place ≤ 2 ^ 52) }
+    ensures { result ≡ turn_of place d }
+{
+    let taken = d.doubled + place;
+    if d.left < taken {
+        Digits {
+            doubled: d.doubled,
+            left: 2 * d.left,
+        }
+    } else {
+        Digits {
+            doubled: taken + place,
+            left: 2 * (d.left - taken),
+        }
+    }
+}
+
+// The first digits of each root, side by side.
+#[inline(always)]
+fn find_digits<const N: usize>(aligned: [Aligned; N], turns: u32) -> [Digits; N]
+    requires { (turns ≤ 53) × AllAligned aligned }
+    ensures { AllFound turns aligned.entry result }
+{
+    let mut found = [Digits {
+        doubled: 0,
+        left: 0,
+    }; N];
+    for i in 0..N {
+        found[i] = Digits {
+            doubled: 0,
+            left: aligned[i].significand,
+        };
+    }
+    let mut place = 0x10_0000_0000_0000;
+    for _ in 0..turns {
+        for i in 0..N {
+            found[i] = turn(found[i], place);
+        }
+        place /= 2;
+    }
+    found
+}
+
+pub fn sqrt_digits(x: f64, turns: u32) -> u64
+    ensures { result ≡ sqrt_digits_of x turns }
+{
+    let turns = turns.min(TURNS);
+    let found = find_digits([sqrt_aligned(x)], turns);
+    found[0].doubled >> (TURNS + 1 - turns)
+}
+
+// ---- the root
+
+// The root of x from its digits and what is left behind them: rounded up where that is above half of the last
+// digit's place. A zero and +infinity have no digits and stay themselves, a NaN and whatever is below 0 give NaN.
+#[inline(always)]
+fn rounded(x: f64, a: Aligned, d: Digits) -> f64
+    requires { (a ≡ aligned_of x) × DigitsFound a.significand 53 (first_digits 53 a.significand) d }
+    ensures { result ≡ sqrt_of binary64 x }
+{
+    if a.significand == 0 {
+        return if x >= 0.0 { x } else { f64::NAN };
+    }
+    let half_exponent = (a.exponent + 2044) as u64 / 2;
+    let up = if d.doubled < d.left { 1 } else { 0 };
+    f64::from_bits(half_exponent * 0x10_0000_0000_0000 + d.doubled / 2 + up)
+}
+
+// IEEE 754's squareRoot of each, side by side: the roots do not wait for each other.
+#[inline(always)]
+fn sqrts<const N: usize>(x: [f64; N]) -> [f64; N]
+    requires { N ≤ 4 }
+    ensures { result ≡ map (sqrt_of binary64) x.entry }
+{
+    let mut aligned = [Aligned {
+        significand: 0,
+        exponent: 0,
+    }; N];
+    for i in 0..N {
+        aligned[i] = sqrt_aligned(x[i]);
+    }
+    let found = find_digits(aligned, TURNS);
+    let mut root = x;
+    for i in 0..N {
+        root[i] = rounded(x[i], aligned[i], found[i]);
+    }
+    root
+}
+
+// IEEE 754's squareRoot.
+pub fn sqrt(x: f64) -> f64
+    ensures { result ≡ sqrt_of binary64 x }
+{
+    sqrts([x])[0]
+}
+
+// Those of three, in little more time than one.
+pub fn sqrt_3(x: [f64; 3]) -> [f64; 3]
+    ensures { result ≡ map (sqrt_of binary64) x }
+{
+    sqrts(x)
+}
+
+// Those of four.
+pub fn sqrt_4(x: [f64; 4]) -> [f64; 4]
+    ensures { result ≡ map (sqrt_of binary64) x }
+{
+    sqrts(x)
 }

@@ -7,8 +7,11 @@ use native.Mathlib.Omega.{arith}
 use lib.Dec.{T, leb, leb→le, nleb→lt, lit≤}
 use lib.Ieee.{size}
 use lib.Ieee.Digits.{size-lt}
-use Rattle.elementary.specs.Inside.Sqrt.{Root}
 use Rattle.elementary.specs.Sqrt.{digit, root_by, isqrt}
+
+-- r is the whole part of √n
+abbrev pub Root : ℕ → ℕ → Type 0
+Root n r = (r * r ≤ n) × (n < suc r * suc r)
 
 -- of two numbers, the one with the smaller square is the smaller
 pub sq_lt : (a b : ℕ) → a * a < b * b → a < b

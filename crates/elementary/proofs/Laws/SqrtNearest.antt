@@ -54,7 +54,7 @@ size_pos : (w : ℕ) → 0 < w → 0 < size w
 size_pos w p = lt_of_not-le (λ (g : size w ≤ 0). let l = pow_mono g in omega (arith, size-lt w))
 
 -- ---- a finite value above 0 has a unit at least, and is below the overflow
-in_range : (f : Format) (x : Float) → T (fits f x) → T (positive x) → (0 < place f x) × (place f x < overflow f)
+pub in_range : (f : Format) (x : Float) → T (fits f x) → T (positive x) → (0 < place f x) × (place f x < overflow f)
 unfolding place in_units
 in_range f nan t p = absurd p
 in_range f (inf s) t p = absurd p
