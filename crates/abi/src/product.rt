@@ -1,7 +1,8 @@
 // What programs use: solve and its target, bid and ask together, the Black price, the book and the
-// listing, and the live board.
+// listing, the live board, and the square root with its digits.
 pub mod bid_ask;
 pub mod black;
 pub mod board;
 pub mod book;
 pub mod solve;
+pub mod sqrt;

@@ -11,9 +11,8 @@ use Rattle.elementary.specs.declared.rule_set.RuleSet.{RuleSet}
 use Rattle.elementary.specs.RuleSets.{rule_set_0, rule_set_1, rule_set_of}
 use Rattle.elementary.specs.Methods.{sign_of}
 use Rattle.elementary.specs.Floor.{floor_of}
-use Rattle.elementary.specs.declared.sqrt.Aligned.{Aligned}
 use Rattle.elementary.specs.declared.sqrt.Digits.{Digits}
-use Rattle.elementary.specs.Sqrt.{in_units, sqrt_of, aligned_of, sqrt_digits_of}
+use Rattle.elementary.specs.Sqrt.{in_units, sqrt_of}
 use Rattle.elementary.specs.MulAdd.{fma}
 use Rattle.elementary.specs.Exp.{scaled}
 use Rattle.elementary.specs.NormalDistribution.{lowest, highest, cdf_of, ends_of, inverse_of}

@@ -20,7 +20,7 @@ use elementary::ln::ln;
 use elementary::methods::{abs, max};
 use elementary::mul_add::mul_add;
 use elementary::rule_set::RuleSet;
-use elementary::sqrt::sqrt;
+use elementary::sqrt::sqrt_3;
 
 // The threshold of the asymptotic expansion, and H_LARGE.
 const H_LARGE: f64 = -10.0;
@@ -249,8 +249,7 @@ pub fn is_finite(x: f64) -> bool
 }
 
 // The price is the factor times the normalised one, and not below the intrinsic value. The parameters are
-// black's, which are the Rust's. s and x come first: the normalised price waits for them, and for the other
-// two roots only the last product does.
+// black's, which are the Rust's. The three roots do not wait for each other.
 fn price(
     set: RuleSet,
     forward: f64,
@@ -262,10 +261,10 @@ fn price(
     ensures { result ≡ price_of set forward strike sigma expiry option_type }
 {
     let intrinsic = max(option_type * (forward - strike), 0.0);
-    let s = sigma * sqrt(expiry);
     let x = ln(forward / strike);
-    let factor = sqrt(forward) * sqrt(strike);
-    let b = normalised_black(set, x, s, option_type)?;
+    let root = sqrt_3([forward, strike, expiry]);
+    let factor = root[0] * root[1];
+    let b = normalised_black(set, x, sigma * root[2], option_type)?;
     Ok(max(intrinsic, factor * b))
 }
 

@@ -3,9 +3,10 @@
 ghost use Rattle.std.specs.Prelude.{◌≡◌, cond};
 ghost use Rattle.elementary.specs.Ops.{◌⊗◌, +0};
 ghost use Rattle.solver.specs.Inside.Branch.{branch_step};
-ghost use Rattle.solver.specs.Inside.Start.{meaning};
+ghost use Rattle.solver.specs.Inside.Start.{meaning, s_c_of};
 ghost use Rattle.solver.specs.Guess as Guess;
 ghost use Rattle.solver.specs.Guess.{TWO_PI_OVER_SQRT_TWENTY_SEVEN, is_below_horizon, inverse_f_lower_map, upper_map, lower_map, lower_guess, middle_guess, upper_f, upper_guess, start_at, with_value, tail_start, upper_place, lower_start, upper_start, guessed_start, mapped_start, normalised_start};
+ghost use Rattle.prices.specs.Inputs.{times};
 
 use crate::answers::Branch;
 use crate::normalised_market::{NormalisedMarket, Place};
@@ -18,7 +19,6 @@ use elementary::normal_distribution::{
     inverse_f_upper_map, inverse_normal_cdf, standard_normal_cdf,
 };
 use elementary::rule_set::RuleSet;
-use elementary::sqrt::sqrt;
 use prices::inputs::OptionType;
 use prices::intrinsic::normalised_intrinsic;
 use prices::rational_cubic::{
@@ -284,11 +284,12 @@ fn upper_start(set: RuleSet, m: NormalisedMarket, c: Place) -> Result<Start, Ref
     tail_start(set, m, h)
 }
 
-// From c, the place at √(2 |x|), on.
-fn guessed_start(set: RuleSet, m: NormalisedMarket) -> Result<Start, Refusal>
+// From c, the place at s_c, on.
+fn guessed_start(set: RuleSet, m: NormalisedMarket, s_c: f64) -> Result<Start, Refusal>
+    requires { s_c ≡ s_c_of m.x }
     ensures { meaning set result ≡ guessed_start set m.x m.beta m.b_max }
 {
-    let c = m.place(set, sqrt(2.0 * abs(m.x)))?;
+    let c = m.place(set, s_c)?;
     if m.beta < c.price {
         lower_start(set, m, c)
     } else {
@@ -296,8 +297,9 @@ fn guessed_start(set: RuleSet, m: NormalisedMarket) -> Result<Start, Refusal>
     }
 }
 
-// From the target and x after all mapping.
-fn mapped_start(set: RuleSet, x: f64, beta: f64) -> Result<Start, Refusal>
+// From the target and x after all mapping, and s_c there.
+fn mapped_start(set: RuleSet, x: f64, beta: f64, s_c: f64) -> Result<Start, Refusal>
+    requires { s_c ≡ s_c_of x }
     ensures { meaning set result ≡ mapped_start set x beta }
 {
     if beta <= 0.0 {
@@ -319,16 +321,20 @@ fn mapped_start(set: RuleSet, x: f64, beta: f64) -> Result<Start, Refusal>
             b_max,
             down,
         },
+        s_c,
     )
 }
 
-// The Rust's unchecked_normalised_implied_volatility_.., up to its loops.
+// The Rust's unchecked_normalised_implied_volatility_.., up to its loops. s_c is found by the caller, beside
+// the other roots.
 pub(crate) fn normalised_start(
     set: RuleSet,
     beta: f64,
     x: f64,
     option_type: OptionType,
+    s_c: f64,
 ) -> Result<Start, Refusal>
+    requires { s_c ≡ s_c_of (times option_type x) }
     ensures { meaning set result ≡ normalised_start set beta x option_type }
 {
     let beta = if option_type * x > 0.0 {
@@ -336,5 +342,5 @@ pub(crate) fn normalised_start(
     } else {
         beta
     };
-    mapped_start(set, option_type * x, beta)
+    mapped_start(set, option_type * x, beta, s_c)
 }

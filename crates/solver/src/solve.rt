@@ -1,11 +1,14 @@
 // solve: `implied_volatility_from_a_transformed_rational_guess_with_limited_iterations` of so_rational.rs
 // with document 01's refusals and its trail.
-ghost use Rattle.std.specs.Prelude.{◌≡◌, false, length};
-ghost use Rattle.elementary.specs.Ops.{◌⊘◌};
+ghost use Rattle.std.specs.Prelude.{◌≡◌, Ok, false, length, Float};
+ghost use Rattle.std.specs.Float.{binary64};
+ghost use Rattle.elementary.specs.Ops.{◌⊘◌, +0};
+ghost use Rattle.elementary.specs.Sqrt.{sqrt_of};
 ghost use Rattle.solver.specs.Loop.{run as run_of};
 ghost use Rattle.solver.specs.Step.{next_by};
 ghost use Rattle.solver.specs.Inside.Branch.{branch_step};
-ghost use Rattle.solver.specs.Inside.Start.{meaning};
+ghost use Rattle.solver.specs.Inside.Start.{meaning, start_in, DividedIn};
+ghost use Rattle.solver.specs.declared.state.Start.TheVariants.{Answered};
 ghost use Rattle.solver.specs.Solve.{cap_of, over_expiry, accepted_start, price_check, market_check, input_check, solution_of, result_of_run, result_from, start_of, solve_of, solve_with_trail as solve_with_trail_of, target_of, steps_of};
 ghost use Rattle.solver.specs.Trail.{trail_after};
 
@@ -19,9 +22,9 @@ use crate::state::{Start, State};
 use crate::step::{is_close, step};
 use elementary::limits::{MAX, MIN};
 use elementary::ln::ln;
-use elementary::methods::max;
+use elementary::methods::{abs, max};
 use elementary::rule_set::RuleSet;
-use elementary::sqrt::sqrt;
+use elementary::sqrt::sqrt_4;
 use prices::black::{is_finite, is_positive_normal};
 use prices::inputs::OptionType;
 use prices::refusal::Refusal as Unpriced;
@@ -78,20 +81,38 @@ fn max_price(set: RuleSet, option_type: OptionType, forward: f64, strike: f64) -
     }
 }
 
+// Where an accepted quote's run begins, and the root of the expiry, by which a loop's s is divided.
+#[derive(Clone, Copy)]
+pub struct Begun {
+    pub start: Start,
+    pub root: f64,
+}
+
+// Before the guess.
+fn answered(volatility: f64) -> Begun
+    ensures { result ≡ record { start = Answered volatility; root = +0 } }
+{
+    Begun {
+        start: Start::Answered(volatility),
+        root: 0.0,
+    }
+}
+
 // A volatility over one unit of time, as one over the expiry.
-fn over_expiry(set: RuleSet, expiry: f64, start: Start) -> Start
-    ensures { meaning set (Ok result) ≡ over_expiry expiry (meaning set (Ok start)) }
+fn over_expiry(set: RuleSet, root: f64, start: Start) -> Start
+    ensures { (expiry : Float) → root ≡ sqrt_of binary64 expiry → meaning set (Ok result) ≡ over_expiry expiry (meaning set (Ok start)) }
 {
     match start {
-        Start::Answered(v) => Start::Answered(v / sqrt(expiry)),
+        Start::Answered(v) => Start::Answered(v / root),
         Start::Looping(branch, m, st) => Start::Looping(branch, m, st),
     }
 }
 
 // Inlined in solve though loop_target calls it too: out of line it costs 2 to 5 % in branches 2 and 3.
 #[inline(always)]
-fn accepted_start(set: RuleSet, quote: Quote) -> Result<Start, Unpriced>
-    ensures { meaning set result ≡ accepted_start set quote }
+fn accepted_start(set: RuleSet, quote: Quote) -> Result<Begun, Unpriced>
+    ensures value { meaning set (start_in result) ≡ accepted_start set quote }
+    ensures root { DividedIn quote.expiry result }
 {
     let price = quote.price;
     let forward = quote.forward;
@@ -100,21 +121,25 @@ fn accepted_start(set: RuleSet, quote: Quote) -> Result<Start, Unpriced>
     let option_type = quote.option_type;
     let intrinsic = max(option_type * (forward - strike), 0.0);
     if price < intrinsic {
-        return Ok(Start::Answered(VOLATILITY_VALUE_TO_SIGNAL_PRICE_IS_BELOW_INTRINSIC));
+        return Ok(answered(VOLATILITY_VALUE_TO_SIGNAL_PRICE_IS_BELOW_INTRINSIC));
     }
     if price >= max_price(set, option_type, forward, strike) {
-        return Ok(Start::Answered(VOLATILITY_VALUE_TO_SIGNAL_PRICE_IS_ABOVE_MAXIMUM));
+        return Ok(answered(VOLATILITY_VALUE_TO_SIGNAL_PRICE_IS_ABOVE_MAXIMUM));
     }
     let x = ln(forward / strike);
-    let root = sqrt(forward) * sqrt(strike);
     let mut mapped = price;
     let mut mapped_type = option_type;
     if option_type * x > 0.0 {
         mapped = max(price - intrinsic, 0.0);
         mapped_type = -option_type;
     }
-    let start = normalised_start(set, mapped / root, x, mapped_type)?;
-    Ok(over_expiry(set, expiry, start))
+    let root = sqrt_4([forward, strike, expiry, 2.0 * abs(mapped_type * x)]);
+    let normalised = mapped / (root[0] * root[1]);
+    let start = normalised_start(set, normalised, x, mapped_type, root[3])?;
+    Ok(Begun {
+        start: over_expiry(set, root[2], start),
+        root: root[2],
+    })
 }
 
 // ---- the loop
@@ -182,16 +207,15 @@ fn solve_keeping<R: Recorder>(
     if recorder.is_too_short(limit) {
         return Err(Failure::from(Refusal::TrailTooShort));
     }
-    match accepted_start(set, quote)? {
+    let begun = accepted_start(set, quote)?;
+    match begun.start {
         Start::Answered(volatility) => Ok(ImpliedVolatility {
             volatility,
             branch: Branch::NoLoop,
             ending: Ending::NoLoop,
             steps: 0,
         }),
-        Start::Looping(branch, m, st) => {
-            run(set, branch, m, sqrt(quote.expiry), st, limit, recorder)
-        }
+        Start::Looping(branch, m, st) => run(set, branch, m, begun.root, st, limit, recorder),
     }
 }
 
@@ -229,7 +253,7 @@ pub fn loop_target(set: RuleSet, quote: Quote) -> Result<Option<f64>, Refusal>
     ensures { result ≡ target_of set quote }
 {
     check_input(quote)?; // as solve refuses it
-    Ok(match accepted_start(set, quote)? {
+    Ok(match accepted_start(set, quote)?.start {
         Start::Answered(_) => None,
         Start::Looping(_, m, _) => Some(m.beta),
     })

@@ -4,7 +4,6 @@ ghost use Rattle.std.specs.Float.{binary64};
 ghost use Rattle.std.specs.Float.Ieee.{to_bits, of_bits};
 ghost use Rattle.elementary.specs.Methods.{abs_of, max_of, is_zero, square_of};
 ghost use Rattle.elementary.specs.Floor.{floor_of};
-ghost use Rattle.elementary.specs.Sqrt.{sqrt_of};
 ghost use Rattle.elementary.specs.MulAdd.{fma};
 ghost use Rattle.elementary.specs.Exp.{exp_of};
 ghost use Rattle.elementary.specs.Ln.{ln_of, cube_root_of};
@@ -53,13 +52,6 @@ pub extern "C" fn gintubalos_probe_floor(x: u64) -> u64
     ensures { result ≡ to_bits binary64 (floor_of binary64 (of_bits binary64 x)) }
 {
     bits_of(elementary::floor::floor(float_of(x)))
-}
-
-#[unsafe(no_mangle)]
-pub extern "C" fn gintubalos_probe_sqrt(x: u64) -> u64
-    ensures { result ≡ to_bits binary64 (sqrt_of binary64 (of_bits binary64 x)) }
-{
-    bits_of(elementary::sqrt::sqrt(float_of(x)))
 }
 
 #[unsafe(no_mangle)]

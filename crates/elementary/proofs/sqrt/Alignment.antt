@@ -2,15 +2,15 @@
 use mathlib.Core.Path.{◌≡◌, refl, sym, ap, subst, ◌∙◌}
 use mathlib.Core.Bool.{Bool, true, false, cond}
 use Prim.Native.Nat.{ℕ, suc, ◌+◌, ◌-◌, ◌*◌, ◌/◌, ◌%◌, ◌^◌, ◌≤◌, ◌<◌}
-use native.Mathlib.Nat.{le_trans, lt_of_not-le, not-le_of_lt, lt_of_lt_of_le, mul_assoc, mul_comm, mul-le-mul_right, mul-lt-mul_of_pos_right, mul-div_cancel, mod-eq_of_lt, div-lt_iff_lt-mul, le_of_eq}
+use native.Mathlib.Nat.{le_trans, lt_of_not-le, not-le_of_lt, lt_of_lt_of_le, mul_assoc, mul-le-mul_right, mul-div_cancel, mod-eq_of_lt, div-lt_iff_lt-mul, le_of_eq}
 use native.Mathlib.Omega.{arith}
-use lib.Dec.{T, ltb}
-use lib.Pow.{pow-add, pow_pos, pow_mono, shl_lt, shl_exact}
+use lib.Dec.{ltb}
+use lib.Pow.{pow-add, pow_pos, pow_mono, shl_lt}
 use lib.Count.{count_leading_zeros, leading_top}
 use lib.Ieee.{Float, binary64, size}
 use lib.Ieee.Positive.{positive}
 use lib.Ieee.Digits.{size-lt}
-use lib.IntN.{ℤ, pos, negsuc, ◌-ℤ◌, ◌+ℤ◌}
+use lib.IntN.{pos, negsuc, ◌-ℤ◌}
 use Rattle.std.proofs.Math.Facts.{to_z_pos, to_z-of_z}
 use lib.Signed.{mag}
 use mir.Syntax.{w32}

@@ -1,14 +1,14 @@
 -- What the code's loop keeps: the promise of each turn. Assumes nothing.
-use mathlib.Core.Path.{◌≡◌, refl, sym, ap, subst, ◌∙◌}
+use mathlib.Core.Path.{◌≡◌, ap, subst, ◌∙◌}
 use mathlib.Core.Bool.{Bool, true, false, not, cond}
-use Prim.Native.Nat.{ℕ, zero, suc, ◌+◌, ◌-◌, ◌*◌, ◌^◌, ◌≤◌, ◌<◌}
-use native.Mathlib.Nat.{lt_of_not-le, not-le_of_lt, mul-lt-mul_of_pos_right, mul-le-mul_right, pow-suc, le_refl}
+use Prim.Native.Nat.{ℕ, suc, ◌+◌, ◌-◌, ◌*◌, ◌^◌, ◌≤◌, ◌<◌}
+use native.Mathlib.Nat.{lt_of_not-le, not-le_of_lt, mul-lt-mul_of_pos_right, pow-suc, le_refl}
 use native.Mathlib.Omega.{arith}
 use lib.Dec.{T, ltb, ltb→lt, nltb→le}
 use lib.Pow.{pow_pos, pow_mono}
 use Rattle.elementary.specs.declared.sqrt.Digits.{Digits}
 use Rattle.elementary.specs.Sqrt.{first_digits}
-use Rattle.elementary.specs.Promises.{followed_by_zeros, DigitsFound}
+use Rattle.elementary.specs.Promises.{DigitsFound}
 use Rattle.elementary.specs.Inside.Sqrt.{turn_of}
 use Rattle.elementary.proofs.sqrt.Turns.{Turned, at_first, zero_digit, one_digit, small, not_above, greatest, digits_are}
 

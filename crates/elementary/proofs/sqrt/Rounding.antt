@@ -1,24 +1,23 @@
 -- From a root's 53 digits and what is left behind them to the rounded root. Assumes nothing.
-use mathlib.Core.Path.{◌≡◌, refl, sym, ap, subst, ◌∙◌}
+use mathlib.Core.Path.{◌≡◌, refl, sym, ap, ◌∙◌}
 use mathlib.Core.Bool.{Bool, true, false, cond}
-use Prim.Native.Nat.{ℕ, zero, suc, ◌+◌, ◌-◌, ◌*◌, ◌/◌, ◌%◌, ◌^◌, ◌≤◌, ◌<◌, compare, Ordering}
-use native.Mathlib.Nat.{le_trans, lt_of_lt_of_le, lt_of_le_of_lt, mul_assoc, mul_comm, mul_left_comm, mul-one, mul-le-mul_right, mul-lt-mul_of_pos_right, mul-pos, div-eq_of_lt-le}
+use Prim.Native.Nat.{ℕ, suc, ◌+◌, ◌-◌, ◌*◌, ◌/◌, ◌^◌, ◌≤◌, ◌<◌, compare, Ordering}
+use native.Mathlib.Nat.{le_trans, lt_of_lt_of_le, mul_assoc, mul_comm, mul_left_comm, mul-one, mul-le-mul_right, mul-lt-mul_of_pos_right, div-eq_of_lt-le}
 use native.Mathlib.Decide.{dec_le}
 use native.Mathlib.Numerals.{add-one}
 use native.Mathlib.Omega.{arith}
-use lib.Dec.{T, ltb}
-use lib.IntN.{ℤ, pos, nat_abs, ◌+ℤ◌, ◌-ℤ◌, -ℤ-+ℤ_cancel, +ℤ_assoc}
+use lib.Dec.{T}
+use lib.IntN.{pos, ◌+ℤ◌, ◌-ℤ◌, -ℤ-+ℤ_cancel, +ℤ_assoc}
 use lib.Pow.{pow-add, pow_pos, pow_mono, shl_lt}
-use lib.Ieee.{Float, nan, inf, fin, binary64, size, nearest, units, of_bits, fits, nan_bits}
+use lib.Ieee.{Float, nan, inf, fin, binary64, size, nearest, units, of_bits, fits}
 use lib.Ieee.Digits.{size-le}
 use lib.Ieee.Positive.{positive, first_pos}
 use mir.Syntax.{w32}
-use mir.Val.{Fits, SFits, to_z, of_z}
+use mir.Val.{SFits, to_z, of_z}
 use Rattle.std.proofs.Math.Facts.{to_z-of_z}
 use Rattle.elementary.specs.Sqrt.{isqrt, round_root, sqrt_of, in_units, even_place, aligned_units, aligned_of}
 use Rattle.elementary.specs.Promises.{place}
-use Rattle.elementary.proofs.Laws.Bits.{no_nan_pattern}
-use Rattle.elementary.proofs.Laws.Isqrt.{Root, sq_lt, sq_suc, sq_twice, isqrt_root}
+use Rattle.elementary.proofs.Laws.Isqrt.{sq_lt, sq_suc, sq_twice, isqrt_root}
 use Rattle.elementary.proofs.Laws.Leaf.{size_of}
 use Rattle.elementary.proofs.Laws.Nearest.{units_fits}
 use Rattle.elementary.proofs.Laws.Ordering.{Cmp, cmp}

@@ -1,18 +1,12 @@
 -- What a turn keeps: the digits found are those of the root, and the state is theirs. Assumes nothing.
-use mathlib.Core.Path.{◌≡◌, refl, sym, ap, ◌∙◌, subst}
-use mathlib.Core.Logic.{inl, inr}
-use mathlib.Core.Bool.{Bool, true, false, cond}
+use mathlib.Core.Path.{◌≡◌, refl, sym, ap, ◌∙◌}
 use Prim.Native.Nat.{ℕ, zero, suc, ◌+◌, ◌-◌, ◌*◌, ◌/◌, ◌^◌, ◌≤◌, ◌<◌}
-use native.Mathlib.Nat.{lt_of_not-le, le_of_suc-le-suc, le_antisymm, not-le_of_lt, lt_of_lt_of_le, le_trans, mul_assoc, mul_comm, mul_left_comm, add-mul, mul-add, suc-mul, mul-suc, pow-suc, mul-le-mul, mul-le-mul_right, mul-lt-mul_of_pos_right, mul-pos, lt_of_le_of_lt, lt_of_mul-lt-mul_right}
+use native.Mathlib.Nat.{lt_of_not-le, le_of_suc-le-suc, le_antisymm, not-le_of_lt, le_trans, mul_assoc, mul_comm, mul_left_comm, add-mul, mul-add, suc-mul, pow-suc, mul-le-mul, mul-le-mul_right, mul-lt-mul_of_pos_right, mul-pos, lt_of_le_of_lt, lt_of_mul-lt-mul_right}
 use native.Mathlib.Decide.{dec_le}
 use native.Mathlib.Omega.{arith}
-use lib.Pow.{pow-add, pow_pos, pow_mono}
-use lib.Dec.{T, ltb}
-use Rattle.elementary.specs.declared.sqrt.Digits.{Digits}
+use lib.Pow.{pow-add, pow_pos}
 use Rattle.elementary.specs.Sqrt.{isqrt, first_digits}
-use Rattle.elementary.specs.Promises.{followed_by_zeros, DigitsFound}
-use Rattle.elementary.specs.Inside.Sqrt.{turn_of}
-use Rattle.elementary.proofs.Laws.Isqrt.{Root, sq_lt, sq_suc, isqrt_root}
+use Rattle.elementary.proofs.Laws.Isqrt.{Root, sq_lt, isqrt_root}
 
 -- The invariant over plain numbers: d are the digits found, z the last one's place.
 pub record Turned (a z d s m : ℕ) : Type 0 where

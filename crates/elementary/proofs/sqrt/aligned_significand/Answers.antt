@@ -1,8 +1,6 @@
 -- `aligned_significand` meets its contract. Assumes nothing.
-use mathlib.Core.Path.{◌≡◌, sym, ap₂, ◌∙◌}
-use Prim.Native.Nat.{ℕ, ◌+◌, ◌-◌, ◌^◌, ◌<◌}
+use Prim.Native.Nat.{◌+◌, ◌-◌, ◌^◌, ◌<◌}
 use native.Mathlib.Omega.{arith}
-use Rattle.elementary.specs.declared.sqrt.Aligned.{Aligned}
 use Rattle.elementary.proofs.sqrt.Alignment.{zeros, zeros_in, aligned_is}
 use Rattle.elementary.proofs.sqrt.aligned_significand.Goals as goal
 

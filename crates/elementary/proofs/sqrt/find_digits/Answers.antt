@@ -1,5 +1,5 @@
 -- `find_digits` meets its contract: each turn is one of every root's. Assumes nothing.
-use Rattle.std.proofs.Common.{rules, ◌≡◌, ◌<◌, ◌≤◌, ◌-◌, ◌*◌, ◌^◌, ℕ, ◌+◌, ◌/◌, length, slice_index_or, slice_set}
+use Rattle.std.proofs.Common.{rules, ◌≡◌, ◌<◌, ◌≤◌, ◌-◌, ◌^◌, ℕ, ◌+◌, ◌/◌, length}
 use mathlib.Core.Path.{sym, subst, ap, ◌∙◌, refl}
 use mathlib.Core.Logic.{inl, inr}
 use mathlib.Core.List.{List}

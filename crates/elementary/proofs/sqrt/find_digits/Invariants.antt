@@ -1,6 +1,5 @@
 -- `find_digits` meets its contract: the loop keeps the promise of each turn. Assumes nothing.
 use Rattle.std.proofs.Common.{◌≡◌, ℕ, ◌<◌, ◌≤◌, ◌+◌, ◌/◌, ◌^◌, length}
-use Rattle.elementary.specs.declared.sqrt.Digits.{Digits}
 use Rattle.elementary.specs.Sqrt.{first_digits}
 use Rattle.elementary.specs.Promises.{DigitsFound}
 use Rattle.elementary.specs.Inside.Sqrt.{significand_at, digits_at}

@@ -1,5 +1,5 @@
 -- `rounded` meets its contract. Assumes nothing.
-use Rattle.std.proofs.Common.{rules, ◌≡◌, ◌<◌, ◌≤◌, ◌+◌, ◌*◌, ◌/◌, ◌^◌, ℕ, zero, suc}
+use Rattle.std.proofs.Common.{◌≡◌, ◌<◌, ◌≤◌, ◌+◌, ◌*◌, ◌/◌, ◌^◌, ℕ, zero, suc}
 use mathlib.Core.Path.{refl, sym, ap, subst, ◌∙◌}
 use mathlib.Core.Bool.{Bool, true, false, cond, ◌&&◌, ◌||◌}
 use native.Mathlib.Nat.{mul-pos, zero-mul, add_assoc}
@@ -7,15 +7,15 @@ use native.Mathlib.Omega.{arith}
 use lib.Dec.{T, eqb, eqb→eq, lt→ltb}
 use lib.IntN.{ℤ, pos, nat_abs, ◌+ℤ◌}
 use lib.Signed.{non_neg}
-use lib.Ieee.{Float, nan, inf, fin, binary64, up, down, fits, lt, eq, le, of_bits, nan_bits}
+use lib.Ieee.{Float, nan, inf, fin, binary64, up, down, fits, lt, eq, le, of_bits}
 use lib.Ieee.Fits.{up_pos, and_l}
 use lib.Ieee.Positive.{positive}
 use mir.Syntax.{w32}
-use mir.Val.{Fits, SFits, to_z, of_z}
+use mir.Val.{SFits, to_z, of_z}
 use Rattle.std.proofs.Math.Facts.{to_z-of_z}
 use Rattle.elementary.specs.declared.sqrt.Aligned.{Aligned}
 use Rattle.elementary.specs.declared.sqrt.Digits.{Digits}
-use Rattle.elementary.specs.Sqrt.{sqrt_of, in_units, aligned_units, aligned_of, first_digits}
+use Rattle.elementary.specs.Sqrt.{sqrt_of, in_units, aligned_units, aligned_of}
 use Rattle.elementary.specs.Promises.{DigitsFound}
 use Rattle.elementary.proofs.Laws.Bits.{no_nan_pattern}
 use Rattle.elementary.proofs.sqrt.Found.{turned}

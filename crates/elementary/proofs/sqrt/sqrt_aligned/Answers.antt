@@ -2,10 +2,10 @@
 use mathlib.Core.Path.{◌≡◌, refl, sym, ap, ◌∙◌, subst}
 use mathlib.Core.Bool.{Bool, true, false, not, cond, true≢false}
 use Prim.Native.Nat.{ℕ, zero, suc, ◌+◌, ◌-◌, ◌*◌, ◌/◌, ◌%◌, ◌^◌, ◌≤◌, ◌<◌}
-use native.Mathlib.Nat.{lt_of_not-le, mul-pos, zero-mul, mul-one}
+use native.Mathlib.Nat.{lt_of_not-le, mul-pos, mul-one}
 use native.Mathlib.Omega.{arith}
 use native.Mathlib.Decide.{dec_le}
-use lib.Dec.{T, ltb, lt→ltb, leb}
+use lib.Dec.{T, lt→ltb, leb}
 use lib.Arith.{lt→nleb}
 use lib.IntN.{pos}
 use lib.Pow.{pow_pos}
@@ -14,7 +14,6 @@ use lib.Ieee.Exact.{HasValue}
 use lib.Ieee.Positive.{positive, positive_of_value}
 use lib.Ieee.Fits.{up_pos}
 use lib.Ieee.Bits.{of_bits-to_bits, is_false}
-use Rattle.elementary.specs.declared.sqrt.Aligned.{Aligned}
 use Rattle.elementary.specs.Sqrt.{in_units, aligned_units, aligned_of}
 use Rattle.elementary.specs.Methods.{sign_of}
 use Rattle.elementary.proofs.Laws.Bits.{lt_ordered, no_nan, no_sign, nan_pattern}

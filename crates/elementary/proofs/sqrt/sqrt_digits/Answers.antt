@@ -1,13 +1,12 @@
 -- `sqrt_digits` meets its contract: its digits are the state's, without the zeros behind them. Assumes nothing.
-use Rattle.std.proofs.Common.{rules, ◌≡◌, ◌<◌, ◌≤◌, ◌-◌, ◌*◌, ◌/◌, ◌^◌, ℕ, [], ◌∷◌, length, slice_index_or}
+use Rattle.std.proofs.Common.{rules, ◌≡◌, ◌<◌, ◌≤◌, ◌-◌, ◌*◌, ◌/◌, ◌^◌, ℕ, [], ◌∷◌}
 use mathlib.Core.Path.{refl, ap, ◌∙◌}
 use native.Mathlib.Omega.{arith}
 use native.Mathlib.Nat.{pow-suc, mul-div_cancel, mul_assoc, mul_comm, mul_left_comm}
-use Prim.Native.Nat.{suc, min}
+use Prim.Native.Nat.{suc}
 use lib.Pow.{pow_pos}
-use Rattle.elementary.specs.declared.sqrt.Aligned.{Aligned}
-use Rattle.elementary.specs.Sqrt.{aligned_of, first_digits}
-use Rattle.elementary.specs.Inside.Sqrt.{AllAligned, significand_at, digits_at}
+use Rattle.elementary.specs.Sqrt.{first_digits}
+use Rattle.elementary.specs.Inside.Sqrt.{significand_at, digits_at}
 use Rattle.elementary.proofs.sqrt.Alignment.{significand_lt}
 use Rattle.elementary.proofs.sqrt.sqrt_digits.Goals as goal
 

@@ -1,13 +1,12 @@
 -- `sqrts` meets its contract: each root is one of the answers, in order. Assumes nothing.
-use Rattle.std.proofs.Common.{rules, ◌≡◌, ◌<◌, ◌≤◌, ◌*◌, ◌^◌, ℕ, length, map, slice_index_or}
+use Rattle.std.proofs.Common.{rules, ◌≡◌, ◌<◌, ◌≤◌, ◌^◌, ℕ, length, map, slice_index_or}
 use mathlib.Core.Path.{sym, ap, subst, ◌∙◌}
 use native.Mathlib.Omega.{arith}
-use lib.IntN.{pos}
-use lib.Ieee.{Float, nan, binary64}
+use lib.Ieee.{nan, binary64}
 use Rattle.std.proofs.lemmas.List.{ext_get_or, get_or-map, length-map}
 use Rattle.elementary.specs.declared.sqrt.Aligned.{Aligned}
-use Rattle.elementary.specs.Sqrt.{sqrt_of, aligned_of}
-use Rattle.elementary.specs.Inside.Sqrt.{AllAligned, significand_at}
+use Rattle.elementary.specs.Sqrt.{sqrt_of}
+use Rattle.elementary.specs.Inside.Sqrt.{significand_at}
 use Rattle.elementary.proofs.sqrt.Alignment.{significand_lt}
 use Rattle.elementary.proofs.sqrt.sqrts.Goals as goal
 

@@ -11,18 +11,18 @@ unfolding with_value
 returns-in_err-c c =
     let e : c.place.result ≡ Err c.in_err-c.field-0.0 = search rules in
     let r : c.from_residual.result ≡ Err c.in_err-c.field-0.0 = search rules in
-    rw (r, ← c.abs.ensures, ← c.sqrt.ensures, refusal_is _ _ _ _ c.place.ensures _ e)
+    rw (r, ← c.requires, refusal_is _ _ _ _ c.place.ensures _ e)
 
 pub returns-then-m-c : goal.returns-then-m-c
 unfolding with_value
 returns-then-m-c c =
     let e : c.place.result ≡ Ok c.in_ok-c.c = search rules in
     let found = c.place.ensures in
-    rw (← c.abs.ensures, ← c.sqrt.ensures, price_is _ _ _ _ found _ e, vega_is _ _ _ _ found _ e, s_is _ _ _ _ found _ e, c.if-m-c.true) c.lower_start.ensures
+    rw (← c.requires, price_is _ _ _ _ found _ e, vega_is _ _ _ _ found _ e, s_is _ _ _ _ found _ e, c.if-m-c.true) c.lower_start.ensures
 
 pub returns-else-m-c : goal.returns-else-m-c
 unfolding with_value
 returns-else-m-c c =
     let e : c.place.result ≡ Ok c.in_ok-c.c = search rules in
     let found = c.place.ensures in
-    rw (← c.abs.ensures, ← c.sqrt.ensures, price_is _ _ _ _ found _ e, vega_is _ _ _ _ found _ e, s_is _ _ _ _ found _ e, c.if-m-c.false) c.upper_start.ensures
+    rw (← c.requires, price_is _ _ _ _ found _ e, vega_is _ _ _ _ found _ e, s_is _ _ _ _ found _ e, c.if-m-c.false) c.upper_start.ensures

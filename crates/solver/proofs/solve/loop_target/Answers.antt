@@ -19,18 +19,18 @@ returns-in_err-accepted_start c =
     let p : c.check_input.result ≡ Ok c.in_ok-check_input.field-0 = search rules in
     let e : c.accepted_start.result ≡ Err c.in_err-accepted_start.field-0.0 = search rules in
     let r : c.from_residual-in_err-accepted_start.result ≡ Err (Pricing c.in_err-accepted_start.field-0.0) = search rules in
-    r ∙ rw (← c.check_input.ensures, p, ← c.accepted_start.ensures, e)
+    r ∙ rw (← c.check_input.ensures, p, ← c.accepted_start.ensures.value, e)
 
 pub returns-in-Answered : goal.returns-in-Answered
 unfolding start_of target_of
 returns-in-Answered c =
     let p : c.check_input.result ≡ Ok c.in_ok-check_input.field-0 = search rules in
     let e : c.accepted_start.result ≡ Ok c.in_ok-accepted_start.field-0 = search rules in
-    rw (← c.check_input.ensures, p, ← c.accepted_start.ensures, e, c.in-Answered.is)
+    rw (← c.check_input.ensures, p, ← c.accepted_start.ensures.value, e, c.in-Answered.is)
 
 pub returns-in-Looping : goal.returns-in-Looping
 unfolding start_of target_of
 returns-in-Looping c =
     let p : c.check_input.result ≡ Ok c.in_ok-check_input.field-0 = search rules in
     let e : c.accepted_start.result ≡ Ok c.in_ok-accepted_start.field-0 = search rules in
-    rw (← c.check_input.ensures, p, ← c.accepted_start.ensures, e, c.in-Looping.is)
+    rw (← c.check_input.ensures, p, ← c.accepted_start.ensures.value, e, c.in-Looping.is)
