@@ -61,6 +61,9 @@ extern "C" {
 #define GINTUBALOS_LINE_BYTES 128
 #define GINTUBALOS_BOARD_BYTES 3076
 
+/* The turns of a square root, one for each binary digit of a float. */
+#define GINTUBALOS_SQRT_TURNS 53
+
 /* What an outcome's word holds. Number: 0 where nothing is refused. Branch: 0 answered before a guess, 1 lower loop, 2 and
  * 3 lower and upper middle, 4 upper loop, 5 the rest of the upper tail. Ending: 0 no loop, 1 step test, 2 limit. Steps: the
  * completed ones. A refusal has branch and ending 0, and steps above 0 only where 7 comes inside a loop. */
@@ -157,6 +160,23 @@ uint8_t gintubalos_board_leave(uint8_t *board, uint32_t series);
  * live, with 0 in both. Of equal volatilities it is the earliest arrival's; zeros of either sign are equal. A NaN, which
  * only bytes from elsewhere can have, is above nothing and nothing is above it: it is shown only where it stands first. */
 uint8_t gintubalos_board_highest(const uint8_t *board, uint32_t *series, uint64_t *volatility);
+
+/* ---- The square root. First the exponent is settled: x = significand x 2^exponent, where the exponent is even and the
+ * significand, the aligned one, from 1 up and below 4. Then the binary digits of the significand's root are found from the
+ * top, one per turn: after each the digits, followed by zeros, are the greatest such number whose square is not above the
+ * significand. x's root is that root x 2^(exponent / 2). ---- */
+
+/* The root's bits, rounded to nearest with ties to even, as IEEE 754's squareRoot: a zero stays itself, NaN for a NaN and
+ * what is below 0, infinity for infinity. */
+uint64_t gintubalos_sqrt(uint64_t x);
+
+/* The digits after so many turns as a whole number; the point stands after the first one, which is 1. Past the last turn
+ * they are the last one's. 0 for turns 0 and for an x that is not positive and finite. */
+uint64_t gintubalos_sqrt_digits(uint64_t x, uint32_t turns);
+
+/* The aligned significand x 2^52, from 2^52 up and below 2^54, and the exponent, even and from -1074 to 1022. Both are 0 for
+ * an x that is not positive and finite. */
+uint64_t gintubalos_sqrt_aligned(uint64_t x, int32_t *exponent);
 
 #ifdef __cplusplus
 }

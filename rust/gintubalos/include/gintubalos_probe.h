@@ -64,9 +64,8 @@ uint64_t gintubalos_probe_abs(uint64_t x);
 /* The other one if one is NaN; of two zeros of unequal sign, +0. */
 uint64_t gintubalos_probe_max(uint64_t a, uint64_t b);
 uint64_t gintubalos_probe_powi_2(uint64_t y);
-/* IEEE 754's roundToIntegralTowardNegative, squareRoot and fusedMultiplyAdd. */
+/* IEEE 754's roundToIntegralTowardNegative and fusedMultiplyAdd. */
 uint64_t gintubalos_probe_floor(uint64_t x);
-uint64_t gintubalos_probe_sqrt(uint64_t x);
 uint64_t gintubalos_probe_mul_add(uint64_t a, uint64_t b, uint64_t c);
 uint64_t gintubalos_probe_exp(uint64_t y);
 uint64_t gintubalos_probe_ln(uint64_t y);

@@ -120,6 +120,9 @@ mod archive {
         pub fn gintubalos_board_arrive(board: &mut [u8; BOARD_BYTES], series: u32, volatility: u64) -> u8;
         pub fn gintubalos_board_leave(board: &mut [u8; BOARD_BYTES], series: u32) -> u8;
         pub fn gintubalos_board_highest(board: &[u8; BOARD_BYTES], series: &mut u32, volatility: &mut u64) -> u8;
+        pub fn gintubalos_sqrt(x: u64) -> u64;
+        pub fn gintubalos_sqrt_digits(x: u64, turns: u32) -> u64;
+        pub fn gintubalos_sqrt_aligned(x: u64, exponent: &mut i32) -> u64;
     }
 }
 
@@ -404,4 +407,25 @@ pub fn board_highest(board: &[u8; BOARD_BYTES]) -> (u8, u32, u64) {
     let (mut series, mut volatility) = (0, 0);
     let found = unsafe { archive::gintubalos_board_highest(board, &mut series, &mut volatility) };
     (found, series, volatility)
+}
+
+/// The root's bits, a NaN's for a NaN and what is below 0.
+#[inline]
+pub fn sqrt(x: u64) -> u64 {
+    unsafe { archive::gintubalos_sqrt(x) }
+}
+
+/// The first `turns` binary digits of the aligned significand's root, past the last turn the last one's; 0 for turns 0 and
+/// for an x that is not positive and finite.
+#[inline]
+pub fn sqrt_digits(x: u64, turns: u32) -> u64 {
+    unsafe { archive::gintubalos_sqrt_digits(x, turns) }
+}
+
+/// The aligned significand times 2^52, and the exponent; two zeros for an x that is not positive and finite.
+#[inline]
+pub fn sqrt_aligned(x: u64) -> (u64, i32) {
+    let mut exponent = 0;
+    let significand = unsafe { archive::gintubalos_sqrt_aligned(x, &mut exponent) };
+    (significand, exponent)
 }

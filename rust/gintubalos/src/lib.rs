@@ -39,6 +39,9 @@
 //! [`recheck`] and [`read`] keep a book of such answers in 64-byte records, and [`line`](line()) is relist's line of one. A
 //! [`Board`] has up to 256 live quotes, which arrive and leave, and shows the one of the highest volatility. What is refused
 //! is a [`Refusal`], which has the number, its meaning in words and the completed steps.
+//!
+//! [`sqrt`] is the square root, for which nothing is refused; [`sqrt_aligned`] and [`sqrt_digits`] show how it is found: the
+//! exponent first, then a binary digit per turn.
 
 #![deny(missing_docs)]
 
@@ -53,6 +56,7 @@ pub mod probe;
 mod refusal;
 mod rule_set;
 mod solution;
+mod square_root;
 
 pub use bid_ask::*;
 pub use board::*;
@@ -61,6 +65,7 @@ pub use kinds::*;
 pub use refusal::*;
 pub use rule_set::*;
 pub use solution::*;
+pub use square_root::*;
 
 /// The original library's path for its two functions.
 pub mod lets_be_rational {

@@ -6,6 +6,9 @@ use crate::{OptionType, Refusal, Side};
 /// What every function of the crate but those on bits does before its call of the archive: here to measure what it costs.
 pub use crate::environment::in_default;
 
+/// The crate's own, for those that call every function here.
+pub use crate::sqrt;
+
 /// What an argument crosses as: a float as its bits, all else as a byte.
 pub trait Crosses {
     /// The plain number.
@@ -136,12 +139,6 @@ functions! {
         /// assert_eq!(gintubalos::probe::floor(-0.5), -1.0);
         /// ```
         floor = gintubalos_probe_floor(x: f64);
-        /// IEEE 754's squareRoot.
-        ///
-        /// ```
-        /// assert_eq!(gintubalos::probe::sqrt(2.25), 1.5);
-        /// ```
-        sqrt = gintubalos_probe_sqrt(x: f64);
         /// IEEE 754's fusedMultiplyAdd: a × b + c, rounded once.
         ///
         /// ```

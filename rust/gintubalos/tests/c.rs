@@ -39,6 +39,7 @@ fn in_c(rattle: &str) -> &'static [&'static str] {
         "usize" => &["size_t"],
         "&mut u8" => &["uint8_t *"],
         "&mut u32" => &["uint32_t *"],
+        "&mut i32" => &["int32_t *"],
         "&mut u64" => &["uint64_t *"],
         "&[u8]" => &["const uint8_t *", "size_t"],
         "&mut [u8]" => &["uint8_t *", "size_t"],
@@ -98,7 +99,7 @@ fn expected() -> Vec<String> {
     }
     let mut lines = vec!["environment 1 0 0 1".to_owned()];
     lines.extend(same! {
-        bits_of(x) is_zero(x) abs(x) powi_2(x) floor(x) sqrt(x) exp(x) ln(x) powf_1_3(x) d_int(x) ab(x) cd(x) pq(x)
+        bits_of(x) is_zero(x) abs(x) powi_2(x) floor(x) exp(x) ln(x) powf_1_3(x) d_int(x) ab(x) cd(x) pq(x)
         erfcx_above_threshold(x) erfc(x) smoothened_exponential_of_negative_square(x)
         smoothened_exponential_of_positive_square(x) erfcx(x) standard_normal_cdf(x) inverse_normal_cdf(x)
         inverse_f_upper_map(x) max(half, eighth) normalised_vega(half, eighth)
@@ -195,7 +196,27 @@ highest 1 4294967295 0000000000000000
 full 35 0 1
 highest 1 254 406FC00000000000
 leave 1
-freed 64 0 255";
+freed 64 0 255
+sqrt 3FE6A09E667F3BCD
+aligned 0020000000000000 -2
+digits 0 1 2 5 11 22 45
+digits 6369051672525772 6369051672525772 6369051672525772
+sqrt 1E60000000000000
+aligned 0010000000000000 -1074
+digits 0 1 2 4 8 16 32
+digits 4503599627370496 4503599627370496 4503599627370496
+sqrt 8000000000000000
+aligned 0000000000000000 0
+digits 0 0 0 0 0 0 0
+digits 0 0 0
+sqrt 7FF8000000000000
+aligned 0000000000000000 0
+digits 0 0 0 0 0 0 0
+digits 0 0 0
+sqrt 7FF0000000000000
+aligned 0000000000000000 0
+digits 0 0 0 0 0 0 0
+digits 0 0 0";
     lines.extend(more.lines().map(str::to_owned));
     lines
 }

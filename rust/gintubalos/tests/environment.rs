@@ -47,6 +47,9 @@ fn same_bits_everywhere() {
     everywhere("exp", || exp(0.3).to_bits());
     everywhere("exp of a subnormal", || exp(-740.0).to_bits());
     everywhere("sqrt", || sqrt(TINY).to_bits());
+    // Taken for a zero it would have none.
+    everywhere("digits of a subnormal", || sqrt_digits(TINY, 9));
+    everywhere("aligned significand of a subnormal", || sqrt_aligned(TINY));
     everywhere("erfc", || erfc(-1.7).to_bits());
     everywhere("cdf", || standard_normal_cdf(-37.9).to_bits());
     everywhere("inverse", || inverse_normal_cdf(0.3).to_bits());

@@ -23,7 +23,7 @@ static void say_outcome(const char *name, uint64_t value, uint64_t outcome) {
 #define UNARY(name) say(#name, gintubalos_probe_##name(bits(0.75)), 0)
 
 static void unary(void) {
-    UNARY(bits_of), UNARY(is_zero), UNARY(abs), UNARY(powi_2), UNARY(floor), UNARY(sqrt), UNARY(exp), UNARY(ln);
+    UNARY(bits_of), UNARY(is_zero), UNARY(abs), UNARY(powi_2), UNARY(floor), UNARY(exp), UNARY(ln);
     UNARY(powf_1_3), UNARY(d_int), UNARY(ab), UNARY(cd), UNARY(pq), UNARY(erfcx_above_threshold), UNARY(erfc);
     UNARY(smoothened_exponential_of_negative_square), UNARY(smoothened_exponential_of_positive_square), UNARY(erfcx);
     UNARY(standard_normal_cdf), UNARY(inverse_normal_cdf), UNARY(inverse_f_upper_map);
@@ -211,6 +211,29 @@ static void live_board(void) {
     printf("freed %d %d %d\n", board[3059], board[3060], board[3072]);
 }
 
+/* A half, the least float, a zero, what is below 0, and infinity: the first turns' digits, and those of the last turn, of the
+ * next one and of the most that can be asked for. */
+static void square_roots(void) {
+    const uint64_t numbers[] = {bits(0.5), 1, bits(-0.0), bits(-1), UINT64_C(0x7FF0000000000000)};
+    const uint32_t ends[] = {GINTUBALOS_SQRT_TURNS, GINTUBALOS_SQRT_TURNS + 1, UINT32_MAX};
+    for (int i = 0; i < 5; i++) {
+        const uint64_t x = numbers[i];
+        int32_t exponent = 1;
+        uint64_t significand = gintubalos_sqrt_aligned(x, &exponent);
+        printf("sqrt %016" PRIX64 "\n", gintubalos_sqrt(x));
+        printf("aligned %016" PRIX64 " %" PRId32 "\n", significand, exponent);
+        printf("digits");
+        for (uint32_t turns = 0; turns < 7; turns++) {
+            printf(" %" PRIu64, gintubalos_sqrt_digits(x, turns));
+        }
+        printf("\ndigits");
+        for (int k = 0; k < 3; k++) {
+            printf(" %" PRIu64, gintubalos_sqrt_digits(x, ends[k]));
+        }
+        printf("\n");
+    }
+}
+
 /* As it is, with upward rounding, with flushed subnormals, and with a flag alone. */
 static void environment(void) {
     const unsigned word = _mm_getcsr();
@@ -235,5 +258,6 @@ int main(void) {
     book();
     filed_by_the_textbook();
     live_board();
+    square_roots();
     return 0;
 }
