@@ -1,5 +1,5 @@
-//! `gintubalos`: demo, solve, range, black, file, recheck, list, show and board on the command line. Every answer is the
-//! proved library's; this program reads arguments and files, and writes answers down.
+//! `gintubalos`: demo, solve, range, black, file, recheck, list, show, board and sqrt on the command line. Every answer is
+//! the proved library's; this program reads arguments and files, and writes answers down.
 
 #![forbid(unsafe_code)]
 
@@ -17,6 +17,7 @@ mod ranging;
 mod rechecking;
 mod records;
 mod solving;
+mod square_root;
 
 use arguments::Arguments;
 use failure::Failure;
@@ -57,7 +58,7 @@ fn answer(mut out: impl Write) -> Result<u8, Failure> {
 fn run(out: &mut impl Write) -> Result<u8, Failure> {
     let mut words = env::args_os().skip(1);
     let command = words.next().filter(|command| !command.is_empty()).ok_or_else(|| {
-        Failure::usage("a command is wanted: demo, solve, range, black, file, recheck, list, show or board")
+        Failure::usage("a command is wanted: demo, solve, range, black, file, recheck, list, show, board or sqrt")
     })?;
     let mut arguments = Arguments::default();
     for word in words {
@@ -85,6 +86,7 @@ fn run(out: &mut impl Write) -> Result<u8, Failure> {
         "list" => rechecking::list(arguments, out)?,
         "show" => filing::show(arguments, out)?,
         "board" => return live_board::board(arguments, out),
+        "sqrt" => square_root::square_root(arguments, out)?,
         other => return Err(Failure::usage(format!("there is no command {other}"))),
     }
     Ok(0)

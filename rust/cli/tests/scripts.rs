@@ -72,6 +72,11 @@ fn wrong_lines_build_nothing() {
         "./gintubalos show -- --repair",
         "./gintubalos board now",
         "./gintubalos board --all",
+        "./gintubalos sqrt",
+        "./gintubalos sqrt 2 3",
+        "./gintubalos sqrt 2 --bits",
+        "./gintubalos sqrt 2 --steps=9",
+        "./gintubalos black 1 1 1 1 put --steps",
         "./relist one two",
         "./relist --all",
         "./test --fast",
@@ -156,6 +161,9 @@ fn right_lines_build() {
         "list -",
         "show book 1",
         "board",
+        "sqrt 2",
+        "sqrt -2 --steps",
+        "sqrt --steps -- -inf",
     ] {
         let (status, out, err) = shell(&tree, &format!("PATH=$PWD/tools bash ./gintubalos {line}"));
         assert_eq!((status, &*out), (74, ""), "{line}: {err}");
