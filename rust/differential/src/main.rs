@@ -1,8 +1,9 @@
 //! Compares the proved functions with the Rust, bit for bit.
 //!
 //! The last line of a run is `N compared, M differences`. Exit status: 0 no difference; 1 a difference, the first ones in
-//! the lines above, or a case of a call that was to be met (a branch, an ending, a price by a cap, two causes of a refusal) and
-//! that no input met; 2 bad usage; 3 the Rust's source wasn't at hand when this was built, and nothing was compared.
+//! the lines above, or a case of a call that was to be met (a branch, an ending, a price by a cap, two causes of a refusal,
+//! a digit at each turn) and that no input met; 2 bad usage; 3 the Rust's source wasn't at hand when this was built, and
+//! nothing was compared.
 
 mod accuracy;
 mod bid_ask;
@@ -18,6 +19,7 @@ mod caps;
 mod causes;
 mod compare;
 mod damaged_boards;
+mod digits;
 mod edges;
 mod functions;
 mod inputs;
@@ -25,6 +27,8 @@ mod markets;
 mod pairs;
 mod prices;
 mod records;
+mod root_inputs;
+mod roots;
 mod rule_sets;
 mod samples;
 mod search;
@@ -44,8 +48,8 @@ const USAGE: &str = "usage: differential [--quick] [--function NAME] [--inputs N
 
   --quick          fewer random inputs: under a minute, for the gate
   --function NAME  this function alone
-  --inputs N       random inputs of each function (default 10000000; of solve_with_trail 2000000, of other calls fewer);
-                   one of the board is a list of calls
+  --inputs N       random inputs of each function (default 10000000; of sqrt 100000000 more, of solve_with_trail 2000000,
+                   of other calls fewer); one of the board is a list of calls, one of sqrt_digits has every turn
   --seed N         other random inputs (default 1)
   --threads N      default: as many as the machine has processors
   --search         looks for refusals of `black` and solve at the asymptotic expansion's borders
@@ -114,7 +118,7 @@ impl Options {
         FUNCTIONS.iter().filter(|f| self.wants(f.name)).collect()
     }
 
-    /// Those of layer 3, and the live board.
+    /// Those of layer 3, the live board, and the square root's.
     fn parts(&self) -> Vec<&'static Part> {
         PARTS.iter().filter(|p| self.wants(p.name)).collect()
     }

@@ -9,7 +9,7 @@ use crate::{
     damaged_boards,
     inputs::wide,
     markets::{any_question, limit, Question},
-    pairs,
+    pairs, roots,
     rule_sets::UNKNOWN,
     sevens,
     tally::Tally,
@@ -22,9 +22,9 @@ use rust_over_rules::{
     solver::{self, is_long_enough},
 };
 
-/// A function of layer 3, or the live board: its name, its random inputs in a whole and in a quick run, what compares it (the
-/// edges in lists, each for a thread), and what a run says of the calls that it met, with those that it was to meet and did
-/// not.
+/// A function of layer 3, the live board, or a function of the square root: its name, its random inputs in a whole and in a
+/// quick run, what compares it (the edges in lists, each for a thread), and what a run says of the calls that it met, with
+/// those that it was to meet and did not.
 pub struct Part {
     pub name: &'static str,
     pub inputs: u64,
@@ -41,7 +41,7 @@ pub const WRAPPER: &str = "implied_volatility_from_a_transformed_rational_guess"
 pub const BID_ASK: &str = "bid_ask";
 pub const BID_ASK_WITHOUT_TRAILS: &str = "bid_ask_without_trails";
 
-pub const PARTS: [Part; 12] = [
+pub const PARTS: [Part; 15] = [
     Part {
         name: SOLVE,
         inputs: 2_000_000,
@@ -177,6 +177,42 @@ pub const PARTS: [Part; 12] = [
         edges: &[damaged_boards::edges],
         random: damaged_boards::random,
         report: damaged_boards::report,
+    },
+    // After the table's line of the same name, which has inputs as the other functions there.
+    Part {
+        name: "sqrt",
+        inputs: 100_000_000,
+        quick: 5_000_000,
+        edges: &[roots::fixed_roots::<0>, roots::fixed_roots::<1>, roots::fixed_roots::<2>, roots::fixed_roots::<3>],
+        random: roots::random_root,
+        report: roots::report_roots,
+    },
+    // A random input is asked after each turn.
+    Part {
+        name: "sqrt_digits",
+        inputs: 1_000_000,
+        quick: 50_000,
+        edges: &[
+            roots::fixed_digits::<0>,
+            roots::fixed_digits::<1>,
+            roots::fixed_digits::<2>,
+            roots::fixed_digits::<3>,
+        ],
+        random: roots::random_digits,
+        report: roots::report_digits,
+    },
+    Part {
+        name: "sqrt_aligned",
+        inputs: 10_000_000,
+        quick: 1_000_000,
+        edges: &[
+            roots::fixed_alignments::<0>,
+            roots::fixed_alignments::<1>,
+            roots::fixed_alignments::<2>,
+            roots::fixed_alignments::<3>,
+        ],
+        random: roots::random_alignment,
+        report: roots::report_alignments,
     },
 ];
 

@@ -1,6 +1,6 @@
 //! What a part of a run counts: comparisons, differences, and what the calls among them reach.
 
-use crate::caps;
+use crate::{caps, roots};
 use std::collections::BTreeMap;
 
 /// So many differences of a function are printed.
@@ -17,6 +17,17 @@ pub fn text_of_case((number, branch, ending, stepped): Case) -> String {
     format!("{what}, {}", if stepped { "after steps" } else { "no step" })
 }
 
+/// Prints each case with its count, and gives those without one.
+pub fn report_counts(what: &str, counts: impl IntoIterator<Item = (&'static str, u64)>) -> Vec<String> {
+    let mut missing = Vec::new();
+    println!("{what}");
+    for (case, count) in counts {
+        println!("  {case}: {count}");
+        missing.extend((count == 0).then(|| case.to_string()));
+    }
+    missing
+}
+
 #[derive(Default)]
 pub struct Tally {
     pub comparisons: u64,
@@ -27,6 +38,8 @@ pub struct Tally {
     pub cases: BTreeMap<Case, u64>,
     /// How many solves with a trail met each case of the two caps.
     pub caps: caps::Counts,
+    /// What calls of the square root met.
+    pub roots: roots::Counts,
     /// How many calls met each of their cases; of a refusal, with what else would refuse the call.
     pub met: BTreeMap<(&'static str, &'static str), u64>,
 }
@@ -57,6 +70,7 @@ impl Tally {
             *self.cases.entry(case).or_default() += count;
         }
         self.caps.add(other.caps);
+        self.roots.add(other.roots);
         for (case, count) in other.met {
             *self.met.entry(case).or_default() += count;
         }
@@ -115,14 +129,7 @@ impl Tally {
 
     /// Prints how many calls met each case, and gives those that none met.
     pub fn report_cases(&self, what: &str, cases: impl IntoIterator<Item = &'static str>) -> Vec<String> {
-        let mut missing = Vec::new();
-        println!("{what}");
-        for case in cases {
-            let count = self.count_of(case, "");
-            println!("  {case}: {count}");
-            missing.extend((count == 0).then(|| case.to_string()));
-        }
-        missing
+        report_counts(what, cases.into_iter().map(|case| (case, self.count_of(case, ""))))
     }
 
     /// What the inputs are to reach and did not. Branch 5 isn't among it: it needs a b_h below half of b_max, and the tests
