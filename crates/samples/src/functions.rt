@@ -55,10 +55,12 @@ pub(crate) enum Function {
     Read,
     BidAsk,
     Board,
+    SqrtDigits,
+    SqrtAligned,
 }
 
 // By hand, as the names below: a macro that wrote them would be the repository's own, which the gate refuses.
-pub(crate) const ALL: [Function; 43] = [
+pub(crate) const ALL: [Function; 45] = [
     Function::ErfcAsPublished,
     Function::BitsOf,
     Function::Abs,
@@ -102,6 +104,8 @@ pub(crate) const ALL: [Function; 43] = [
     Function::Read,
     Function::BidAsk,
     Function::Board,
+    Function::SqrtDigits,
+    Function::SqrtAligned,
 ];
 
 impl Function {
@@ -164,6 +168,8 @@ impl Function {
             Function::Read => "read",
             Function::BidAsk => "bid_ask",
             Function::Board => "board",
+            Function::SqrtDigits => "sqrt_digits",
+            Function::SqrtAligned => "sqrt_aligned",
         }
     }
 
@@ -245,6 +251,8 @@ impl Function {
             Function::Read => records::read(line),
             Function::BidAsk => records::bid_ask(line),
             Function::Board => boards::board(line),
+            Function::SqrtDigits => Ok(sqrt_digits(line)),
+            Function::SqrtAligned => Ok(sqrt_aligned(line)),
         }
     }
 }
@@ -264,6 +272,24 @@ fn float(x: f64) -> Answer {
 fn erfc_as_published(line: Line) -> u64 {
     let [x, nearest, ..] = line.arguments;
     bits_of(cody::erfc(RULE_SET_0, float_of(x))).abs_diff(nearest)
+}
+
+// ---- the square root, digit by digit
+
+// x, and how many turns.
+fn sqrt_digits(line: Line) -> u64 {
+    let [x, ..] = line.floats();
+    elementary::sqrt::sqrt_digits(x, (line.arguments[1] % 4294967296) as u32)
+}
+
+// x, and which word: 0 the significand, any other the exponent, as 32 bits have it.
+fn sqrt_aligned(line: Line) -> u64 {
+    let [x, ..] = line.floats();
+    let aligned = elementary::sqrt::sqrt_aligned(x);
+    match line.arguments[1] {
+        0 => aligned.significand,
+        _ => aligned.exponent.cast_unsigned() as u64,
+    }
 }
 
 // ---- prices, a kind among their arguments

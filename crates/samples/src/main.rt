@@ -1,5 +1,6 @@
-// Replays answers of the Rust, and of a live board written from document 02's text: standard input has a line for
-// each, as `differential --samples` writes them. For each function it prints how many there are and whether all agree.
+// Replays answers of the Rust, and of a live board and the square root's digits written from document 02's text: standard
+// input has a line for each, as `differential --samples` writes them. For each function it prints how many there are and
+// whether all agree.
 #![tactic(auto)]
 
 mod boards;

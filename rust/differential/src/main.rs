@@ -28,6 +28,7 @@ mod pairs;
 mod prices;
 mod records;
 mod root_inputs;
+mod root_samples;
 mod roots;
 mod rule_sets;
 mod samples;

@@ -1,16 +1,16 @@
-//! The fixed list that crates/samples replays: answers of the Rust and of document 02's board, a line for each. The
-//! function's number in two decimal digits, nine arguments and the answer's bits in sixteen hexadecimal digits each, and
-//! the number of a refusal in two decimal digits, 00 where there is none.
+//! The fixed list that crates/samples replays: answers of the Rust and of what is written from document 02, a line for
+//! each. The function's number in two decimal digits, nine arguments and the answer's bits in sixteen hexadecimal digits
+//! each, and the number of a refusal in two decimal digits, 00 where there is none.
 //!
 //! Number 0 is erfc at published points: x, the float nearest to the true value, and how many units in the last place
-//! the rules are away from it. From 1 on the numbers are those of the table of functions, from 37 on layer 3's, and 42 is
-//! the live board's.
+//! the rules are away from it. From 1 on the numbers are those of the table of functions, from 37 on layer 3's, 42 is the
+//! live board's, and 43 and 44 are the square root's.
 
 use crate::{
     board_samples,
     functions::{Answer, Function, FUNCTIONS},
     inputs::{wide, Arguments},
-    records,
+    records, root_samples,
 };
 use random_words::Words;
 use rust_over_rules::lets_be_rational::cody::optimized::erfc;
@@ -69,4 +69,5 @@ pub fn write() {
     }
     records::write(SEED);
     board_samples::write(SEED);
+    root_samples::write(SEED);
 }
