@@ -1,7 +1,7 @@
 //! Measures the proved functions beside the Rust, over document 01's elementary functions and over std's, and writes a
-//! table: ns per call, and ours divided by theirs; then bid and ask beside two solves, the live board's calls by themselves,
-//! and what the crate's look at the environment costs. Exit status: 2 bad usage; 3 the Rust's source wasn't at hand when this
-//! was built, and there is nothing to compare with.
+//! table: ns per call, and ours divided by theirs; then a root's digits by themselves, bid and ask beside two solves, the
+//! live board's calls by themselves, and what the crate's look at the environment costs. Exit status: 2 bad usage; 3 the
+//! Rust's source wasn't at hand when this was built, and there is nothing to compare with.
 
 mod board;
 mod clock;
@@ -198,6 +198,19 @@ impl Bench {
         });
     }
 
+    /// All digits of a root by themselves: the Rust has no such function.
+    fn digits(&self) {
+        let name = "sqrt_digits, 53 turns";
+        if !self.wants(name) {
+            return;
+        }
+        println!("\n| ns per call | ours |");
+        println!("|---|---:|");
+        let mut digits = |x: &[f64; 3]| bits::sqrt_digits(x[0].to_bits(), 53);
+        let [ours] = measure(&inputs::arguments("sqrt", COUNT), [&mut over(&mut digits)], self.effort);
+        println!("| {name} | {ours:.1} |");
+    }
+
     fn prices(&self, region: &str) {
         self.row(
             &format!("black, {region}"),
@@ -344,6 +357,7 @@ fn main() {
     let bench = options();
     let Some(source) = rust_over_rules::SOURCE else {
         println!("no Rust source: there is nothing to compare with");
+        bench.digits();
         bench.board();
         bench.looks();
         exit(3);
@@ -361,6 +375,7 @@ fn main() {
     bench.between_the_caps();
     REGIONS.iter().for_each(|region| bench.prices(region));
     bench.elementary();
+    bench.digits();
     bench.bid_ask();
     bench.board();
     bench.listings();
