@@ -24,6 +24,7 @@ pub mod Errors
 pub mod Greatest
 pub mod Close
 pub mod Isqrt
+pub mod SqrtDigits
 pub mod SqrtNearest
 pub mod FmaOne
 pub mod Halving

@@ -3,9 +3,10 @@ use mathlib.Core.Path.{refl}
 use lib.Ieee.{add, sub, mul, neg, sum, round, size, units, of_bits, of_int}
 use Rattle.elementary.specs.Sqrt.{sqrt_of}
 use Rattle.elementary.specs.MulAdd.{fma}
-use Rattle.elementary.specs.Promises.{RoundIsNearest, SqrtIsRounded, NearestIsOne, ScaledIsRounded, MulAddIsRounded, FmaOne, FmaExamples, FloorIsGreatest, CdfIsFinite, InverseBrackets, RuleSetNumbers}
+use Rattle.elementary.specs.Promises.{RoundIsNearest, SqrtIsRounded, NearestIsOne, SqrtDigits, ScaledIsRounded, MulAddIsRounded, FmaOne, FmaExamples, FloorIsGreatest, CdfIsFinite, InverseBrackets, RuleSetNumbers}
 use Rattle.elementary.proofs.Laws.Rounding.{round_rounded, fraction_one, scaled_rounded, fma_rounded, fma_addend, fma_factor}
 use Rattle.elementary.proofs.Laws.SqrtNearest.{sqrt_rounded, sqrt_none, root_one}
+use Rattle.elementary.proofs.Laws.SqrtDigits.{alignment, state_found, state_one, first, no_digits}
 use Rattle.elementary.proofs.Laws.FmaOne as factor
 use Rattle.elementary.proofs.Laws.Greatest.{floor_greatest, greatest_unique, floor_other}
 use Rattle.elementary.proofs.Laws.Finite.{cdf_finite}
@@ -26,6 +27,9 @@ sqrt_is_rounded = record {
 
 pub nearest_is_one : NearestIsOne
 nearest_is_one = record { fraction = fraction_one; root = root_one }
+
+pub sqrt_digits_found : SqrtDigits
+sqrt_digits_found = record { aligned = alignment; found = state_found; found_one = state_one; first = first; none = no_digits }
 
 pub scaled_is_rounded : ScaledIsRounded
 scaled_is_rounded = scaled_rounded

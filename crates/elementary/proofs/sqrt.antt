@@ -1,5 +1,5 @@
 -- What the proofs of the square root use.
-mod Alignment
-mod Turns
-mod Found
-mod Rounding
+pub mod Alignment
+pub mod Turns
+pub mod Found
+pub mod Rounding

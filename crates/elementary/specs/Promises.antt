@@ -1,5 +1,5 @@
 -- What this layer promises beyond the contracts of its functions. Each promise is a statement, and proofs/Promised.antt proves it.
-use Rattle.std.specs.Prelude.{◌≡◌, Bool, true, false, not, cond, ◌&&◌, ◌||◌, ℕ, suc, ◌+◌, ◌-◌, ◌*◌, ◌%◌, ◌^◌, ◌≤◌, ◌<◌, ℤ, T, ltb, Float, Ok, is_ok}
+use Rattle.std.specs.Prelude.{◌≡◌, Bool, true, false, not, cond, ◌&&◌, ◌||◌, ℕ, suc, ◌+◌, ◌-◌, ◌*◌, ◌%◌, ◌^◌, ◌≤◌, ◌<◌, ℤ, nat_abs, T, ltb, Float, Ok, is_ok}
 use Rattle.std.specs.Bool.{beq}
 use Rattle.std.specs.Float.{nan, inf, fin, Format, binary64}
 use Rattle.std.specs.Float.Ieee.{emax, low, up, down, unlike, round, add, mul, neg, lt, le, fits, is_nan, to_bits}
@@ -11,8 +11,9 @@ use Rattle.elementary.specs.declared.rule_set.RuleSet.{RuleSet}
 use Rattle.elementary.specs.RuleSets.{rule_set_0, rule_set_1, rule_set_of}
 use Rattle.elementary.specs.Methods.{sign_of}
 use Rattle.elementary.specs.Floor.{floor_of}
+use Rattle.elementary.specs.declared.sqrt.Aligned.{Aligned}
 use Rattle.elementary.specs.declared.sqrt.Digits.{Digits}
-use Rattle.elementary.specs.Sqrt.{in_units, sqrt_of}
+use Rattle.elementary.specs.Sqrt.{in_units, sqrt_of, aligned_of, sqrt_digits_of}
 use Rattle.elementary.specs.MulAdd.{fma}
 use Rattle.elementary.specs.Exp.{scaled}
 use Rattle.elementary.specs.NormalDistribution.{lowest, highest, cdf_of, ends_of, inverse_of}
@@ -66,25 +67,49 @@ pub record SqrtIsRounded : Type 0 where
   -- The root of a NaN, and of what is below 0, −infinity too, is NaN.
   pub none : (f : Format) (x : Float) → T (is_nan x || lt x +0) → sqrt_of f x ≡ nan
 
--- A number of so many turns' digits, followed by zeros: 2 ^ -52 is the place of the last one, and the number is a whole one of that.
-abbrev pub followed_by_zeros : ℕ → ℕ → ℕ
-followed_by_zeros turns d = d * 2 ^ (53 - turns)
-
--- After some turns the digits d of the root of a × 2 ^ -52 are found, and the state is that of the code's loop.
-pub record DigitsFound (a turns d : ℕ) (state : Digits) : Type 0 where
-  -- It has the digits found, followed by zeros,
-  pub digits : state.doubled ≡ 2 * followed_by_zeros turns d
-  -- whose square is not above the aligned significand,
-  pub not_above : followed_by_zeros turns d * followed_by_zeros turns d ≤ a * 2 ^ 52
-  -- and that are the greatest such number;
-  pub greatest : (e : ℕ) → followed_by_zeros turns e * followed_by_zeros turns e ≤ a * 2 ^ 52 → followed_by_zeros turns e ≤ followed_by_zeros turns d
-  -- and twice what is left between the two, in units of the last digit found.
-  pub left : 2 * (followed_by_zeros turns d * followed_by_zeros turns d) + state.left * 2 ^ (53 - turns) ≡ 2 * (a * 2 ^ 52)
-
 -- There is one rounded value of a fraction, and one of a root: what is said of it leaves no choice.
 pub record NearestIsOne : Type 0 where
   pub fraction : (f : Format) (s : Bool) (a c : ℕ) (r q : Float) → 0 < c → Rounded f s a c r → Rounded f s a c q → r ≡ q
   pub root : (f : Format) (x r q : Float) → RoundedRoot f x r → RoundedRoot f x q → r ≡ q
+
+-- ---- the square root's digits
+
+-- A finite number above 0, aligned: it is significand × 2^-52 × 2^exponent,
+pub record Alignment (x : Float) (a : Aligned) : Type 0 where
+  pub value : HasValue x false (a.significand * up a.exponent) (2 ^ 52 * down a.exponent)
+  -- the exponent is even, and the significand × 2^-52 is from 1 up, below 4.
+  pub even : nat_abs a.exponent % 2 ≡ 0
+  pub from_1 : 2 ^ 52 ≤ a.significand
+  pub below_4 : a.significand < 2 ^ 54
+
+-- The digits d of so many turns, followed by zeros: d × 2^(1 - turns) as a whole number of 2^-52, the place of the 53rd digit.
+abbrev pub followed_by_zeros : ℕ → ℕ → ℕ
+followed_by_zeros turns d = d * 2 ^ (53 - turns)
+
+abbrev pub square : ℕ → ℕ
+square n = n * n
+
+-- After some turns the digits d of the root of a × 2^-52 are found. The state is the one that the code carries from turn to turn.
+pub record DigitsFound (a turns d : ℕ) (state : Digits) : Type 0 where
+  -- It has the digits found, followed by zeros, and doubled.
+  pub digits : state.doubled ≡ 2 * followed_by_zeros turns d
+  -- Their square is not above the aligned significand,
+  pub not_above : square (followed_by_zeros turns d) ≤ a * 2 ^ 52
+  -- and they are the greatest such number.
+  pub greatest : (e : ℕ) → square (followed_by_zeros turns e) ≤ a * 2 ^ 52 → followed_by_zeros turns e ≤ followed_by_zeros turns d
+  -- It has what is left of the significand, doubled, and in units of the place of the last digit found.
+  pub left : 2 * square (followed_by_zeros turns d) + state.left * 2 ^ (53 - turns) ≡ 2 * (a * 2 ^ 52)
+
+pub record SqrtDigits : Type 0 where
+  -- Every finite x above 0 is aligned, a subnormal one too.
+  pub aligned : (x : Float) → T (fits binary64 x) → T (positive x) → Alignment x (aligned_of x)
+  -- After each of the 53 turns the digits are found: there is a state that has them, and no other one.
+  pub found : (x : Float) → T (fits binary64 x) → T (positive x) → (turns : ℕ) → turns ≤ 53 → (state : Digits) × DigitsFound (aligned_of x).significand turns (sqrt_digits_of x turns) state
+  pub found_one : (a turns d e : ℕ) (s t : Digits) → turns ≤ 53 → DigitsFound a turns d s → DigitsFound a turns e t → (d ≡ e) × (s ≡ t)
+  -- The first digit is 1.
+  pub first : (x : Float) → T (fits binary64 x) → T (positive x) → sqrt_digits_of x 1 ≡ 1
+  -- Any other x has no digits.
+  pub none : (x : Float) → T (not (positive x)) → (turns : ℕ) → sqrt_digits_of x turns ≡ 0
 
 -- p × 2^k is rounded once, for a finite p = ±m × 2^e and every whole k.
 abbrev pub ScaledIsRounded : Type 0

@@ -1,6 +1,6 @@
-// The square root, correctly rounded, in whole numbers: the exponent first, then a binary digit a turn.
-// std's f64::sqrt is proved too; ours stays, since document 01 has it written anew, and wrong programs
-// change its steps.
+// The square root, correctly rounded, in whole numbers: the exponent first, then a binary digit a turn, from
+// the top. std's f64::sqrt is proved too; ours stays, since document 01 has it written anew, and wrong
+// programs change its steps.
 ghost use Rattle.std.specs.Prelude.{◌≡◌, ◌<◌, ◌≤◌, ◌-◌, ◌*◌, ◌^◌, map};
 ghost use Rattle.std.specs.Float.{binary64};
 ghost use Rattle.std.specs.Float.Ieee.{of_bits};
@@ -8,19 +8,19 @@ ghost use Rattle.elementary.specs.Sqrt.{sqrt_of, aligned_units, aligned_of, firs
 ghost use Rattle.elementary.specs.Promises.{DigitsFound};
 ghost use Rattle.elementary.specs.Inside.Sqrt.{turn_of, AllAligned, AllFound};
 
-// The digits that a root has: one a turn.
+// As many as an `f64` has digits.
 pub const TURNS: u32 = 53;
 
-// A finite number above 0 is significand * 2^-52 * 2^exponent. The significand is from 1 up, below 4, and the
-// exponent even. Of any other number both are 0.
+// A finite number above 0 is significand * 2^-52 * 2^exponent: the exponent is even, and significand * 2^-52
+// is from 1 up, below 4. Of any other number both are 0.
 #[derive(Clone, Copy)]
 pub struct Aligned {
     pub significand: u64,
     pub exponent: i32,
 }
 
-// A root's state: twice the digits found, followed by zeros, and what is left of the significand for the
-// next ones, doubled at each turn.
+// What a root's turns carry: twice the digits found, followed by zeros, and what is left of the significand,
+// doubled at each turn. (With the digits as they are the compiler makes branches of a turn, not moves.)
 #[derive(Clone, Copy)]
 pub struct Digits {
     pub doubled: u64,
@@ -29,7 +29,8 @@ pub struct Digits {
 
 // ---- the exponent
 
-// m * 2^(e - 1) of the smallest values of an `f64`, for an m above 0.
+// m * 2^(e - 1) of the smallest values of an `f64`, for an m above 0, aligned. 11 of m's leading zeros are in
+// front of its 53 places.
 fn aligned_significand(m: u64, e: u64) -> Aligned
     requires { (0 < m) × (m < 2 ^ 53) × (1 ≤ e) × (e < 2047) }
     ensures { result ≡ aligned_units (m * 2 ^ (e - 1)) }
@@ -43,6 +44,7 @@ fn aligned_significand(m: u64, e: u64) -> Aligned
     }
 }
 
+// x, aligned. A field of 0 has no leading digit and counts as a field of 1.
 pub fn sqrt_aligned(x: f64) -> Aligned
     ensures { result ≡ aligned_of x }
 {
@@ -64,7 +66,7 @@ pub fn sqrt_aligned(x: f64) -> Aligned
 
 // ---- the digits
 
-// The next digit, at its place: 1 if the square does not get above the significand.
+// The next digit, at its place: 1 where the square then is not above the significand.
 #[inline(always)]
 fn turn(d: Digits, place: u64) -> Digits
     requires { (d.doubled < 2 ^ 54) × (d.left < 2 ^ 56) × (place ≤ 2 ^ 52) }
@@ -84,7 +86,7 @@ fn turn(d: Digits, place: u64) -> Digits
     }
 }
 
-// The first digits of each root, side by side.
+// The first digits of each root, side by side: the turns of one do not wait for those of another.
 #[inline(always)]
 fn find_digits<const N: usize>(aligned: [Aligned; N], turns: u32) -> [Digits; N]
     requires { (turns ≤ 53) × AllAligned aligned }
@@ -110,6 +112,7 @@ fn find_digits<const N: usize>(aligned: [Aligned; N], turns: u32) -> [Digits; N]
     found
 }
 
+// The first digits of the root of x's aligned significand as a whole number; after the last turn all 53.
 pub fn sqrt_digits(x: f64, turns: u32) -> u64
     ensures { result ≡ sqrt_digits_of x turns }
 {
@@ -120,8 +123,9 @@ pub fn sqrt_digits(x: f64, turns: u32) -> u64
 
 // ---- the root
 
-// The root of x from its digits and what is left behind them: rounded up where that is above half of the last
-// digit's place. A zero and +infinity have no digits and stay themselves, a NaN and whatever is below 0 give NaN.
+// The root of x: up from its digits where what is left is above them, since the middle between them and the
+// next number lies there. A zero and +infinity have no digits and stay themselves; a NaN and whatever is below
+// 0 give NaN.
 #[inline(always)]
 fn rounded(x: f64, a: Aligned, d: Digits) -> f64
     requires { (a ≡ aligned_of x) × DigitsFound a.significand 53 (first_digits 53 a.significand) d }
@@ -135,7 +139,7 @@ fn rounded(x: f64, a: Aligned, d: Digits) -> f64
     f64::from_bits(half_exponent * 0x10_0000_0000_0000 + d.doubled / 2 + up)
 }
 
-// IEEE 754's squareRoot of each, side by side: the roots do not wait for each other.
+// IEEE 754's squareRoot of each. N has a bound since an array has to have a size.
 #[inline(always)]
 fn sqrts<const N: usize>(x: [f64; N]) -> [f64; N]
     requires { N ≤ 4 }
@@ -163,14 +167,14 @@ pub fn sqrt(x: f64) -> f64
     sqrts([x])[0]
 }
 
-// Those of three, in little more time than one.
+// Of three, side by side.
 pub fn sqrt_3(x: [f64; 3]) -> [f64; 3]
     ensures { result ≡ map (sqrt_of binary64) x }
 {
     sqrts(x)
 }
 
-// Those of four.
+// Of four.
 pub fn sqrt_4(x: [f64; 4]) -> [f64; 4]
     ensures { result ≡ map (sqrt_of binary64) x }
 {

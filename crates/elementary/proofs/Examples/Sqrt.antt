@@ -1,9 +1,10 @@
 -- The definition at closed inputs, computed by antt.
 use mathlib.Core.Path.{◌≡◌, refl}
 use mathlib.Core.Bool.{true, false}
-use lib.IntN.{pos}
+use lib.IntN.{pos, negsuc}
 use lib.Ieee.{binary32, binary64, nan, inf, fin, of_bits, units, size}
-use Rattle.elementary.specs.Sqrt.{sqrt_of}
+use Rattle.elementary.specs.declared.sqrt.Aligned.{Aligned}
+use Rattle.elementary.specs.Sqrt.{isqrt, root_by, in_units, sqrt_of, aligned_of, first_digits, sqrt_digits_of}
 
 root_of_4 : sqrt_of binary64 (fin false 1 (pos 2)) ≡ fin false 1 (pos 1)
 unfolding sqrt_of units size
@@ -37,3 +38,26 @@ root_of_infinity = refl
 root_of_2_single : sqrt_of binary32 (of_bits binary32 0x4000_0000) ≡ of_bits binary32 0x3fb5_04f3
 unfolding sqrt_of of_bits units size
 root_of_2_single = refl
+
+-- ---- the digits: √2 is 1.0110101.. in binary
+digits_of_2 : sqrt_digits_of (of_bits binary64 0x4000_0000_0000_0000) 8 ≡ 0b1011_0101
+unfolding aligned_of first_digits in_units isqrt root_by of_bits units size
+digits_of_2 = refl
+
+-- past the last turn
+all_digits_of_2 : sqrt_digits_of (of_bits binary64 0x4000_0000_0000_0000) 4294967295 ≡ 0x16_a09e_667f_3bcc
+unfolding aligned_of first_digits in_units isqrt root_by of_bits units size
+all_digits_of_2 = refl
+
+-- 0.5 is 2 × 2 ^ -2, and the least value above 0 is 1 × 2 ^ -1074
+half_aligned : aligned_of (of_bits binary64 0x3fe0_0000_0000_0000) ≡ record { significand = 0x20_0000_0000_0000; exponent = negsuc 1 }
+unfolding aligned_of in_units of_bits units size
+half_aligned = refl
+
+least_aligned : aligned_of (of_bits binary64 1) ≡ record { significand = 0x10_0000_0000_0000; exponent = negsuc 1073 }
+unfolding aligned_of in_units of_bits units size
+least_aligned = refl
+
+minus_one_not_aligned : aligned_of (fin true 1 (pos 0)) ≡ record { significand = 0; exponent = pos 0 }
+unfolding aligned_of
+minus_one_not_aligned = refl

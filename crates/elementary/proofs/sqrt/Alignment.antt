@@ -61,8 +61,7 @@ module _ {m : ℕ} (k : ℕ) (M : (0 < m) × (m < 2 ^ 53)) where
   in_range =
       let t = top in
       let l : 52 ≤ t.0 + shift = omega (arith, zeros_in) in
-      let u : suc t.0 + shift ≤ 54 = omega (arith, zeros_in) in
-      (
+      let u : suc t.0 + shift ≤ 54 = omega (arith, zeros_in) in (
         le_trans (pow_mono l) (rw (pow-add 2 t.0 shift) (mul-le-mul_right (2 ^ shift) t.2)),
         lt_of_lt_of_le (shl_lt (suc t.0) shift t.3) (pow_mono u),
       )

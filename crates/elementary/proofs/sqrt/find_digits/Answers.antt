@@ -22,8 +22,8 @@ loop-init g c =
       refl,
       c.loop-i.invariant.0,
       λ j h.
-      let a = significand_at j c.args.aligned in
-      subst (DigitsFound a 0 (first_digits 0 a)) (sym (c.loop-i.invariant.1 j (omega (arith, n, h, c.loop-i-test.false)))) (before a (c.requires.1.each j h)),
+          let a = significand_at j c.args.aligned in
+          subst (DigitsFound a 0 (first_digits 0 a)) (sym (c.loop-i.invariant.1 j (omega (arith, n, h, c.loop-i-test.false)))) (before a (c.requires.1.each j h)),
     )
 
 -- ---- a digit's place
@@ -67,17 +67,16 @@ loop-i-2-preserved g c =
     let here : Kept xs i (t + 1) c.turn.result = rw c.turn.ensures (turned xs i t c.loop.place (digits_at i ds) c.requires.1 l T c.loop.invariant.0 (c.loop-i-2.invariant.2 i (le_refl i) l)) in (
       search rules,
       λ j h.
-      elim (eq-or-lt_of_le {n = j} {m = i} (omega arith)) [
-        | inl e ↦ rw e (subst (Kept xs i (t + 1)) (sym (get_or-set_same ds i c.turn.result _ (omega (arith, l, c.loop-i-2.invariant.0)))) here)
-        | inr k ↦ subst (Kept xs j (t + 1)) (sym (get_or-set_other ds i j c.turn.result _ (λ e. omega arith))) (c.loop-i-2.invariant.1 j k)
-      ],
+          elim (eq-or-lt_of_le {n = j} {m = i} (omega arith)) [
+            | inl e ↦ rw e (subst (Kept xs i (t + 1)) (sym (get_or-set_same ds i c.turn.result _ (omega (arith, l, c.loop-i-2.invariant.0)))) here)
+            | inr k ↦ subst (Kept xs j (t + 1)) (sym (get_or-set_other ds i j c.turn.result _ (λ e. omega arith))) (c.loop-i-2.invariant.1 j k)
+          ],
       λ j k h. subst (Kept xs j t) (sym (get_or-set_other ds i j c.turn.result _ (λ e. omega arith))) (c.loop-i-2.invariant.2 j (omega arith) h),
     )
 
 pub loop-preserved : goal.loop-preserved
 loop-preserved g c =
-    let n : length c.args.aligned ≡ g.row.N = search rules in
-    (
+    let n : length c.args.aligned ≡ g.row.N = search rules in (
       ap (λ (z : ℕ). z / 2) c.loop.invariant.0 ∙ half_place c.loop.counter,
       c.loop-i-2.invariant.0,
       λ j h. c.loop-i-2.invariant.1 j (omega (arith, n, h, c.loop-i-2-test.false)),

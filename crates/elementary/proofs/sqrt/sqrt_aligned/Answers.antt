@@ -122,7 +122,6 @@ returns-then-e-lt2047 c =
     let x = c.args.x in
     c.aligned_significand-then-e-lt2047.ensures ∙ sym (mid x (x_fits x c.well_formed.0.1) c.if-x.true c.if-e-eq0.false c.if-e-lt2047.true)
 
-
 pub aligned_significand-requires : goal.aligned_significand-requires
 aligned_significand-requires c =
     let x = c.args.x in

@@ -25,4 +25,4 @@ returns g c =
     let f = sqrt_of binary64 in
     ext_get_or nan c.loop-i-2.root (map f c.args.x) (c.loop-i-2.invariant.0 ∙ sym (length-map c.args.x f))
     (λ i h.
-      c.loop-i-2.invariant.1 i (omega (arith, h, n, c.loop-i-2.invariant.0, c.loop-i-2-test.false)) ∙ sym (get_or-map f c.args.x i nan nan (omega (arith, h, c.loop-i-2.invariant.0))))
+    c.loop-i-2.invariant.1 i (omega (arith, h, n, c.loop-i-2.invariant.0, c.loop-i-2-test.false)) ∙ sym (get_or-map f c.args.x i nan nan (omega (arith, h, c.loop-i-2.invariant.0))))
