@@ -13,7 +13,7 @@ use Rattle.elementary.specs.Methods.{sign_of}
 use Rattle.elementary.specs.Floor.{floor_of}
 use Rattle.elementary.specs.declared.sqrt.Aligned.{Aligned}
 use Rattle.elementary.specs.declared.sqrt.Digits.{Digits}
-use Rattle.elementary.specs.Sqrt.{in_units, sqrt_of, aligned_of, sqrt_digits_of}
+use Rattle.elementary.specs.Sqrt.{in_units, sqrt_of, aligned_of, sqrt_digits_of, after_turns}
 use Rattle.elementary.specs.MulAdd.{fma}
 use Rattle.elementary.specs.Exp.{scaled}
 use Rattle.elementary.specs.NormalDistribution.{lowest, highest, cdf_of, ends_of, inverse_of}
@@ -89,7 +89,7 @@ followed_by_zeros turns d = d * 2 ^ (53 - turns)
 abbrev pub square : ℕ → ℕ
 square n = n * n
 
--- After some turns the digits d of the root of a × 2^-52 are found. The state is the one that the code carries from turn to turn.
+-- After some turns the digits d of the root of a × 2^-52 are found. The state is what the code's loop carries from turn to turn, and this is its invariant.
 pub record DigitsFound (a turns d : ℕ) (state : Digits) : Type 0 where
   -- It has the digits found, followed by zeros, and doubled.
   pub digits : state.doubled ≡ 2 * followed_by_zeros turns d
@@ -103,8 +103,11 @@ pub record DigitsFound (a turns d : ℕ) (state : Digits) : Type 0 where
 pub record SqrtDigits : Type 0 where
   -- Every finite x above 0 is aligned, a subnormal one too.
   pub aligned : (x : Float) → T (fits binary64 x) → T (positive x) → Alignment x (aligned_of x)
-  -- After each of the 53 turns the digits are found: there is a state that has them, and no other one.
-  pub found : (x : Float) → T (fits binary64 x) → T (positive x) → (turns : ℕ) → turns ≤ 53 → (state : Digits) × DigitsFound (aligned_of x).significand turns (sqrt_digits_of x turns) state
+  -- After each of the 53 turns its digits are found.
+  pub found : (x : Float) → T (fits binary64 x) → T (positive x) → (turns : ℕ) → turns ≤ 53
+      → let a = (aligned_of x).significand in
+      DigitsFound a turns (sqrt_digits_of x turns) (after_turns turns a)
+  -- No other digits are, and in no other state.
   pub found_one : (a turns d e : ℕ) (s t : Digits) → turns ≤ 53 → DigitsFound a turns d s → DigitsFound a turns e t → (d ≡ e) × (s ≡ t)
   -- The first digit is 1.
   pub first : (x : Float) → T (fits binary64 x) → T (positive x) → sqrt_digits_of x 1 ≡ 1

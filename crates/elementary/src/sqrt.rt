@@ -4,9 +4,9 @@
 ghost use Rattle.std.specs.Prelude.{◌≡◌, ◌<◌, ◌≤◌, ◌-◌, ◌*◌, ◌^◌, map};
 ghost use Rattle.std.specs.Float.{binary64};
 ghost use Rattle.std.specs.Float.Ieee.{of_bits};
-ghost use Rattle.elementary.specs.Sqrt.{sqrt_of, aligned_units, aligned_of, first_digits, sqrt_digits_of};
+ghost use Rattle.elementary.specs.Sqrt.{sqrt_of, aligned_units, aligned_of, first_digits, sqrt_digits_of, turn_of};
 ghost use Rattle.elementary.specs.Promises.{DigitsFound};
-ghost use Rattle.elementary.specs.Inside.Sqrt.{turn_of, AllAligned, AllFound};
+ghost use Rattle.elementary.specs.Inside.Sqrt.{AllAligned, AllFound};
 
 // As many as an `f64` has digits.
 pub const TURNS: u32 = 53;

@@ -3,7 +3,6 @@ use mathlib.Core.Path.{◌≡◌, refl}
 use mathlib.Core.Bool.{true, false}
 use lib.IntN.{pos, negsuc}
 use lib.Ieee.{binary32, binary64, nan, inf, fin, of_bits, units, size}
-use Rattle.elementary.specs.declared.sqrt.Aligned.{Aligned}
 use Rattle.elementary.specs.Sqrt.{isqrt, root_by, in_units, sqrt_of, aligned_of, first_digits, sqrt_digits_of}
 
 root_of_4 : sqrt_of binary64 (fin false 1 (pos 2)) ≡ fin false 1 (pos 1)

@@ -1,21 +1,21 @@
 -- A finite number above 0 is aligned, and after each turn the digits of its root are found. Assumes nothing.
-use mathlib.Core.Path.{◌≡◌, refl, sym, ap, subst, ◌∙◌}
+use mathlib.Core.Path.{◌≡◌, refl, sym, ap, ◌∙◌}
 use mathlib.Core.Bool.{Bool, true, false, not, cond}
 use Prim.Native.Nat.{ℕ, zero, suc, ◌+◌, ◌-◌, ◌*◌, ◌/◌, ◌%◌, ◌^◌, ◌≤◌, ◌<◌, min}
-use native.Mathlib.Nat.{le_refl, mul_assoc, mul_comm, mul_left_comm, mul-one, mul-div_cancel, zero-mul, zero-div}
+use native.Mathlib.Nat.{mul_assoc, mul-one, mul-div_cancel, zero-mul}
 use native.Mathlib.Omega.{arith}
 use lib.Dec.{T, ltb, ltb→lt, nltb→le}
-use lib.IntN.{ℤ, pos, negsuc, nat_abs, ◌-ℤ◌}
+use lib.IntN.{pos, negsuc, nat_abs, ◌-ℤ◌}
 use lib.Pow.{pow-add, pow_pos}
-use lib.Ieee.{Float, nan, inf, fin, Format, binary64, low, up, down, fits}
+use lib.Ieee.{Float, nan, inf, fin, binary64, up, down, fits}
 use lib.Ieee.Exact.{HasValue}
 use lib.Ieee.Fits.{down_pos}
 use Rattle.elementary.proofs.Laws.Held.{holds}
 use lib.Ieee.Positive.{positive}
 use Rattle.elementary.specs.declared.sqrt.Aligned.{Aligned}
 use Rattle.elementary.specs.declared.sqrt.Digits.{Digits}
-use Rattle.elementary.specs.Sqrt.{isqrt, in_units, even_place, aligned_units, aligned_of, first_digits, sqrt_digits_of}
-use Rattle.elementary.specs.Promises.{Alignment, followed_by_zeros, DigitsFound}
+use Rattle.elementary.specs.Sqrt.{isqrt, in_units, even_place, aligned_units, aligned_of, first_digits, sqrt_digits_of, after_turns}
+use Rattle.elementary.specs.Promises.{Alignment, DigitsFound}
 use Rattle.elementary.proofs.Laws.Isqrt.{sq_lt, isqrt_root}
 use Rattle.elementary.proofs.Laws.Places.{in_units_lem}
 use Rattle.elementary.proofs.Laws.Values.{revalue}
@@ -96,17 +96,13 @@ module _ (x : Float) (f : T (fits binary64 x)) (p : T (positive x)) where
       omega (arith, sq_lt 1 (suc (isqrt n)) (omega arith), sq_lt (isqrt n) 2 (omega arith))
 
   -- ---- the digits
-  pub state_found : (turns : ℕ) → turns ≤ 53 → (state : Digits) × DigitsFound (aligned_of x).significand turns (sqrt_digits_of x turns) state
-  state_found turns h =
-      let i : min turns 53 ≡ turns = omega arith in
-      let s = go turns h in
-      rw i s
+  pub state_found : (turns : ℕ) → turns ≤ 53 → DigitsFound (aligned_of x).significand turns (sqrt_digits_of x turns) (after_turns turns (aligned_of x).significand)
+  unfolding after_turns
+  state_found turns h = let i : min turns 53 ≡ turns = omega arith in rw i (go turns h)
     where
-      go : (j : ℕ) → j ≤ 53 → (state : Digits) × DigitsFound (aligned_of x).significand j (first_digits j (aligned_of x).significand) state
-      go zero h = (_, before (aligned_of x).significand significand_in.1)
-      go (suc j) h =
-          let s = go j (omega arith) in
-          (_, after (aligned_of x).significand significand_in.1 j _ s.0 (omega arith) s.1)
+      go : (j : ℕ) → j ≤ 53 → DigitsFound (aligned_of x).significand j (first_digits j (aligned_of x).significand) (after_turns j (aligned_of x).significand)
+      go zero h = before (aligned_of x).significand significand_in.1
+      go (suc j) h = after (aligned_of x).significand significand_in.1 j _ _ (omega arith) (go j (omega arith))
 
 -- ---- one state
 pub state_one : (a turns d e : ℕ) (s t : Digits) → turns ≤ 53 → DigitsFound a turns d s → DigitsFound a turns e t → (d ≡ e) × (s ≡ t)

@@ -7,9 +7,8 @@ use native.Mathlib.Omega.{arith}
 use lib.Dec.{T, ltb, ltb→lt, nltb→le}
 use lib.Pow.{pow_pos, pow_mono}
 use Rattle.elementary.specs.declared.sqrt.Digits.{Digits}
-use Rattle.elementary.specs.Sqrt.{first_digits}
+use Rattle.elementary.specs.Sqrt.{first_digits, turn_of}
 use Rattle.elementary.specs.Promises.{DigitsFound}
-use Rattle.elementary.specs.Inside.Sqrt.{turn_of}
 use Rattle.elementary.proofs.sqrt.Turns.{Turned, at_first, zero_digit, one_digit, small, not_above, greatest, digits_are}
 
 -- ---- the promise, and what it says of plain numbers

@@ -1,15 +1,9 @@
 -- What the contracts of the square root's digits say. Definitions only.
-use Rattle.std.specs.Prelude.{ℕ, ◌+◌, ◌-◌, ◌*◌, ◌^◌, ◌<◌, ltb, cond, List, length, slice_index_or, pos}
+use Rattle.std.specs.Prelude.{ℕ, ◌^◌, ◌<◌, List, length, slice_index_or, pos}
 use Rattle.elementary.specs.declared.sqrt.Aligned.{Aligned}
 use Rattle.elementary.specs.declared.sqrt.Digits.{Digits}
 use Rattle.elementary.specs.Sqrt.{first_digits}
 use Rattle.elementary.specs.Promises.{DigitsFound}
-
--- a turn, at its digit's place
-abbrev pub turn_of : ℕ → Digits → Digits
-turn_of place d =
-    let taken = d.doubled + place in
-    cond (ltb d.left taken) (record { doubled = d.doubled; left = 2 * d.left }) (record { doubled = taken + place; left = 2 * (d.left - taken) })
 
 -- the significand of the one at a place
 abbrev pub significand_at : ℕ → List Aligned → ℕ

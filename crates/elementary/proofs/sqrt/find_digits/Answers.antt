@@ -10,9 +10,9 @@ use lib.Pow.{pow-add, pow_pos}
 use Rattle.std.proofs.lemmas.List.{get_or-set_same, get_or-set_other}
 use Rattle.elementary.specs.declared.sqrt.Aligned.{Aligned}
 use Rattle.elementary.specs.declared.sqrt.Digits.{Digits}
-use Rattle.elementary.specs.Sqrt.{first_digits}
+use Rattle.elementary.specs.Sqrt.{first_digits, turn_of}
 use Rattle.elementary.specs.Promises.{DigitsFound}
-use Rattle.elementary.specs.Inside.Sqrt.{turn_of, significand_at, digits_at, AllAligned}
+use Rattle.elementary.specs.Inside.Sqrt.{significand_at, digits_at, AllAligned}
 use Rattle.elementary.proofs.sqrt.Found.{before, bounds, after}
 use Rattle.elementary.proofs.sqrt.find_digits.Goals as goal
 
