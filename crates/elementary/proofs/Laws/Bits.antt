@@ -31,6 +31,10 @@ nan_by x h = is_nan_lem x (rw (← h) tt)
 pub no_nan : (x : Float) → ne x x ≡ false → T (not (is_nan x))
 no_nan x h = rw (← ne_self x, h) tt
 
+-- an `f64` is a value of the format
+pub fits_by : (x : Float) → fits binary64 x ≡ true → T (fits binary64 x)
+fits_by x h = rw h tt
+
 pub nan_pattern : (b : ℕ) → 2047 * 2 ^ 52 < b % 2 ^ 63 → of_bits binary64 b ≡ nan
 nan_pattern b h = is_nan_lem _ (rw (← nan_bits_is binary64 b, nan_bits_above binary64 b) (lt→ltb (2047 * 2 ^ 52) (b % 2 ^ 63) h))
 

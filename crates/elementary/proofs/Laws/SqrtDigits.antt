@@ -19,6 +19,7 @@ use Rattle.elementary.specs.Promises.{Alignment, DigitsFound}
 use Rattle.elementary.proofs.Laws.Isqrt.{sq_lt, isqrt_root}
 use Rattle.elementary.proofs.Laws.Places.{in_units_lem}
 use Rattle.elementary.proofs.Laws.Values.{revalue}
+use Rattle.elementary.proofs.sqrt.Alignment.{aligned_none}
 use Rattle.elementary.proofs.sqrt.Found.{before, after, turned}
 use Rattle.elementary.proofs.sqrt.Rounding as rounding
 use Rattle.elementary.proofs.sqrt.Turns.{digits_are}
@@ -128,9 +129,9 @@ isqrt_0 : isqrt 0 ≡ 0
 isqrt_0 = let r = isqrt_root 0 in omega (arith, sq_lt (isqrt 0) 1 (omega arith))
 
 pub no_digits : (x : Float) → T (not (positive x)) → (turns : ℕ) → sqrt_digits_of x turns ≡ 0
-unfolding aligned_of first_digits
-no_digits x h turns = go (positive x) h
+unfolding first_digits
+no_digits x h turns = go (positive x) refl h
   where
-    go : (b : Bool) → T (not b) → isqrt ((cond b (aligned_units (in_units binary64 x)) (record { significand = 0; exponent = pos 0 })).significand * 4 ^ min turns 53 / 2 ^ 54) ≡ 0
-    go false g = rw (zero-mul (4 ^ min turns 53)) isqrt_0
-    go true g = absurd g
+    go : (b : Bool) → positive x ≡ b → T (not b) → sqrt_digits_of x turns ≡ 0
+    go false e g = rw (aligned_none x e, zero-mul (4 ^ min turns 53)) isqrt_0
+    go true e g = absurd g

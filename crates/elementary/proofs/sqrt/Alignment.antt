@@ -4,7 +4,7 @@ use mathlib.Core.Bool.{Bool, true, false, cond}
 use Prim.Native.Nat.{ℕ, suc, ◌+◌, ◌-◌, ◌*◌, ◌/◌, ◌%◌, ◌^◌, ◌≤◌, ◌<◌}
 use native.Mathlib.Nat.{le_trans, lt_of_not-le, not-le_of_lt, lt_of_lt_of_le, mul_assoc, mul-le-mul_right, mul-div_cancel, mod-eq_of_lt, div-lt_iff_lt-mul, le_of_eq}
 use native.Mathlib.Omega.{arith}
-use lib.Dec.{ltb}
+use lib.Dec.{T, ltb}
 use lib.Pow.{pow-add, pow_pos, pow_mono, shl_lt}
 use lib.Count.{count_leading_zeros, leading_top}
 use lib.Ieee.{Float, binary64, size}
@@ -99,10 +99,22 @@ significand_lt_4 n =
     let l : n < 2 ^ e * 2 ^ 2 = lt_of_lt_of_le (size-lt n) (le_trans (pow_mono i) (le_of_eq (pow-add 2 e 2))) in
     (div-lt_iff_lt-mul (pow_pos e)).1 (omega arith)
 
-pub significand_lt : (x : Float) → (aligned_of x).significand < 2 ^ 54
+-- by whether it is above 0, and finite
+pub aligned_above : (x : Float) → T (positive x) → aligned_of x ≡ aligned_units (in_units binary64 x)
 unfolding aligned_of
-significand_lt x = go (positive x)
+aligned_above x p = rw (is_true (positive x) p) refl
   where
-    go : (b : Bool) → (cond b (aligned_units (in_units binary64 x)) (record { significand = 0; exponent = pos 0 })).significand < 2 ^ 54
-    go true = significand_lt_4 (in_units binary64 x)
-    go false = omega arith
+    is_true : (b : Bool) → T b → b ≡ true
+    is_true true h = refl
+    is_true false h = absurd h
+
+pub aligned_none : (x : Float) → positive x ≡ false → aligned_of x ≡ record { significand = 0; exponent = pos 0 }
+unfolding aligned_of
+aligned_none x h = rw h refl
+
+pub significand_lt : (x : Float) → (aligned_of x).significand < 2 ^ 54
+significand_lt x = go (positive x) refl
+  where
+    go : (b : Bool) → positive x ≡ b → (aligned_of x).significand < 2 ^ 54
+    go true e = rw (aligned_above x (rw e tt)) (significand_lt_4 (in_units binary64 x))
+    go false e = rw (aligned_none x e) (omega arith)

@@ -1,6 +1,6 @@
 -- From a root's 53 digits and what is left behind them to the rounded root. Assumes nothing.
 use mathlib.Core.Path.{◌≡◌, refl, sym, ap, ◌∙◌}
-use mathlib.Core.Bool.{Bool, true, false, cond}
+use mathlib.Core.Bool.{false}
 use Prim.Native.Nat.{ℕ, suc, ◌+◌, ◌-◌, ◌*◌, ◌/◌, ◌^◌, ◌≤◌, ◌<◌, compare, Ordering}
 use native.Mathlib.Nat.{le_trans, lt_of_lt_of_le, mul_assoc, mul_comm, mul_left_comm, mul-one, mul-le-mul_right, mul-lt-mul_of_pos_right, div-eq_of_lt-le}
 use native.Mathlib.Decide.{dec_le}
@@ -25,7 +25,7 @@ use Rattle.elementary.proofs.Laws.Pattern.{units_pattern}
 use Rattle.elementary.proofs.Laws.Places.{digits_of}
 use Rattle.elementary.proofs.Laws.SqrtNearest.{sqrt_is, root_is, in_range}
 use Rattle.elementary.proofs.sqrt.Alignment as alignment
-use Rattle.elementary.proofs.sqrt.Alignment.{fits_exponent}
+use Rattle.elementary.proofs.sqrt.Alignment.{fits_exponent, aligned_above}
 use Rattle.elementary.proofs.sqrt.Turns.{Turned}
 
 -- ---- the root lies above the middle between d and the next number exactly where what is left, doubled, is above d, doubled
@@ -139,12 +139,7 @@ module _ (x : Float) (f : T (fits binary64 x)) (p : T (positive x)) where
       go (fin s m e) q = refl
 
   pub aligned_is : aligned_of x ≡ aligned_units u
-  unfolding aligned_of
-  aligned_is = go (positive x) p
-    where
-      go : (b : Bool) → T b → cond b (aligned_units u) (record { significand = 0; exponent = pos 0 }) ≡ aligned_units u
-      go true q = refl
-      go false q = absurd q
+  aligned_is = aligned_above x p
 
   range : (0 < u) × (u < 2 ^ 2098)
   range = rw is_place at (in_range binary64 x f p)

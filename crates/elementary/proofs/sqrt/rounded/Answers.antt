@@ -1,7 +1,7 @@
 -- `rounded` meets its contract. Assumes nothing.
 use Rattle.std.proofs.Common.{◌≡◌, ◌<◌, ◌≤◌, ◌+◌, ◌*◌, ◌/◌, ◌^◌, ℕ, zero, suc}
 use mathlib.Core.Path.{refl, sym, ap, subst, ◌∙◌}
-use mathlib.Core.Bool.{Bool, true, false, cond, ◌&&◌, ◌||◌}
+use mathlib.Core.Bool.{Bool, true, false, ◌&&◌, ◌||◌}
 use native.Mathlib.Nat.{mul-pos, zero-mul, add_assoc}
 use native.Mathlib.Omega.{arith}
 use lib.Dec.{T, eqb, eqb→eq, lt→ltb}
@@ -17,16 +17,14 @@ use Rattle.elementary.specs.declared.sqrt.Aligned.{Aligned}
 use Rattle.elementary.specs.declared.sqrt.Digits.{Digits}
 use Rattle.elementary.specs.Sqrt.{sqrt_of, in_units, aligned_units, aligned_of}
 use Rattle.elementary.specs.Promises.{DigitsFound}
-use Rattle.elementary.proofs.Laws.Bits.{no_nan_pattern}
+use Rattle.elementary.proofs.Laws.Bits.{no_nan_pattern, fits_by}
+use Rattle.elementary.proofs.sqrt.Alignment.{aligned_none}
 use Rattle.elementary.proofs.sqrt.Found.{turned}
 use Rattle.elementary.proofs.sqrt.Rounding as rounding
 use Rattle.elementary.proofs.sqrt.Rounding.{raised, raised_fits}
 use Rattle.elementary.proofs.sqrt.Turns.{Turned}
 use Rattle.elementary.proofs.sqrt.rounded.Goals as goal
 use Rattle.elementary.proofs.sqrt.rounded.Goals.{then-d, else-d}
-
-x_fits : (x : Float) → fits binary64 x ≡ true → T (fits binary64 x)
-x_fits x h = rw h tt
 
 -- ---- without digits
 no_digits : (x : Float) → T (fits binary64 x) → (aligned_of x).significand ≡ 0 → positive x ≡ false
@@ -72,7 +70,7 @@ no_root (fin false (suc m) e) h = absurd (subst T (or_false _ _ h) (lt→ltb (0 
 pub returns-then-x : goal.returns-then-x
 returns-then-x c =
     let x = c.args.x in
-    itself x (no_digits x (x_fits x c.well_formed.0.1) (ap (λ (y : Aligned). y.significand) (sym c.requires.0) ∙ c.if-a-eq0.true)) c.if-x.true
+    itself x (no_digits x (fits_by x c.well_formed.0.1) (ap (λ (y : Aligned). y.significand) (sym c.requires.0) ∙ c.if-a-eq0.true)) c.if-x.true
 
 pub returns-else-x : goal.returns-else-x
 unfolding of_bits
@@ -80,12 +78,11 @@ returns-else-x c = sym (no_root c.args.x c.if-x.false)
 
 -- ---- with digits
 with_digits : (x : Float) → ((aligned_of x).significand ≡ 0 → ⊥) → T (positive x)
-unfolding aligned_of
-with_digits x h = go (positive x) h
+with_digits x h = go (positive x) refl
   where
-    go : (b : Bool) → ((cond b (aligned_units (in_units binary64 x)) (record { significand = 0; exponent = pos 0 })).significand ≡ 0 → ⊥) → T b
-    go true g = tt
-    go false g = absurd (g refl)
+    go : (b : Bool) → positive x ≡ b → T b
+    go true e = tt
+    go false e = absurd (h (ap (λ (y : Aligned). y.significand) (aligned_none x e)))
 
 module _ (x : Float) (f : T (fits binary64 x)) (a : Aligned) (is : a ≡ aligned_of x) (some : a.significand ≡ 0 → ⊥) where
   p : T (positive x)
@@ -140,32 +137,32 @@ module _ (x : Float) (f : T (fits binary64 x)) (a : Aligned) (is : a ≡ aligned
         (rounding.pattern x f p d state.doubled state.left up digits_turned one none)
 
 pub overflow_add-half_exponent : goal.overflow_add-half_exponent
-overflow_add-half_exponent c = word_fits c.args.x (x_fits c.args.x c.well_formed.0.1) c.args.a c.requires.0 c.if-a-eq0.false
+overflow_add-half_exponent c = word_fits c.args.x (fits_by c.args.x c.well_formed.0.1) c.args.a c.requires.0 c.if-a-eq0.false
 
 pub overflow_cast-half_exponent : goal.overflow_cast-half_exponent
 overflow_cast-half_exponent c =
-    let f = x_fits c.args.x c.well_formed.0.1 in
+    let f = fits_by c.args.x c.well_formed.0.1 in
     (word_plus c.args.x f c.args.a c.requires.0 c.if-a-eq0.false, record { fits = omega (arith, half_lt c.args.x f c.args.a c.requires.0 c.if-a-eq0.false) })
 
 pub overflow_mul-result : goal.overflow_mul-result
-overflow_mul-result c = record { fits = omega (arith, half_lt c.args.x (x_fits c.args.x c.well_formed.0.1) c.args.a c.requires.0 c.if-a-eq0.false) }
+overflow_mul-result c = record { fits = omega (arith, half_lt c.args.x (fits_by c.args.x c.well_formed.0.1) c.args.a c.requires.0 c.if-a-eq0.false) }
 
 pub overflow_add-result : goal.overflow_add-result
 overflow_add-result c =
-    record { fits = omega (arith, pattern_lt c.args.x (x_fits c.args.x c.well_formed.0.1) c.args.a c.requires.0 c.if-a-eq0.false _ c.args.d c.requires.1 0 (omega arith)) }
+    record { fits = omega (arith, pattern_lt c.args.x (fits_by c.args.x c.well_formed.0.1) c.args.a c.requires.0 c.if-a-eq0.false _ c.args.d c.requires.1 0 (omega arith)) }
 
 pub overflow_add-result-2 : goal.overflow_add-result-2
 overflow_add-result-2 c =
     let up : c.if-d.up ≤ 1 = elim c.if-d.branch [ then-d w ↦ omega (arith, w.up-is) | else-d w ↦ omega (arith, w.up-is) ] in
-    record { fits = omega (arith, pattern_lt c.args.x (x_fits c.args.x c.well_formed.0.1) c.args.a c.requires.0 c.if-a-eq0.false _ c.args.d c.requires.1 c.if-d.up up) }
+    record { fits = omega (arith, pattern_lt c.args.x (fits_by c.args.x c.well_formed.0.1) c.args.a c.requires.0 c.if-a-eq0.false _ c.args.d c.requires.1 c.if-d.up up) }
 
 pub float_from_bits-result : goal.float_from_bits-result
 float_from_bits-result c =
     let up : c.if-d.up ≤ 1 = elim c.if-d.branch [ then-d w ↦ omega (arith, w.up-is) | else-d w ↦ omega (arith, w.up-is) ] in
-    no_nan_pattern _ (omega (arith, pattern_lt c.args.x (x_fits c.args.x c.well_formed.0.1) c.args.a c.requires.0 c.if-a-eq0.false _ c.args.d c.requires.1 c.if-d.up up))
+    no_nan_pattern _ (omega (arith, pattern_lt c.args.x (fits_by c.args.x c.well_formed.0.1) c.args.a c.requires.0 c.if-a-eq0.false _ c.args.d c.requires.1 c.if-d.up up))
 
 pub returns : goal.returns
 returns c =
-    answer c.args.x (x_fits c.args.x c.well_formed.0.1) c.args.a c.requires.0 c.if-a-eq0.false _ c.args.d c.requires.1 c.if-d.up
+    answer c.args.x (fits_by c.args.x c.well_formed.0.1) c.args.a c.requires.0 c.if-a-eq0.false _ c.args.d c.requires.1 c.if-d.up
     (λ h. elim c.if-d.branch [ then-d w ↦ w.up-is | else-d w ↦ absurd (omega (arith, h, w.if-d.false)) ])
     (λ h. elim c.if-d.branch [ then-d w ↦ absurd (omega (arith, h, w.if-d.true)) | else-d w ↦ w.up-is ])

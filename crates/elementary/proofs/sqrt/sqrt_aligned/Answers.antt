@@ -1,24 +1,24 @@
 -- `sqrt_aligned` meets its contract: what is above 0 is told by its bits; a field of 0 has no leading digit and counts as a field of 1. Assumes nothing.
 use mathlib.Core.Path.{◌≡◌, refl, sym, ap, ◌∙◌, subst}
-use mathlib.Core.Bool.{Bool, true, false, not, cond, true≢false}
+use mathlib.Core.Bool.{true, false, not, true≢false}
 use Prim.Native.Nat.{ℕ, zero, suc, ◌+◌, ◌-◌, ◌*◌, ◌/◌, ◌%◌, ◌^◌, ◌≤◌, ◌<◌}
 use native.Mathlib.Nat.{lt_of_not-le, mul-pos, mul-one}
 use native.Mathlib.Omega.{arith}
 use native.Mathlib.Decide.{dec_le}
 use lib.Dec.{T, lt→ltb, leb}
 use lib.Arith.{lt→nleb}
-use lib.IntN.{pos}
 use lib.Pow.{pow_pos}
 use lib.Ieee.{Float, nan, inf, fin, binary64, up, down, lt, fits, of_bits, to_bits, is_nan}
 use lib.Ieee.Exact.{HasValue}
 use lib.Ieee.Positive.{positive, positive_of_value}
 use lib.Ieee.Fits.{up_pos}
 use lib.Ieee.Bits.{of_bits-to_bits, is_false}
-use Rattle.elementary.specs.Sqrt.{in_units, aligned_units, aligned_of}
+use Rattle.elementary.specs.Sqrt.{aligned_units, aligned_of}
 use Rattle.elementary.specs.Methods.{sign_of}
-use Rattle.elementary.proofs.Laws.Bits.{lt_ordered, no_nan, no_sign, nan_pattern}
+use Rattle.elementary.proofs.Laws.Bits.{lt_ordered, no_nan, no_sign, nan_pattern, fits_by}
 use Rattle.elementary.proofs.Laws.Places.{whole_units}
 use Rattle.elementary.proofs.Laws.Values.{recast, value_low, value_mid, value_inf}
+use Rattle.elementary.proofs.sqrt.Alignment.{aligned_above, aligned_none}
 use Rattle.elementary.proofs.sqrt.sqrt_aligned.Goals as goal
 
 -- ---- what the tests say
@@ -38,20 +38,9 @@ not_above (fin true m e) h = refl
 not_above (fin false zero e) h = refl
 not_above (fin false (suc m) e) h = absurd (subst T h (lt→ltb (0 * down e) (suc m * up e * 1) (omega (arith, mul-pos {m = suc m} (omega arith) (up_pos e)))))
 
-none : (x : Float) → positive x ≡ false → record { significand = 0; exponent = pos 0 } ≡ aligned_of x
-unfolding aligned_of
-none x h = rw h refl
-
 -- ---- above 0
 of_value : (x : Float) (a : ℕ) → HasValue x false a (2 ^ 1074) → 0 < a → aligned_of x ≡ aligned_units a
-unfolding aligned_of
-of_value x a h p =
-    ap (λ t. cond t (aligned_units (in_units binary64 x)) (record { significand = 0; exponent = pos 0 })) (is_true (positive x) (positive_of_value x a (2 ^ 1074) h p))
-    ∙ ap aligned_units (whole_units binary64 x false a h)
-  where
-    is_true : (t : Bool) → T t → t ≡ true
-    is_true true h = refl
-    is_true false h = absurd h
+of_value x a h p = aligned_above x (positive_of_value x a (2 ^ 1074) h p) ∙ ap aligned_units (whole_units binary64 x false a h)
 
 module _ (b : ℕ) (plus : b < 2 ^ 63) where
   no_minus : leb (2 ^ 63) b ≡ false
@@ -95,11 +84,8 @@ module _ (x : Float) (f : T (fits binary64 x)) (h : lt (of_bits binary64 0) x �
       go (yes l) = rw (value_inf (to_bits binary64 x) (omega (arith, bits_lt))) refl
       go (no g) = rw (nan_pattern (to_bits binary64 x) (omega (arith, bits_lt))) refl
 
-x_fits : (x : Float) → fits binary64 x ≡ true → T (fits binary64 x)
-x_fits x h = rw h tt
-
 pub float_to_bits-b : goal.float_to_bits-b
-float_to_bits-b c = number c.args.x (x_fits c.args.x c.well_formed.0.1) c.if-x.true
+float_to_bits-b c = number c.args.x (fits_by c.args.x c.well_formed.0.1) c.if-x.true
 
 -- of x by its bits
 module _ (x : Float) (f : T (fits binary64 x)) (h : lt (of_bits binary64 0) x ≡ true) where
@@ -115,22 +101,22 @@ module _ (x : Float) (f : T (fits binary64 x)) (h : lt (of_bits binary64 0) x �
 pub returns-then-e-eq0 : goal.returns-then-e-eq0
 returns-then-e-eq0 c =
     let x = c.args.x in
-    c.aligned_significand.ensures ∙ ap aligned_units (mul-one (to_bits binary64 x)) ∙ sym (low x (x_fits x c.well_formed.0.1) c.if-x.true c.if-e-eq0.true)
+    c.aligned_significand.ensures ∙ ap aligned_units (mul-one (to_bits binary64 x)) ∙ sym (low x (fits_by x c.well_formed.0.1) c.if-x.true c.if-e-eq0.true)
 
 pub returns-then-e-lt2047 : goal.returns-then-e-lt2047
 returns-then-e-lt2047 c =
     let x = c.args.x in
-    c.aligned_significand-then-e-lt2047.ensures ∙ sym (mid x (x_fits x c.well_formed.0.1) c.if-x.true c.if-e-eq0.false c.if-e-lt2047.true)
+    c.aligned_significand-then-e-lt2047.ensures ∙ sym (mid x (fits_by x c.well_formed.0.1) c.if-x.true c.if-e-eq0.false c.if-e-lt2047.true)
 
 pub aligned_significand-requires : goal.aligned_significand-requires
 aligned_significand-requires c =
     let x = c.args.x in
-    (bits_pos x (x_fits x c.well_formed.0.1) c.if-x.true, omega (arith, c.if-e-eq0.true), omega arith, omega arith)
+    (bits_pos x (fits_by x c.well_formed.0.1) c.if-x.true, omega (arith, c.if-e-eq0.true), omega arith, omega arith)
 
 pub returns-else-e-lt2047 : goal.returns-else-e-lt2047
 returns-else-e-lt2047 c =
     let x = c.args.x in
-    none x (top x (x_fits x c.well_formed.0.1) c.if-x.true (omega (arith, c.if-e-lt2047.false)))
+    sym (aligned_none x (top x (fits_by x c.well_formed.0.1) c.if-x.true (omega (arith, c.if-e-lt2047.false))))
 
 pub returns-else-x : goal.returns-else-x
-returns-else-x c = none c.args.x (not_above c.args.x c.if-x.false)
+returns-else-x c = sym (aligned_none c.args.x (not_above c.args.x c.if-x.false))
