@@ -171,12 +171,12 @@ pub fn sqrt(x: f64) -> f64
 pub fn sqrt_3(x: [f64; 3]) -> [f64; 3]
     ensures { result ≡ map (sqrt_of binary64) x }
 {
-    sqrts(x)
+    sqrts::<3>(x)
 }
 
 // Of four.
 pub fn sqrt_4(x: [f64; 4]) -> [f64; 4]
     ensures { result ≡ map (sqrt_of binary64) x }
 {
-    sqrts(x)
+    sqrts::<4>(x)
 }
