@@ -262,9 +262,9 @@ fn price(
 {
     let intrinsic = max(option_type * (forward - strike), 0.0);
     let x = ln(forward / strike);
-    let root = sqrt_3([forward, strike, expiry]);
-    let factor = root[0] * root[1];
-    let b = normalised_black(set, x, sigma * root[2], option_type)?;
+    let [forward_root, strike_root, expiry_root] = sqrt_3([forward, strike, expiry]);
+    let factor = forward_root * strike_root;
+    let b = normalised_black(set, x, sigma * expiry_root, option_type)?;
     Ok(max(intrinsic, factor * b))
 }
 

@@ -88,7 +88,7 @@ pub struct Begun {
     pub root: f64,
 }
 
-// Before the guess.
+// Before the guess, where nothing is divided.
 fn answered(volatility: f64) -> Begun
     ensures { result ≡ record { start = Answered volatility; root = +0 } }
 {
@@ -133,12 +133,17 @@ fn accepted_start(set: RuleSet, quote: Quote) -> Result<Begun, Unpriced>
         mapped = max(price - intrinsic, 0.0);
         mapped_type = -option_type;
     }
-    let root = sqrt_4([forward, strike, expiry, 2.0 * abs(mapped_type * x)]);
-    let normalised = mapped / (root[0] * root[1]);
-    let start = normalised_start(set, normalised, x, mapped_type, root[3])?;
+    let [forward_root, strike_root, expiry_root, s_c] = sqrt_4([
+        forward,
+        strike,
+        expiry,
+        2.0 * abs(mapped_type * x),
+    ]);
+    let normalised = mapped / (forward_root * strike_root);
+    let start = normalised_start(set, normalised, x, mapped_type, s_c)?;
     Ok(Begun {
-        start: over_expiry(set, root[2], start),
-        root: root[2],
+        start: over_expiry(set, expiry_root, start),
+        root: expiry_root,
     })
 }
 

@@ -24,7 +24,7 @@ returns-then-price-max_price c =
     rw c.answered-then-price-max_price.ensures record { value = rw (← c.mul.ensures, ← c.max-intrinsic.ensures, c.if-price-intrinsic.false, ← c.max_price.ensures, c.if-price-max_price.true) refl; root = tt }
 
 pub normalised_start-requires : goal.normalised_start-requires
-normalised_start-requires c = rw (c.sqrt_4-root.ensures, c.abs.ensures, c.mul-3.ensures) refl
+normalised_start-requires c = rw (c.sqrt_4.ensures, c.abs.ensures, c.mul-3.ensures) refl
 
 -- a loop's root stands beside it
 divided : (expiry root : Float) (start : CodeStart) → root ≡ sqrt_of binary64 expiry → DividedBy expiry start root
@@ -36,7 +36,7 @@ unfolding accepted_start
 returns-in_err-start c =
     let e : c.normalised_start.result ≡ Err c.in_err-start.field-0.0 = search rules in
     let r : c.from_residual.result ≡ Err c.in_err-start.field-0.0 = search rules in
-    let n = rw c.sqrt_4-root.ensures at c.normalised_start.ensures in
+    let n = rw c.sqrt_4.ensures at c.normalised_start.ensures in
     rw r record {
       value =
           rw (← c.mul.ensures, ← c.max-intrinsic.ensures, c.if-price-intrinsic.false, ← c.max_price.ensures, c.if-price-max_price.false, ← c.ln-x.ensures, ← c.mul-2.ensures)
@@ -51,8 +51,8 @@ pub returns : goal.returns
 unfolding accepted_start
 returns c =
     let e : c.normalised_start.result ≡ Ok c.in_ok-start.start = search rules in
-    let n = rw c.sqrt_4-root.ensures at c.normalised_start.ensures in
-    let root : get_or c.sqrt_4-root.result 2 nan ≡ sqrt_of binary64 c.args.quote.expiry = rw c.sqrt_4-root.ensures refl in
+    let n = rw c.sqrt_4.ensures at c.normalised_start.ensures in
+    let root : get_or c.sqrt_4.result 2 nan ≡ sqrt_of binary64 c.args.quote.expiry = rw c.sqrt_4.ensures refl in
     let over = c.over_expiry.ensures c.args.quote.expiry root in
     record {
       value =
