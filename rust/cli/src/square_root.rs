@@ -30,6 +30,13 @@ found, and left the significand less that square. Binary numbers have all their
 places; a decimal that ends in .. goes on: it is cut there, and not rounded.
 ";
 
+/// Over the table of all turns, which has a row for each.
+const OVERVIEW: &str = "\
+All turns, a row each: the turn and its digit, and in decimal the digits so far,
+their square, and what is left:
+     digits                   square                   left
+";
+
 /// Why it is decided by what is left.
 const ROUNDING: &str = "\
 The significand's root is these 53 digits, or less than 2^-52 above them.
@@ -65,6 +72,11 @@ fn write_steps(out: &mut impl Write, x: f64, aligned: Aligned) -> io::Result<()>
         digits = sqrt_digits(x, turn);
         write_turn(out, turn, candidate, digits, significand)?;
     }
+    write!(out, "{OVERVIEW}")?;
+    for turn in 1..=SQRT_TURNS {
+        write_row(out, turn, sqrt_digits(x, turn), significand)?;
+    }
+    writeln!(out)?;
     write_rounding(out, digits, significand)?;
     writeln!(out, "The root of X is the result x 2^(exponent / 2), here x 2^{}:\n", aligned.exponent / 2)
 }
@@ -81,6 +93,13 @@ fn write_turn(out: &mut impl Write, turn: u32, candidate: u64, digits: u64, sign
     square.write(out, "square")?;
     significand.less(square).write(out, "left")?;
     writeln!(out)
+}
+
+fn write_row(out: &mut impl Write, turn: u32, digits: u64, significand: Number) -> io::Result<()> {
+    let square = Number::square(digits, turn);
+    let numbers = [Number::digits(digits, turn), square, significand.less(square)];
+    let [found, square, left] = numbers.map(Number::decimal);
+    writeln!(out, "{turn:>2} {} {found:<24} {square:<24} {left}", digits % 2)
 }
 
 fn write_rounding(out: &mut impl Write, digits: u64, significand: Number) -> io::Result<()> {

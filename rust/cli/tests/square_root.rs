@@ -112,6 +112,18 @@ left        0.00000000000000035460..  0.0000000000000000000000000000000000000000
                                         0000000000011001100011010100110100001101
                                         101000000101010101110000
 
+All turns, a row each: the turn and its digit, and in decimal the digits so far,
+their square, and what is left:
+     digits                   square                   left
+ 1 1 1.0                      1.0                      1.0
+ 2 0 1.0                      1.0                      1.0
+ 3 1 1.25                     1.5625                   0.4375
+ 4 1 1.375                    1.890625                 0.109375
+";
+
+const LAST_ROW: &str = "
+53 0 1.41421356237309492343.. 1.99999999999999964539.. 0.00000000000000035460..
+
 The significand's root is these 53 digits, or ";
 
 const ENDING: &str = "
@@ -134,6 +146,7 @@ fn steps() {
     let (status, out, err) = output(&words("sqrt 2 --steps"));
     assert_eq!((status, &*err), (0, ""));
     assert!(out.starts_with(BEGINNING) && out.contains(TURNS) && out.contains(LAST_TURN), "{out}");
+    assert!(out.contains(LAST_ROW), "{out}");
     assert!(out.ends_with(ENDING), "{out}");
     assert_eq!(out.matches("\nturn ").count(), 53);
     // The option first, and X's bits.
@@ -249,6 +262,18 @@ fn check_turn(paragraph: &str, turn: usize, before: Number, significand: Number)
     after
 }
 
+/// Checks each turn's row against what the turn itself shows in decimal.
+fn check_overview(paragraph: &str, turns: &[&str]) {
+    let lines: Vec<&str> = paragraph.lines().skip(3).collect();
+    assert_eq!(lines.len(), turns.len());
+    for ((line, paragraph), turn) in lines.iter().zip(turns).zip(1..) {
+        let rows = rows(paragraph);
+        let [.., decision, digits, square, left] = &rows[..] else { panic!("{paragraph}") };
+        let shown = [decision, digits, square, left].map(|row| row.decimal);
+        assert_eq!(line.split_whitespace().collect::<Vec<_>>(), [&[&*turn.to_string()], &shown[..]].concat());
+    }
+}
+
 /// Checks what is left against the digits, and answers the significand's root, rounded.
 fn check_rounding(paragraph: &str, digits: Number, significand: Number) -> Number {
     let rows = rows(paragraph);
@@ -281,7 +306,9 @@ fn check(word: &str) {
     assert_eq!((status, &*err), (0, ""), "{word}");
     assert!(out.lines().all(|line| line.chars().count() <= 80 && line == line.trim_end()), "{out}");
     let paragraphs: Vec<&str> = out.split("\n\n").collect();
-    let [_, figures, _, _, turns @ .., _, rounding, sentence, last] = &paragraphs[..] else { panic!("{out}") };
+    let [_, figures, _, _, turns @ .., overview, _, rounding, sentence, last] = &paragraphs[..] else {
+        panic!("{out}")
+    };
     let figures = rows(figures);
     let [x, significand, exponent] = &figures[..] else { panic!("{out}") };
     let (x, significand) = (x.float("X"), significand.number("significand"));
@@ -292,6 +319,7 @@ fn check(word: &str) {
     assert_eq!(turns.len(), 53);
     let none = Number { digits: 0, places: 0 };
     let digits = (1..).zip(turns).fold(none, |before, (turn, rows)| check_turn(rows, turn, before, significand));
+    check_overview(overview, turns);
     let rounded = check_rounding(rounding, digits, significand);
     assert_eq!(*sentence, format!("The root of X is the result x 2^(exponent / 2), here x 2^{half}:"));
     let root = x.sqrt();
