@@ -1,5 +1,5 @@
 -- A finite number above 0 is aligned, and after each turn the digits of its root are found. Assumes nothing.
-use mathlib.Core.Path.{◌≡◌, refl, sym, ap, ◌∙◌}
+use mathlib.Core.Path.{◌≡◌, refl, sym, ap, subst, ◌∙◌}
 use mathlib.Core.Bool.{Bool, true, false, not, cond}
 use Prim.Native.Nat.{ℕ, zero, suc, ◌+◌, ◌-◌, ◌*◌, ◌/◌, ◌%◌, ◌^◌, ◌≤◌, ◌<◌, min}
 use native.Mathlib.Nat.{mul_assoc, mul-one, mul-div_cancel, zero-mul}
@@ -19,7 +19,7 @@ use Rattle.elementary.specs.Promises.{Alignment, DigitsFound}
 use Rattle.elementary.proofs.Laws.Isqrt.{sq_lt, isqrt_root}
 use Rattle.elementary.proofs.Laws.Places.{in_units_lem}
 use Rattle.elementary.proofs.Laws.Values.{revalue}
-use Rattle.elementary.proofs.sqrt.Alignment.{aligned_none}
+use Rattle.elementary.proofs.sqrt.Alignment.{aligned_none, significand_lt}
 use Rattle.elementary.proofs.sqrt.Found.{before, after, turned}
 use Rattle.elementary.proofs.sqrt.Rounding as rounding
 use Rattle.elementary.proofs.sqrt.Turns.{digits_are}
@@ -99,11 +99,14 @@ module _ (x : Float) (f : T (fits binary64 x)) (p : T (positive x)) where
   -- ---- the digits
   pub state_found : (turns : ℕ) → turns ≤ 53 → DigitsFound (aligned_of x).significand turns (sqrt_digits_of x turns) (after_turns turns (aligned_of x).significand)
   unfolding after_turns
-  state_found turns h = let i : min turns 53 ≡ turns = omega arith in rw i (go turns h)
+  state_found turns h =
+      let a = (aligned_of x).significand in
+      let i : turns ≡ min turns 53 = omega arith in
+      subst (λ z. DigitsFound a turns (first_digits z a) (after_turns turns a)) i (go turns h)
     where
       go : (j : ℕ) → j ≤ 53 → DigitsFound (aligned_of x).significand j (first_digits j (aligned_of x).significand) (after_turns j (aligned_of x).significand)
-      go zero h = before (aligned_of x).significand significand_in.1
-      go (suc j) h = after (aligned_of x).significand significand_in.1 j _ _ (omega arith) (go j (omega arith))
+      go zero h = before (aligned_of x).significand (significand_lt x)
+      go (suc j) h = after (aligned_of x).significand (significand_lt x) j _ _ (omega arith) (go j (omega arith))
 
 -- ---- one state
 pub state_one : (a turns d e : ℕ) (s t : Digits) → turns ≤ 53 → DigitsFound a turns d s → DigitsFound a turns e t → (d ≡ e) × (s ≡ t)
@@ -128,10 +131,13 @@ state_one a turns d e s t h p q = (same, rw (same_doubled, same_left))
 isqrt_0 : isqrt 0 ≡ 0
 isqrt_0 = let r = isqrt_root 0 in omega (arith, sq_lt (isqrt 0) 1 (omega arith))
 
-pub no_digits : (x : Float) → T (not (positive x)) → (turns : ℕ) → sqrt_digits_of x turns ≡ 0
+no_first_digits : (turns : ℕ) → first_digits turns 0 ≡ 0
 unfolding first_digits
+no_first_digits turns = rw (zero-mul (4 ^ turns)) isqrt_0
+
+pub no_digits : (x : Float) → T (not (positive x)) → (turns : ℕ) → sqrt_digits_of x turns ≡ 0
 no_digits x h turns = go (positive x) refl h
   where
     go : (b : Bool) → positive x ≡ b → T (not b) → sqrt_digits_of x turns ≡ 0
-    go false e g = rw (aligned_none x e, zero-mul (4 ^ min turns 53)) isqrt_0
+    go false e g = rw (aligned_none x e) (no_first_digits _)
     go true e g = absurd g

@@ -28,16 +28,17 @@ use Rattle.elementary.proofs.sqrt.Alignment as alignment
 use Rattle.elementary.proofs.sqrt.Alignment.{fits_exponent, aligned_above}
 use Rattle.elementary.proofs.sqrt.Turns.{Turned}
 
+-- a square at a scale
+regroup : (w p : ℕ) → w * p * (w * p) ≡ w * w * p * p
+regroup w p = simp (mul_assoc, mul_comm, mul_left_comm)
+
 -- ---- the root lies above the middle between d and the next number exactly where what is left, doubled, is above d, doubled
 module _ (n d m p : ℕ) (P : 0 < p) (whole : 2 * (d * d) + m ≡ 2 * n) where
   abbrev M : ℕ
   M = (2 * d + 1) * p * ((2 * d + 1) * p)
 
   middle : M ≡ (4 * (d * d) + 4 * d + 1) * p * p
-  middle = regroup (2 * d + 1) ∙ ap (λ (z : ℕ). z * p * p) (ap (λ (z : ℕ). z * z) (add-one (2 * d)) ∙ omega (arith, sq_suc (2 * d), sq_twice d))
-    where
-      regroup : (w : ℕ) → w * p * (w * p) ≡ w * w * p * p
-      regroup w = simp (mul_assoc, mul_comm, mul_left_comm)
+  middle = regroup (2 * d + 1) p ∙ ap (λ (z : ℕ). z * p * p) (ap (λ (z : ℕ). z * z) (add-one (2 * d)) ∙ omega (arith, sq_suc (2 * d), sq_twice d))
 
   fours : 4 * (n * p * p) ≡ 4 * n * p * p
   fours = simp mul_assoc
@@ -78,9 +79,6 @@ module _ (a d s m h : ℕ) (A : (2 ^ 52 ≤ a) × (a < 2 ^ 54)) (t : Turned a 1 
 
   pub d_hi : d < 2 ^ 53
   d_hi = sq_lt d (2 ^ 53) (omega (arith, whole))
-
-  regroup : (w p : ℕ) → w * p * (w * p) ≡ w * w * p * p
-  regroup w p = simp (mul_assoc, mul_comm, mul_left_comm)
 
   v_lo : d * 2 ^ h ≤ isqrt n
   v_lo =
