@@ -1,4 +1,9 @@
 -- Lemmas by subject.
+pub mod Digits
+pub mod Whole
+pub mod Price
+pub mod Aligned
+pub mod Written
 pub mod Quotes
 pub mod Changes
 pub mod Moves

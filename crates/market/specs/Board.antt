@@ -7,12 +7,6 @@ use Rattle.market.specs.declared.board.LiveQuote.{LiveQuote}
 use Rattle.market.specs.declared.refusal.Refusal.{Refusal}
 use Rattle.market.specs.declared.refusal.Refusal.TheVariants.{Volatility, SeriesLive, BoardFull}
 
--- document 02's number
-abbrev pub number : Refusal → ℕ
-number Volatility = 33
-number SeriesLive = 34
-number BoardFull = 35
-
 -- ---- what stands on a board
 
 -- a quote's bytes: its series, and its volatility's bits

@@ -1,7 +1,8 @@
 // The live board, whose bytes the caller lends.
 ghost use Rattle.std.specs.Prelude.{◌≡◌};
 ghost use Rattle.prices.specs.Answers.{number_by};
-ghost use Rattle.market.specs.Board.{number as number_of_refusal, arrive_of, leave_of, highest_of};
+ghost use Rattle.market.specs.Refusals.{number as number_of_refusal};
+ghost use Rattle.market.specs.Board.{arrive_of, leave_of, highest_of};
 ghost use Rattle.abi.specs.Board.{quote_from, shown_byte, shown_series, shown_bits};
 ghost use Rattle.abi.specs.Bytes.{byte_of};
 
