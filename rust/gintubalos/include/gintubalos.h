@@ -3,9 +3,9 @@
  *
  * A float crosses as its 64 bits, in both directions: any 64 bits may come in, and a NaN comes back as 7FF8000000000000.
  * What is not a price, a forward, a strike, an expiry or a sigma is refused with a number. A slice is a pointer and its
- * length in bytes, a board a pointer to its GINTUBALOS_BOARD_BYTES bytes. No pointer may be null, also where its length is
- * 0, and what one call is lent may not overlap. Every call returns; none keeps a pointer, has a state or calls another
- * library: a board's state is the caller's bytes.
+ * length in bytes, a board a pointer to its GINTUBALOS_BOARD_BYTES bytes, a packed price one to its GINTUBALOS_PACKED_BYTES
+ * bytes. No pointer may be null, also where its length is 0, and what one call is lent may not overlap. Every call returns;
+ * none keeps a pointer, has a state or calls another library: a board's state is the caller's bytes.
  *
  * The archive is for x86-64 Linux, and all bits rest on the default floating-point environment: rounding to nearest, no
  * exception traps, subnormal numbers neither flushed to zero nor taken for zero. It is the caller's to see to it: a program
@@ -35,6 +35,8 @@
  *   33 the volatility is NaN
  *   34 the series is live already
  *   35 256 quotes are live
+ *   36 the packed price has a digit above 9, a sign other than C or D, or zero with D
+ *   37 the price is not finite, or after rounding needs more than 15 digits
  */
 #ifndef GINTUBALOS_H
 #define GINTUBALOS_H
@@ -54,12 +56,13 @@ extern "C" {
 #define GINTUBALOS_RULE_SET_0 0u
 #define GINTUBALOS_RULE_SET_1 1u
 
-/* The bytes of a step's record in a trail and of a record in a book, those that any line of relist fits in, and those of a
- * live board, which is empty where all are zero. */
+/* The bytes of a step's record in a trail and of a record in a book, those that any line of relist fits in, those of a live
+ * board, which is empty where all are zero, and those of a packed price. */
 #define GINTUBALOS_STEP_BYTES 48
 #define GINTUBALOS_RECORD_BYTES 64
 #define GINTUBALOS_LINE_BYTES 128
 #define GINTUBALOS_BOARD_BYTES 3076
+#define GINTUBALOS_PACKED_BYTES 8
 
 /* The turns of a square root, one for each binary digit of a float. */
 #define GINTUBALOS_SQRT_TURNS 53
@@ -160,6 +163,18 @@ uint8_t gintubalos_board_leave(uint8_t *board, uint32_t series);
  * live, with 0 in both. Of equal volatilities it is the earliest arrival's; zeros of either sign are equal. A NaN, which
  * only bytes from elsewhere can have, is above nothing and nothing is above it: it is shown only where it stands first. */
 uint8_t gintubalos_board_highest(const uint8_t *board, uint32_t *series, uint64_t *volatility);
+
+/* ---- A packed price, as the clearing feed has it: 15 decimal digits, two per byte, the most significant first, and in the
+ * last four bits the sign, hexadecimal C for plus and D for minus. The unit is one ten-thousandth: 12.3456 is the bytes 00
+ * 00 00 00 01 23 45 6C. What is read and written again is the same bytes. ---- */
+
+/* The bits of the nearest float, ties to even, with 0 in `number`; or a NaN's, with 36 there: a digit above 9, another sign,
+ * or zero with D. */
+uint64_t gintubalos_packed_read(const uint8_t *packed, uint8_t *number);
+
+/* Writes the nearest ten-thousandth, ties to even, and answers 0; what rounds to zero has C. Or 37, and the bytes stay: the
+ * price is not finite, or after rounding needs more than 15 digits. The largest that is written is 42374876E7FFFFFC. */
+uint8_t gintubalos_packed_write(uint64_t price, uint8_t *packed);
 
 /* ---- The square root. First the exponent is settled: x = significand x 2^exponent, where the exponent is even and the
  * significand, the aligned one, from 1 up and below 4. Then the binary digits of the significand's root are found from the

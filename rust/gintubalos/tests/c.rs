@@ -43,8 +43,9 @@ fn in_c(rattle: &str) -> &'static [&'static str] {
         "&mut u64" => &["uint64_t *"],
         "&[u8]" => &["const uint8_t *", "size_t"],
         "&mut [u8]" => &["uint8_t *", "size_t"],
-        "&[u8; BOARD_BYTES]" => &["const uint8_t *"],
-        "&mut [u8; BOARD_BYTES]" => &["uint8_t *"],
+        // An array crosses as the pointer to its bytes.
+        array if array.starts_with("&[u8; ") => &["const uint8_t *"],
+        array if array.starts_with("&mut [u8; ") => &["uint8_t *"],
         other => panic!("no type of C for {other}"),
     }
 }
@@ -197,6 +198,18 @@ full 35 0 1
 highest 1 254 406FC00000000000
 leave 1
 freed 64 0 255
+packed 000000000123456C 0
+read 4028B0F27BB2FEC5 0
+packed 000000000125000D 0
+read C029000000000000 0
+packed 000000000000000C 0
+read 0000000000000000 0
+packed 999999999999999C 0
+read 42374876E7FFFFF9 0
+packed A5A5A5A5A5A5A5A5 37
+read 7FF8000000000000 36
+packed A5A5A5A5A5A5A5A5 37
+read 7FF8000000000000 36
 sqrt 3FE6A09E667F3BCD
 aligned 0020000000000000 -2
 digits 0 1 2 5 11 22 45

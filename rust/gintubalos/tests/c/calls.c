@@ -211,6 +211,25 @@ static void live_board(void) {
     printf("freed %d %d %d\n", board[3059], board[3060], board[3072]);
 }
 
+/* Prices on either side of zero, what rounds to zero, the largest and the next one, and a NaN; each over bytes that are no
+ * price, and read again. */
+static void packed_prices(void) {
+    const uint64_t prices[] = {bits(12.3456), bits(-12.5), bits(-0.00001), UINT64_C(0x42374876E7FFFFFC),
+                               UINT64_C(0x42374876E7FFFFFD), UINT64_C(0x7FF8000000000000)};
+    for (int i = 0; i < 6; i++) {
+        uint8_t packed[GINTUBALOS_PACKED_BYTES], number = 1;
+        memset(packed, 0xA5, sizeof packed);
+        uint8_t refused = gintubalos_packed_write(prices[i], packed);
+        printf("packed ");
+        for (size_t k = 0; k < sizeof packed; k++) {
+            printf("%02X", packed[k]);
+        }
+        printf(" %u\n", refused);
+        uint64_t price = gintubalos_packed_read(packed, &number);
+        say("read", price, number);
+    }
+}
+
 /* A half, the least float, a zero, what is below 0, and infinity: the first turns' digits, and those of the last turn, of the
  * next one and of the most that can be asked for. */
 static void square_roots(void) {
@@ -258,6 +277,7 @@ int main(void) {
     book();
     filed_by_the_textbook();
     live_board();
+    packed_prices();
     square_roots();
     return 0;
 }
