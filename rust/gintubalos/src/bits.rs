@@ -1,7 +1,7 @@
 //! The functions on the bits of floats and on bytes, as the archive has them, in the caller's floating-point environment,
-//! which has to be the default one: slices as pointer and length, a board as its bytes, what an answer has besides its value
-//! packed into one word. A value is NaN where it is refused. A rule set is 0 or 1, and refused with 32 where it is neither;
-//! a kind is 1 or 2, and then refused with 24 where it is neither.
+//! which has to be the default one: slices as pointer and length, a board and a packed price as their bytes, what an answer
+//! has besides its value packed into one word. A value is NaN where it is refused. A rule set is 0 or 1, and refused with 32
+//! where it is neither; a kind is 1 or 2, and then refused with 24 where it is neither.
 //!
 //! ```
 //! use gintubalos::bits;
@@ -120,6 +120,8 @@ mod archive {
         pub fn gintubalos_board_arrive(board: &mut [u8; BOARD_BYTES], series: u32, volatility: u64) -> u8;
         pub fn gintubalos_board_leave(board: &mut [u8; BOARD_BYTES], series: u32) -> u8;
         pub fn gintubalos_board_highest(board: &[u8; BOARD_BYTES], series: &mut u32, volatility: &mut u64) -> u8;
+        pub fn gintubalos_packed_read(packed: &[u8; 8], number: &mut u8) -> u64;
+        pub fn gintubalos_packed_write(price: u64, packed: &mut [u8; 8]) -> u8;
         pub fn gintubalos_sqrt(x: u64) -> u64;
         pub fn gintubalos_sqrt_digits(x: u64, turns: u32) -> u64;
         pub fn gintubalos_sqrt_aligned(x: u64, exponent: &mut i32) -> u64;
@@ -153,9 +155,9 @@ impl From<u64> for Outcome {
     }
 }
 
-// SAFETY, for each: the function reads and writes the slices or the board that it is lent and the words or the byte for
-// what it answers, and nothing else; it has no requires, keeps no pointer, and is proved to end. Each is inlined, so that
-// there is one call and not two.
+// SAFETY, for each: the function reads and writes the slices, the board or the packed price that it is lent and the words or
+// the byte for what it answers, and nothing else; it has no requires, keeps no pointer, and is proved to end. Each is
+// inlined, so that there is one call and not two.
 
 /// The volatility's bits, a NaN's where it is refused, and the outcome's word. The steps' records go to the trail.
 #[allow(clippy::too_many_arguments)]
@@ -407,6 +409,20 @@ pub fn board_highest(board: &[u8; BOARD_BYTES]) -> (u8, u32, u64) {
     let (mut series, mut volatility) = (0, 0);
     let found = unsafe { archive::gintubalos_board_highest(board, &mut series, &mut volatility) };
     (found, series, volatility)
+}
+
+/// The price's bits, and 0; or a NaN's, and 36.
+#[inline]
+pub fn packed_read(packed: &[u8; 8]) -> (u64, u8) {
+    let mut number = 0;
+    let price = unsafe { archive::gintubalos_packed_read(packed, &mut number) };
+    (price, number)
+}
+
+/// The number that refuses the price, 37, 0 for none. A refused call leaves the 8 bytes.
+#[inline]
+pub fn packed_write(price: u64, packed: &mut [u8; 8]) -> u8 {
+    unsafe { archive::gintubalos_packed_write(price, packed) }
 }
 
 /// The root's bits, a NaN's for a NaN and what is below 0.

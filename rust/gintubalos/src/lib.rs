@@ -40,6 +40,9 @@
 //! [`Board`] has up to 256 live quotes, which arrive and leave, and shows the one of the highest volatility. What is refused
 //! is a [`Refusal`], which has the number, its meaning in words and the completed steps.
 //!
+//! A [`PackedPrice`] is a price as the clearing feed has it, decimal digits in 8 bytes; it is read as the nearest float, and
+//! a float is written as the nearest ten-thousandth.
+//!
 //! [`sqrt`] is the square root, for which nothing is refused; [`sqrt_aligned`] and [`sqrt_digits`] show how it is found: the
 //! exponent first, then a binary digit per turn.
 
@@ -51,6 +54,7 @@ mod board;
 mod book;
 mod environment;
 mod kinds;
+mod packed_price;
 #[cfg(feature = "probe")]
 pub mod probe;
 mod refusal;
@@ -62,6 +66,7 @@ pub use bid_ask::*;
 pub use board::*;
 pub use book::*;
 pub use kinds::*;
+pub use packed_price::*;
 pub use refusal::*;
 pub use rule_set::*;
 pub use solution::*;

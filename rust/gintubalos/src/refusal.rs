@@ -14,7 +14,8 @@ use std::{error::Error, fmt};
 #[derive(Clone, Copy, Debug, PartialEq, Eq)]
 pub struct Refusal {
     /// 1 to 8 from the input, 21 to 24 from the state, 31 from a low and a high price together, 32 from a rule set's
-    /// number, 33 to 35 from a quote that would arrive on a board.
+    /// number, 33 to 35 from a quote that would arrive on a board, 36 from a packed price that is read, 37 from a price that
+    /// would be written as one.
     pub number: u8,
     /// 0 unless 7 comes inside a loop: the records of so many steps then stand in the trail.
     pub steps: u32,
@@ -22,7 +23,7 @@ pub struct Refusal {
 
 impl Refusal {
     /// Every number that a call refuses with, from documents 01 and 02.
-    pub const NUMBERS: [u8; 17] = [1, 2, 3, 4, 5, 6, 7, 8, 21, 22, 23, 24, 31, 32, 33, 34, 35];
+    pub const NUMBERS: [u8; 19] = [1, 2, 3, 4, 5, 6, 7, 8, 21, 22, 23, 24, 31, 32, 33, 34, 35, 36, 37];
 
     /// The number's meaning in words.
     ///
@@ -49,6 +50,8 @@ impl Refusal {
             33 => "the volatility is NaN",
             34 => "the series is live already",
             35 => "256 quotes are live",
+            36 => "the packed price has a digit above 9, a sign other than C or D, or zero with D",
+            37 => "the price is not finite, or after rounding needs more than 15 digits",
             _ => "a number that document 01 does not have",
         }
     }

@@ -76,6 +76,17 @@ fn same_bits_everywhere() {
         let arrivals = [board.arrive(17, TINY), board.arrive(18, TWICE_TINY), board.arrive(19, f64::NAN)];
         (arrivals, board.highest(), board.leave(17), board)
     });
+    everywhere("packed prices that are read", || {
+        let packed =
+            [[0, 0, 0, 0, 0x01, 0x23, 0x45, 0x6C], [0x99, 0x99, 0x99, 0x99, 0x99, 0x99, 0x99, 0x9D], [0xFF; 8]];
+        packed.map(|bytes| bits(f64::try_from(PackedPrice(bytes))))
+    });
+    // Halfway between two ten-thousandths, on either side of it, and the ends.
+    everywhere("packed prices that are written", || {
+        let halfway = 0.03125f64;
+        [halfway.next_down(), halfway, halfway.next_up(), -1e-5, TINY, 99_999_999_999.999_94, 1e11, f64::NAN]
+            .map(|price| [PackedPrice::try_from(price), PackedPrice::try_from(-price)])
+    });
     everywhere("file, recheck and line", || {
         let mut book = [0; RECORD_BYTES];
         let filed = file(10.0, 100.0, 95.0, 1.0, Call, 9, Original, &mut book, 0);
