@@ -1,7 +1,7 @@
 //! The command line's words, in their order, and its options.
 
 use crate::{failure::Failure, records::is_input};
-use gintubalos::{OptionType, RuleSet};
+use gintubalos::{OptionType, PackedPrice, RuleSet};
 use std::{
     collections::{BTreeMap, BTreeSet, VecDeque},
     ffi::OsString,
@@ -156,13 +156,32 @@ impl Arguments {
         Ok(Market { price, forward, strike, expiry, kind: self.kind()? })
     }
 
-    /// All that is left: the files' names, one at least.
-    pub fn paths(&mut self) -> Result<Vec<PathBuf>, Failure> {
-        let mut paths = vec![self.path()?];
+    /// All that is left, one at least.
+    fn all<T>(&mut self, next: impl Fn(&mut Arguments) -> Result<T, Failure>) -> Result<Vec<T>, Failure> {
+        let mut all = vec![next(self)?];
         while !self.words.is_empty() {
-            paths.push(self.path()?);
+            all.push(next(self)?);
         }
-        Ok(paths)
+        Ok(all)
+    }
+
+    /// The files' names.
+    pub fn paths(&mut self) -> Result<Vec<PathBuf>, Failure> {
+        self.all(Arguments::path)
+    }
+
+    pub fn floats(&mut self, name: &str) -> Result<Vec<f64>, Failure> {
+        self.all(|arguments| arguments.float(name))
+    }
+
+    pub fn packed_prices(&mut self) -> Result<Vec<PackedPrice>, Failure> {
+        self.all(Arguments::packed_price)
+    }
+
+    fn packed_price(&mut self) -> Result<PackedPrice, Failure> {
+        let word = self.word("HEX16")?;
+        let word = word.to_string_lossy();
+        word.parse().map_err(|error| Failure::usage(format!("HEX16: {word}: {error}")))
     }
 
     /// A record's number, from 0 on.
@@ -172,7 +191,7 @@ impl Arguments {
         word.parse().map_err(|_| Failure::usage(format!("{word} is no record's number: a whole number from 0 on")))
     }
 
-    /// The name of a board's call, none on a line without words.
+    /// The name of a board's call, or of what is done with packed prices; none where there are no words.
     pub fn call(&mut self) -> Option<String> {
         self.words.pop_front().map(|word| word.to_string_lossy().into_owned())
     }

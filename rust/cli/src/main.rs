@@ -1,5 +1,5 @@
-//! `gintubalos`: demo, solve, range, black, file, recheck, list, show, board and sqrt on the command line. Every answer is
-//! the proved library's; this program reads arguments and files, and writes answers down.
+//! `gintubalos`: demo, solve, range, black, file, recheck, list, show, board, packed and sqrt on the command line. Every
+//! answer is the proved library's; this program reads arguments and files, and writes answers down.
 
 #![forbid(unsafe_code)]
 
@@ -12,6 +12,7 @@ mod filing;
 mod help;
 mod live_board;
 mod output;
+mod packed_price;
 mod progress;
 mod ranging;
 mod rechecking;
@@ -54,11 +55,14 @@ fn answer(mut out: impl Write) -> Result<u8, Failure> {
     }
 }
 
-/// The status: 0, what a recheck found, the number of a range's end, or that a board was given a line that is no call.
+/// The status: 0, what a recheck found, the number of a range's end or of a packed price, or that a board was given a line
+/// that is no call.
 fn run(out: &mut impl Write) -> Result<u8, Failure> {
     let mut words = env::args_os().skip(1);
     let command = words.next().filter(|command| !command.is_empty()).ok_or_else(|| {
-        Failure::usage("a command is wanted: demo, solve, range, black, file, recheck, list, show, board or sqrt")
+        Failure::usage(
+            "a command is wanted: demo, solve, range, black, file, recheck, list, show, board, packed or sqrt",
+        )
     })?;
     let mut arguments = Arguments::default();
     for word in words {
@@ -86,6 +90,7 @@ fn run(out: &mut impl Write) -> Result<u8, Failure> {
         "list" => rechecking::list(arguments, out)?,
         "show" => filing::show(arguments, out)?,
         "board" => return live_board::board(arguments, out),
+        "packed" => return packed_price::packed(arguments, out),
         "sqrt" => square_root::square_root(arguments, out)?,
         other => return Err(Failure::usage(format!("there is no command {other}"))),
     }
