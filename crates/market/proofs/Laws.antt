@@ -4,6 +4,8 @@ pub mod Whole
 pub mod Price
 pub mod Aligned
 pub mod Written
+pub mod Back
+pub mod Border
 pub mod Quotes
 pub mod Changes
 pub mod Moves

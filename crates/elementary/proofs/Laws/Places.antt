@@ -110,6 +110,15 @@ pub in_units_lem : (l : ℕ) (e : ℤ) → down e ≤ 2 ^ l → (j : ℕ) × (up
 in_units_lem l (pos k) h = (k + l, rw (mul-one, pow-add 2 k l))
 in_units_lem l (negsuc k) h = (l - suc k, rw one-mul (pow_split (suc k) l (pow_le_back (suc k) l h)))
 
+-- a value that the format holds is a whole number of its units
+pub units_value : (f : Format) (s : Bool) (m : ℕ) (e : ℤ) → T (fits f (fin s m e)) → HasValue (fin s m e) s (in_units f (fin s m e)) (2 ^ low f)
+unfolding in_units
+units_value f s zero e t = (refl, rw (zero-mul (up e), zero-mul (2 ^ low f), zero-div (down e)) (sym (zero-mul (down e))))
+units_value f s (suc m) e t =
+    let j = in_units_lem (low f) e (holds f s m e t).1 in
+    let w : suc m * up e * 2 ^ low f ≡ suc m * 2 ^ j.0 * down e = mul_assoc (suc m) (up e) (2 ^ low f) ∙ ap (λ (z : ℕ). suc m * z) j.1 ∙ sym (mul_assoc (suc m) (2 ^ j.0) (down e)) in
+    (refl, w ∙ ap (λ (z : ℕ). z * down e) (sym (ap (λ (z : ℕ). z / down e) w ∙ mul-div_cancel (suc m * 2 ^ j.0) (down_pos e))))
+
 -- a fraction that is m * 2 ^ k of the smallest values, for an m of the format's digits, is exact unless it overflows
 pub exact_under : (f : Format) (s : Bool) (a c m k : ℕ) → 0 < c → m < 2 ^ prec f → a < 2 ^ suc (emax f) * c → a * 2 ^ low f ≡ m * 2 ^ k * c → HasValue (round f s a c) s a c
 exact_under f s a c m k C M l e =

@@ -9,15 +9,13 @@ use lib.IntN.{pos, negsuc, nat_abs, ◌-ℤ◌}
 use lib.Pow.{pow-add, pow_pos}
 use lib.Ieee.{Float, nan, inf, fin, binary64, up, down, fits}
 use lib.Ieee.Exact.{HasValue}
-use lib.Ieee.Fits.{down_pos}
-use Rattle.elementary.proofs.Laws.Held.{holds}
 use lib.Ieee.Positive.{positive}
 use Rattle.elementary.specs.declared.sqrt.Aligned.{Aligned}
 use Rattle.elementary.specs.declared.sqrt.Digits.{Digits}
 use Rattle.elementary.specs.Sqrt.{isqrt, in_units, even_place, aligned_units, aligned_of, first_digits, sqrt_digits_of, after_turns}
 use Rattle.elementary.specs.Promises.{Alignment, DigitsFound}
 use Rattle.elementary.proofs.Laws.Isqrt.{sq_lt, isqrt_root}
-use Rattle.elementary.proofs.Laws.Places.{in_units_lem}
+use Rattle.elementary.proofs.Laws.Places.{units_value}
 use Rattle.elementary.proofs.Laws.Values.{revalue}
 use Rattle.elementary.proofs.sqrt.Alignment.{aligned_none, significand_lt}
 use Rattle.elementary.proofs.sqrt.Found.{before, after, turned}
@@ -27,15 +25,11 @@ use Rattle.elementary.proofs.sqrt.Turns.{digits_are}
 -- ---- aligned
 -- x is a whole number of units
 units_exact : (x : Float) → T (fits binary64 x) → T (positive x) → HasValue x false (in_units binary64 x) (2 ^ 1074)
-unfolding in_units
 units_exact nan f p = absurd p
 units_exact (inf s) f p = absurd p
 units_exact (fin true m e) f p = absurd p
 units_exact (fin false zero e) f p = absurd p
-units_exact (fin false (suc m) e) f p =
-    let j = in_units_lem 1074 e (holds binary64 false m e f).1 in
-    let w : suc m * up e * 2 ^ 1074 ≡ suc m * 2 ^ j.0 * down e = mul_assoc (suc m) (up e) (2 ^ 1074) ∙ ap (λ (z : ℕ). suc m * z) j.1 ∙ sym (mul_assoc (suc m) (2 ^ j.0) (down e)) in
-    (refl, w ∙ ap (λ (z : ℕ). z * down e) (sym (ap (λ (z : ℕ). z / down e) w ∙ mul-div_cancel (suc m * 2 ^ j.0) (down_pos e))))
+units_exact (fin false (suc m) e) f p = units_value binary64 false (suc m) e f
 
 -- 2 ^ (e - 1074), and its parity
 power : (e : ℕ) → 2 ^ e * down (pos e -ℤ pos 1074) ≡ up (pos e -ℤ pos 1074) * 2 ^ 1074

@@ -1,16 +1,25 @@
--- The whole number nearest to a fraction: by a shift, far below a half, and that it is the one to which the fraction is nearest. Assumes nothing.
-use mathlib.Core.Path.{◌≡◌, sym, subst}
+-- The whole number nearest to a fraction: by a shift, far below a half, and that it is the one to which the fraction is nearest, as is promised of what is written. Assumes nothing.
+use mathlib.Core.Path.{◌≡◌, refl, sym, subst}
 use mathlib.Core.Logic.{inl, inr}
-use Prim.Native.Nat.{ℕ, suc, ◌+◌, ◌-◌, ◌*◌, ◌/◌, ◌%◌, ◌≤◌, ◌<◌, compare, Ordering}
+use mathlib.Core.Bool.{Bool, true, false, not, cond, ◌&&◌}
+use Prim.Native.Nat.{ℕ, suc, ◌+◌, ◌-◌, ◌*◌, ◌/◌, ◌%◌, ◌^◌, ◌≤◌, ◌<◌, compare, Ordering}
 use native.Mathlib.Nat.{suc-mul, div-add-mod', mod-lt, mul-le-mul_right, lt_of_not-le, le_antisymm, eq-zero-or-pos}
 use native.Mathlib.Decide.{dec_le}
 use native.Mathlib.Omega.{arith}
 use Rattle.std.proofs.Math.Nat.{div-eq_of_lt-le}
-use lib.Ieee.{nearest}
+use borrow.Author.Tests.{lt-ltb, le-ltb}
+use lib.Dec.{T, ltb}
+use lib.IntN.{ℤ}
+use lib.Ieee.{Float, nan, inf, fin, up, down, nearest}
+use lib.Ieee.Fits.{down_pos}
+use lib.Ieee.Scale.{finite}
 use lib.Ieee.Nearest.{closest_mono}
 use Rattle.elementary.proofs.Laws.Ordering.{Cmp, cmp}
-use Rattle.market.specs.Packed.{nearest_whole}
-use Rattle.market.specs.Promises.Packed.{apart, NearestWhole}
+use Rattle.std.specs.Prelude.{Ok, Err}
+use Rattle.market.specs.declared.packed.Units.{Units}
+use Rattle.market.specs.declared.refusal.Refusal.TheVariants.{Price}
+use Rattle.market.specs.Packed.{nearest_whole, written, units_of}
+use Rattle.market.specs.Promises.Packed.{apart, NearestWhole, Nearest}
 
 -- ---- by adding almost a half
 module _ (n h : ℕ) (H : 0 < h) where
@@ -119,3 +128,36 @@ no_two a c n k C x y l =
 
 pub nearest_one : (a c n k : ℕ) → 0 < c → NearestWhole a c n → NearestWhole a c k → n ≡ k
 nearest_one a c n k C x y = omega (arith, no_two a c n k C x y, no_two a c k n C y x)
+
+-- ---- what is written of a sign and a size
+pub written_as : (s : Bool) (n : ℕ) (u : Units) → written s n ≡ Ok u → u ≡ record { minus = s && ltb 0 n; size = n }
+written_as s n u e = go (ltb n (10 ^ 15)) e
+  where
+    go : (b : Bool) → cond b (Ok (record { minus = s && ltb 0 n; size = n })) (Err Price) ≡ Ok u → u ≡ record { minus = s && ltb 0 n; size = n }
+    go true i = cc
+    go false i = cc
+
+module _ (s : Bool) (m : ℕ) (e : ℤ) where
+  abbrev size : ℕ
+  size = nearest_whole (m * up e * 10000) (down e)
+
+  pub written_nearest : (u : Units) → units_of (fin s m e) ≡ Ok u → Nearest m e u.size × (u.minus ≡ (s && ltb 0 u.size))
+  unfolding units_of
+  written_nearest u i = rw (written_as s size u i) (whole_nearest (m * up e * 10000) (down e) (down_pos e), refl)
+
+  is_size : (n : ℕ) → Nearest m e n → n ≡ size
+  is_size n h = nearest_one (m * up e * 10000) (down e) n size (down_pos e) h (whole_nearest (m * up e * 10000) (down e) (down_pos e))
+
+  pub refused_many : (n : ℕ) → Nearest m e n → 10 ^ 15 ≤ n → units_of (fin s m e) ≡ Err Price
+  unfolding units_of
+  refused_many n h l = rw (← is_size n h, le-ltb n (10 ^ 15) l) refl
+
+  pub accepted_few : (n : ℕ) → Nearest m e n → n < 10 ^ 15 → units_of (fin s m e) ≡ Ok (record { minus = s && ltb 0 n; size = n })
+  unfolding units_of
+  accepted_few n h l = rw (← is_size n h, lt-ltb n (10 ^ 15) l) refl
+
+pub refused_other : (x : Float) → T (not (finite x)) → units_of x ≡ Err Price
+unfolding units_of
+refused_other nan h = refl
+refused_other (inf s) h = refl
+refused_other (fin s m e) h = absurd h
