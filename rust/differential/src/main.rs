@@ -2,8 +2,8 @@
 //!
 //! The last line of a run is `N compared, M differences`. Exit status: 0 no difference; 1 a difference, the first ones in
 //! the lines above, or a case of a call that was to be met (a branch, an ending, a price by a cap, two causes of a refusal,
-//! a digit at each turn) and that no input met; 2 bad usage; 3 the Rust's source wasn't at hand when this was built, and
-//! nothing was compared.
+//! a digit at each turn, a half-byte at each place) and that no input met; 2 bad usage; 3 the Rust's source wasn't at hand
+//! when this was built, and nothing was compared.
 
 mod accuracy;
 mod bid_ask;
@@ -24,6 +24,9 @@ mod edges;
 mod functions;
 mod inputs;
 mod markets;
+mod packed;
+mod packed_inputs;
+mod packed_prices;
 mod pairs;
 mod prices;
 mod records;
@@ -50,7 +53,8 @@ const USAGE: &str = "usage: differential [--quick] [--function NAME] [--inputs N
   --quick          fewer random inputs: under a minute, for the gate
   --function NAME  this function alone
   --inputs N       random inputs of each function (default 10000000; of sqrt 100000000 more, of solve_with_trail 2000000,
-                   of other calls fewer); one of the board is a list of calls, one of sqrt_digits has every turn
+                   of other calls fewer); one of the board is a list of calls, one of sqrt_digits has every turn, and
+                   what packed_read accepts is written again
   --seed N         other random inputs (default 1)
   --threads N      default: as many as the machine has processors
   --search         looks for refusals of `black` and solve at the asymptotic expansion's borders
@@ -119,7 +123,7 @@ impl Options {
         FUNCTIONS.iter().filter(|f| self.wants(f.name)).collect()
     }
 
-    /// Those of layer 3, the live board, and the square root's.
+    /// Those of layer 3, the live board, the square root's, and those of packed prices.
     fn parts(&self) -> Vec<&'static Part> {
         PARTS.iter().filter(|p| self.wants(p.name)).collect()
     }

@@ -9,7 +9,7 @@ use crate::{
     damaged_boards,
     inputs::wide,
     markets::{any_question, limit, Question},
-    pairs, roots,
+    packed_prices, pairs, roots,
     rule_sets::UNKNOWN,
     sevens,
     tally::Tally,
@@ -22,9 +22,9 @@ use rust_over_rules::{
     solver::{self, is_long_enough},
 };
 
-/// A function of layer 3, the live board, or a function of the square root: its name, its random inputs in a whole and in a
-/// quick run, what compares it (the edges in lists, each for a thread), and what a run says of the calls that it met, with
-/// those that it was to meet and did not.
+/// A function of layer 3, the live board, or a function of the square root or of packed prices: its name, its random inputs
+/// in a whole and in a quick run, what compares it (the edges in lists, each for a thread), and what a run says of the calls
+/// that it met, with those that it was to meet and did not.
 pub struct Part {
     pub name: &'static str,
     pub inputs: u64,
@@ -41,7 +41,7 @@ pub const WRAPPER: &str = "implied_volatility_from_a_transformed_rational_guess"
 pub const BID_ASK: &str = "bid_ask";
 pub const BID_ASK_WITHOUT_TRAILS: &str = "bid_ask_without_trails";
 
-pub const PARTS: [Part; 15] = [
+pub const PARTS: [Part; 17] = [
     Part {
         name: SOLVE,
         inputs: 2_000_000,
@@ -213,6 +213,33 @@ pub const PARTS: [Part; 15] = [
         ],
         random: roots::random_alignment,
         report: roots::report_alignments,
+    },
+    // What is accepted is written again, too.
+    Part {
+        name: "packed_read",
+        inputs: 10_000_000,
+        quick: 1_000_000,
+        edges: &[
+            packed_prices::fixed_readings::<0>,
+            packed_prices::fixed_readings::<1>,
+            packed_prices::fixed_readings::<2>,
+            packed_prices::fixed_readings::<3>,
+        ],
+        random: packed_prices::random_reading,
+        report: packed_prices::report_readings,
+    },
+    Part {
+        name: "packed_write",
+        inputs: 10_000_000,
+        quick: 1_000_000,
+        edges: &[
+            packed_prices::fixed_writings::<0>,
+            packed_prices::fixed_writings::<1>,
+            packed_prices::fixed_writings::<2>,
+            packed_prices::fixed_writings::<3>,
+        ],
+        random: packed_prices::random_writing,
+        report: packed_prices::report_writings,
     },
 ];
 

@@ -1,6 +1,6 @@
 //! What a part of a run counts: comparisons, differences, and what the calls among them reach.
 
-use crate::{caps, roots};
+use crate::{caps, packed_prices, roots};
 use std::collections::BTreeMap;
 
 /// So many differences of a function are printed.
@@ -40,6 +40,8 @@ pub struct Tally {
     pub caps: caps::Counts,
     /// What calls of the square root met.
     pub roots: roots::Counts,
+    /// What packed prices and floats met that are written as such.
+    pub packed: packed_prices::Counts,
     /// How many calls met each of their cases; of a refusal, with what else would refuse the call.
     pub met: BTreeMap<(&'static str, &'static str), u64>,
 }
@@ -71,6 +73,7 @@ impl Tally {
         }
         self.caps.add(other.caps);
         self.roots.add(other.roots);
+        self.packed.add(other.packed);
         for (case, count) in other.met {
             *self.met.entry(case).or_default() += count;
         }
