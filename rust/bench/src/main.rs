@@ -1,12 +1,13 @@
 //! Measures the proved functions beside the Rust, over document 01's elementary functions and over std's, and writes a
 //! table: ns per call, and ours divided by theirs; then a root's digits by themselves, bid and ask beside two solves, the
-//! live board's calls by themselves, and what the crate's look at the environment costs. Exit status: 2 bad usage; 3 the
-//! Rust's source wasn't at hand when this was built, and there is nothing to compare with.
+//! live board's calls by themselves, packed prices beside plain Rust, and what the crate's look at the environment costs.
+//! Exit status: 2 bad usage; 3 the Rust's source wasn't at hand when this was built, and there is nothing to compare with.
 
 mod board;
 mod clock;
 mod inputs;
 mod listing;
+mod packed;
 
 use clock::{measure, measure_look, over, Effort};
 use gintubalos::probe::bits;
@@ -211,6 +212,24 @@ impl Bench {
         println!("| {name} | {ours:.1} |");
     }
 
+    /// Packed prices beside a plain form: the Rust has none.
+    fn packed(&self) {
+        if !self.wants("packed") {
+            return;
+        }
+        println!("\n| ns per call | ours | plain Rust | ratio |");
+        println!("|---|---:|---:|---:|");
+        for (name, inputs, ours, plain) in packed::rows(COUNT) {
+            if !self.wants(name) {
+                continue;
+            }
+            assert!(inputs.iter().all(|input| ours(*input) == plain(*input)), "{name}: another answer");
+            let sides: [clock::Side<u64>; 2] = [&mut over(|input| ours(*input)), &mut over(|input| plain(*input))];
+            let [ours, plain] = measure(&inputs, sides, self.effort);
+            println!("| {name} | {ours:.1} | {plain:.1} | {:.2} |", ours / plain);
+        }
+    }
+
     fn prices(&self, region: &str) {
         self.row(
             &format!("black, {region}"),
@@ -359,6 +378,7 @@ fn main() {
         println!("no Rust source: there is nothing to compare with");
         bench.digits();
         bench.board();
+        bench.packed();
         bench.looks();
         exit(3);
     };
@@ -378,6 +398,7 @@ fn main() {
     bench.digits();
     bench.bid_ask();
     bench.board();
+    bench.packed();
     bench.listings();
     bench.looks();
 }
