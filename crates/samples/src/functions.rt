@@ -2,7 +2,7 @@
 // `differential --samples`.
 use crate::list::Line;
 use crate::records::{Answer, option_type_in};
-use crate::{boards, records};
+use crate::{boards, packed, records};
 use elementary::methods::{bits_of, float_of};
 use elementary::rule_set::RULE_SET_0;
 use elementary::{cody, methods, normal_distribution};
@@ -57,10 +57,12 @@ pub(crate) enum Function {
     Board,
     SqrtDigits,
     SqrtAligned,
+    PackedRead,
+    PackedWrite,
 }
 
 // By hand, as the names below: a macro that wrote them would be the repository's own, which the gate refuses.
-pub(crate) const ALL: [Function; 45] = [
+pub(crate) const ALL: [Function; 47] = [
     Function::ErfcAsPublished,
     Function::BitsOf,
     Function::Abs,
@@ -106,6 +108,8 @@ pub(crate) const ALL: [Function; 45] = [
     Function::Board,
     Function::SqrtDigits,
     Function::SqrtAligned,
+    Function::PackedRead,
+    Function::PackedWrite,
 ];
 
 impl Function {
@@ -170,6 +174,8 @@ impl Function {
             Function::Board => "board",
             Function::SqrtDigits => "sqrt_digits",
             Function::SqrtAligned => "sqrt_aligned",
+            Function::PackedRead => "packed_read",
+            Function::PackedWrite => "packed_write",
         }
     }
 
@@ -253,6 +259,8 @@ impl Function {
             Function::Board => boards::board(line),
             Function::SqrtDigits => Ok(sqrt_digits(line)),
             Function::SqrtAligned => Ok(sqrt_aligned(line)),
+            Function::PackedRead => packed::read(line),
+            Function::PackedWrite => packed::write(line),
         }
     }
 }

@@ -1,11 +1,12 @@
-// Replays answers of the Rust, and of a live board and the square root's digits written from document 02's text: standard
-// input has a line for each, as `differential --samples` writes them. For each function it prints how many there are and
-// whether all agree.
+// Replays answers of the Rust, and of a live board, the square root's digits and packed prices written from document 02's
+// text: standard input has a line for each, as `differential --samples` writes them. For each function it prints how many
+// there are and whether all agree.
 #![tactic(auto)]
 
 mod boards;
 mod functions;
 mod list;
+mod packed;
 mod records;
 
 ghost use Rattle.std.specs.Prelude.{◌≤◌, length, IfOk};

@@ -27,6 +27,7 @@ mod markets;
 mod packed;
 mod packed_inputs;
 mod packed_prices;
+mod packed_samples;
 mod pairs;
 mod prices;
 mod records;

@@ -4,13 +4,13 @@
 //!
 //! Number 0 is erfc at published points: x, the float nearest to the true value, and how many units in the last place
 //! the rules are away from it. From 1 on the numbers are those of the table of functions, from 37 on layer 3's, 42 is the
-//! live board's, and 43 and 44 are the square root's.
+//! live board's, 43 and 44 are the square root's, and 45 and 46 packed prices'.
 
 use crate::{
     board_samples,
     functions::{Answer, Function, FUNCTIONS},
     inputs::{wide, Arguments},
-    records, root_samples,
+    packed_samples, records, root_samples,
 };
 use random_words::Words;
 use rust_over_rules::lets_be_rational::cody::optimized::erfc;
@@ -70,4 +70,5 @@ pub fn write() {
     records::write(SEED);
     board_samples::write(SEED);
     root_samples::write(SEED);
+    packed_samples::write(SEED);
 }
