@@ -17,7 +17,7 @@ use Rattle.market.specs.Promises.Packed.{PackedAreUnits, ReadIsRounded, PackedCo
 use Rattle.market.proofs.Laws.Calls.{are_live, after_leaving, one_fewer}
 use Rattle.market.proofs.Laws.Boards.{on_board, all_calls, empty_holds}
 use Rattle.market.proofs.Laws.Highest.{earliest}
-use Rattle.market.proofs.Laws.Digits.{of_bytes, of_units, length_packed}
+use Rattle.market.proofs.Laws.Digits.{of_bytes, of_units, length_packed, refused_bytes}
 use Rattle.market.proofs.Laws.Whole.{nearest_one, written_nearest, refused_many, accepted_few, refused_other}
 use Rattle.market.proofs.Laws.Back.{comes_back}
 use Rattle.market.proofs.Laws.Border.{written_to, none_after}
@@ -45,7 +45,7 @@ on_any_board board inside = on_board board inside
 -- ---- packed prices
 
 pub packed_are_units : PackedAreUnits
-packed_are_units = record { all = λ u a. (length_packed u, of_units u a); no_other = of_bytes }
+packed_are_units = record { all = λ u a. (length_packed u, of_units u a); no_other = of_bytes; refused = refused_bytes }
 
 pub read_is_rounded : ReadIsRounded
 unfolding read_of price_of

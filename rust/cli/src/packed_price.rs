@@ -41,14 +41,14 @@ fn read(prices: &[PackedPrice], out: &mut impl Write) -> io::Result<u8> {
     Ok(status)
 }
 
-/// The float, the digits that it is written as, the price that they are, and what was lost.
+/// The float, the digits that it is written as, and the price that they are, marked where it is another.
 fn write(prices: &[f64], out: &mut impl Write) -> io::Result<u8> {
     let mut status = 0;
     for price in prices.iter().copied() {
         let decimal = output::decimal(price);
         match PackedPrice::try_from(price) {
             Ok(packed) => {
-                let line = format!("{decimal:<24}  {packed:X}  {packed:<17}  {}", loss(price, packed));
+                let line = format!("{decimal:<24}  {packed:X}  {packed:<17}  {}", mark(price, packed));
                 writeln!(out, "{}", line.trim_end())?;
             }
             Err(refusal) => {
@@ -60,34 +60,11 @@ fn write(prices: &[f64], out: &mut impl Write) -> io::Result<u8> {
     Ok(status)
 }
 
-/// Whether the price that is written is not the float, and whether it is not even read as that float.
-fn loss(price: f64, packed: PackedPrice) -> &'static str {
-    if is_whole(price) {
+/// A mark where the price that is written is read as another float.
+fn mark(price: f64, packed: PackedPrice) -> &'static str {
+    if f64::try_from(packed) == Ok(price) {
         ""
-    } else if f64::try_from(packed) == Ok(price) {
-        "rounded"
     } else {
-        "rounded, changed"
-    }
-}
-
-/// Whether a float is a whole number of ten-thousandths. It is a whole number over a power of 2, and 10^4 is 2^4 x 5^4: so
-/// 10^4 times it is whole just where 2^4 times it is. That product is not rounded.
-fn is_whole(price: f64) -> bool {
-    (16.0 * price).fract() == 0.0
-}
-
-#[cfg(test)]
-mod tests {
-    use super::is_whole;
-
-    #[test]
-    fn whole_ten_thousandths() {
-        for price in [0.0, -0.0, 1.0, -12.5, 0.0625, 12.1875, 99_999_999_999.937_5] {
-            assert!(is_whole(price), "{price}");
-        }
-        for price in [0.03125, 12.3456, 0.0001, -0.1, 5e-324, 99_999_999_999.999_9] {
-            assert!(!is_whole(price), "{price}");
-        }
+        "rounded"
     }
 }

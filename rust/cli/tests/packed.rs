@@ -1,4 +1,4 @@
-//! `packed`: prices that are read and written, each on its line, what is lost, refusals among others, and wrong lines.
+//! `packed`: prices that are read and written, each on its line, what is rounded, refusals among others, and wrong lines.
 
 mod common;
 
@@ -18,8 +18,8 @@ fn read_line(digits: &str, price: &str, float: &str, bits: &str) -> String {
     format!("{digits}  {price:<17}  {float:<24}  {bits}\n")
 }
 
-fn written_line(float: &str, digits: &str, price: &str, loss: &str) -> String {
-    format!("{}\n", format!("{float:<24}  {digits}  {price:<17}  {loss}").trim_end())
+fn written_line(float: &str, digits: &str, price: &str, mark: &str) -> String {
+    format!("{}\n", format!("{float:<24}  {digits}  {price:<17}  {mark}").trim_end())
 }
 
 const READ: &str = "\
@@ -44,8 +44,8 @@ fn read() {
 
 const WRITTEN: &str = "\
 -12.5                     000000000125000D  -12.5000
-12.3456                   000000000123456C  12.3456            rounded
-12.34567                  000000000123457C  12.3457            rounded, changed
+12.3456                   000000000123456C  12.3456
+12.34567                  000000000123457C  12.3457            rounded
 ";
 
 /// A price below zero is a number and no option.
@@ -53,21 +53,21 @@ const WRITTEN: &str = "\
 fn write() {
     answer("packed write -12.5 12.3456 12.34567", 0, WRITTEN);
     answer("packed write -- 0xC029000000000000 4028B0F27BB2FEC5 12.34567", 0, WRITTEN);
-    for (price, float, digits, written, loss) in [
+    for (price, float, digits, written, mark) in [
         ("0", "0.0", "000000000000000C", "0.0000", ""),
         ("-0", "-0.0", "000000000000000C", "0.0000", ""),
-        ("-0.00001", "-1e-5", "000000000000000C", "0.0000", "rounded, changed"),
-        ("-5e-324", "-5e-324", "000000000000000C", "0.0000", "rounded, changed"),
+        ("-0.00001", "-1e-5", "000000000000000C", "0.0000", "rounded"),
+        ("-5e-324", "-5e-324", "000000000000000C", "0.0000", "rounded"),
         ("0.0625", "0.0625", "000000000000625C", "0.0625", ""),
-        ("0.03125", "0.03125", "000000000000312C", "0.0312", "rounded, changed"),
-        ("0.09375", "0.09375", "000000000000938C", "0.0938", "rounded, changed"),
-        ("-0.1", "-0.1", "000000000001000D", "-0.1000", "rounded"),
+        ("0.03125", "0.03125", "000000000000312C", "0.0312", "rounded"),
+        ("0.09375", "0.09375", "000000000000938C", "0.0938", "rounded"),
+        ("-0.1", "-0.1", "000000000001000D", "-0.1000", ""),
         ("99999999999.9375", "99999999999.9375", "999999999999375C", "99999999999.9375", ""),
-        ("99999999999.9999", "99999999999.9999", "999999999999999C", "99999999999.9999", "rounded"),
-        ("0x42374876E7FFFFFC", "99999999999.99994", "999999999999999C", "99999999999.9999", "rounded, changed"),
-        ("0xC2374876E7FFFFFC", "-99999999999.99994", "999999999999999D", "-99999999999.9999", "rounded, changed"),
+        ("99999999999.9999", "99999999999.9999", "999999999999999C", "99999999999.9999", ""),
+        ("0x42374876E7FFFFFC", "99999999999.99994", "999999999999999C", "99999999999.9999", "rounded"),
+        ("0xC2374876E7FFFFFC", "-99999999999.99994", "999999999999999D", "-99999999999.9999", "rounded"),
     ] {
-        answer(&format!("packed write {price}"), 0, &written_line(float, digits, written, loss));
+        answer(&format!("packed write {price}"), 0, &written_line(float, digits, written, mark));
     }
 }
 

@@ -7,7 +7,8 @@ use Rattle.elementary.specs.Ops.{bits}
 use Rattle.elementary.specs.Methods.{abs_of}
 use Rattle.elementary.specs.Promises.{Rounded}
 use Rattle.market.specs.declared.packed.Units.{Units}
-use Rattle.market.specs.declared.refusal.Refusal.TheVariants.{Price}
+use Rattle.market.specs.declared.refusal.Refusal.{Refusal}
+use Rattle.market.specs.declared.refusal.Refusal.TheVariants.{Packed, Price}
 use Rattle.market.specs.Packed.{units_in, price_of, read_of, units_of, packed_of, write_of}
 
 -- ---- 8 bytes
@@ -20,8 +21,10 @@ pub record AreUnits (u : Units) : Type 0 where
 pub record PackedAreUnits : Type 0 where
   -- All units have 8 bytes, from which they are read.
   pub all : (u : Units) → AreUnits u → (length (packed_of u) ≡ 8) × (units_in (packed_of u) ≡ Ok u)
-  -- No other 8 bytes are accepted.
+  -- No other 8 bytes are accepted,
   pub no_other : (packed : List ℕ) (u : Units) → length packed ≡ 8 → units_in packed ≡ Ok u → AreUnits u × (packed_of u ≡ packed)
+  -- and what refuses them is 36.
+  pub refused : (packed : List ℕ) (refusal : Refusal) → units_in packed ≡ Err refusal → refusal ≡ Packed
 
 -- What is read is the units over 10,000, correctly rounded.
 abbrev pub ReadIsRounded : Type 0
