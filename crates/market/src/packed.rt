@@ -30,7 +30,7 @@ pub struct Units {
 
 // ---- read
 
-// A digit behind a number's.
+// A digit behind those of a number, or 36.
 fn digit_behind(number: u64, digit: u8) -> Result<u64, Refusal>
     requires { number < 10 ^ 14 }
     ensures { result ≡ digit_behind number digit }
@@ -41,6 +41,7 @@ fn digit_behind(number: u64, digit: u8) -> Result<u64, Refusal>
     Ok(number * 10 + digit as u64)
 }
 
+// A size with its sign, or 36: another one, or zero with minus.
 fn signed_units(sign: u8, size: u64) -> Result<Units, Refusal>
     ensures { result ≡ signed_units sign size }
 {
@@ -114,6 +115,7 @@ fn units_of(price: f64) -> Result<Units, Refusal>
     ensures { result ≡ units_of price }
 {
     let positive = abs(price);
+    // A NaN is not below, either.
     if !(positive < 100_000_000_000.0) {
         return Err(Refusal::Price);
     }
@@ -132,6 +134,7 @@ fn two_digits(number: u64) -> u8
     (number / 10 % 10 * 16 + number % 10) as u8
 }
 
+// The 8 bytes of units of 15 digits.
 fn packed_of(units: Units) -> [u8; PACKED_BYTES]
     ensures { result ≡ packed_of units }
 {

@@ -40,7 +40,7 @@ PackedComesBack = (packed before : List ℕ) (price : Float) → length packed �
 abbrev pub apart : ℕ → ℕ → ℕ
 apart a b = a - b + (b - a)
 
--- n is a whole number to which a / c is nearest: c times as far off are n * c and a.
+-- n is a whole number nearest to a / c. Distances are taken c times as large: that of n is the one of n * c and a.
 pub record NearestWhole (a c n : ℕ) : Type 0 where
   -- No whole number is nearer.
   pub nearest : (k : ℕ) → apart (n * c) a ≤ apart (k * c) a
