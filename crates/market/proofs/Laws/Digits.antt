@@ -102,7 +102,7 @@ accepted j (suc k) n (d ∷ s ∷ hs) u l h e =
 
 -- ---- what refuses them
 other_sign : (sign n : ℕ) (refusal : Refusal) → signed_units sign n ≡ Err refusal → refusal ≡ Packed
-other_sign sign n refusal e = go (eqb sign 0xC) (eqb sign 0xD && ltb 0 n) e
+other_sign sign n refusal e = go _ _ e
   where
     go : (c d : Bool)
         → ◌≡◌ {A = Result Units Refusal} (cond c (Ok (record { minus = false; size = n })) (cond d (Ok (record { minus = true; size = n })) (Err Packed))) (Err refusal)
@@ -114,7 +114,7 @@ other_sign sign n refusal e = go (eqb sign 0xC) (eqb sign 0xD && ltb 0 n) e
 refused_by : (n : ℕ) (hs : List ℕ) (refusal : Refusal) → units_behind n hs ≡ Err refusal → refusal ≡ Packed
 refused_by n [] refusal e = cc
 refused_by n (sign ∷ []) refusal e = other_sign sign n refusal e
-refused_by n (d ∷ h ∷ hs) refusal e = first (ltb 9 d) (units_behind (n * 10 + d) (h ∷ hs)) (refused_by (n * 10 + d) (h ∷ hs) refusal) e
+refused_by n (d ∷ h ∷ hs) refusal e = first _ _ (refused_by (n * 10 + d) (h ∷ hs) refusal) e
   where
     first : (b : Bool) (rest : Result Units Refusal) → (rest ≡ Err refusal → refusal ≡ Packed) → cond b (Err Packed) rest ≡ Err refusal → refusal ≡ Packed
     first true rest h i = cc
