@@ -75,11 +75,12 @@ bytes_from hs = []
 unfoldable pub packed_of : Units → List ℕ
 packed_of u = bytes_from (digits_before 15 u.size (cond u.minus 0xD 0xC ∷ []))
 
--- what writing answers, and the bytes after it; a refusal leaves them as they were
+-- what writing answers, and the bytes after it
 pub record Writing : Type 0 where
   pub answer : Result Unit Refusal
   pub packed : List ℕ
 
+-- by the units; a refusal leaves the bytes as they were
 abbrev pub writing_by : Result Units Refusal → List ℕ → Writing
 writing_by (Ok u) before = record { answer = Ok tt; packed = packed_of u }
 writing_by (Err refusal) before = record { answer = Err refusal; packed = before }

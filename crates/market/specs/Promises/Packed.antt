@@ -18,6 +18,7 @@ pub record AreUnits (u : Units) : Type 0 where
   pub digits : u.size < 10 ^ 15
   pub minus : u.minus ≡ true → 0 < u.size
 
+-- The 8 bytes that are accepted, and the units that they have, are one and the same.
 pub record PackedAreUnits : Type 0 where
   -- All units have 8 bytes, from which they are read.
   pub all : (u : Units) → AreUnits u → (length (packed_of u) ≡ 8) × (units_in (packed_of u) ≡ Ok u)
@@ -51,6 +52,7 @@ pub record NearestWhole (a c n : ℕ) : Type 0 where
 abbrev pub Nearest : ℕ → ℤ → ℕ → Type 0
 Nearest m e n = NearestWhole (m * up e * 10000) (down e) n
 
+-- What is written of each float, and which are refused.
 pub record WriteIsNearest : Type 0 where
   -- What is written of a finite price is the nearest whole number of ten-thousandths. (One of the other sign is farther, or as far, and zero has no sign.)
   pub written : (s : Bool) (m : ℕ) (e : ℤ) (u : Units) → units_of (fin s m e) ≡ Ok u → Nearest m e u.size × (u.minus ≡ (s && ltb 0 u.size))
